@@ -1,0 +1,4 @@
+pub mod Members
+pub mod ClosureLaws
+pub mod UpTo
+pub mod Rising

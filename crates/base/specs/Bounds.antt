@@ -1,0 +1,23 @@
+-- The bounds of document 01, each named once. Assumes nothing.
+use Prim.Native.Nat.{ℕ}
+
+-- facts of a book
+abbrev pub maxAtoms : ℕ
+maxAtoms = 256
+
+abbrev pub maxLayers : ℕ
+maxLayers = 32
+
+abbrev pub maxArrows : ℕ
+maxArrows = 496
+
+abbrev pub maxRules : ℕ
+maxRules = 1024
+
+-- literals of a rule's body
+abbrev pub maxBody : ℕ
+maxBody = 16
+
+-- branching facts that a search goes through
+abbrev pub maxBranching : ℕ
+maxBranching = 20

@@ -1,0 +1,156 @@
+-- Laws for the masks: one more bit, and arrows read into bits.
+-- Assumes nothing.
+use Rattle.layers.specs.Layers.{Arrow, link, repeats, sameArrow}
+use mathlib.Core.Path.{_≡_, refl, sym, ap, subst, _∙_}
+use mathlib.Core.Bool.{Bool, true, false, not, _&&_, _||_, false≢true}
+use mathlib.Core.List.{List, [], _∷_, map}
+use Prim.Native.Nat.{ℕ, zero, suc, _+_, _*_, _-_, _/_, _%_, _^_, _<_, _≤_, min, max}
+use native.Mathlib.Omega.{arith}
+use native.Mathlib.Nat.{zero-div, div-eq-of-lt, div-self, mod-eq-of-lt, mul-div-cancel, pow-suc}
+use native.Mathlib.Decide.{decLt, ℕ-discrete}
+use borrow.Author.Tests.{eq-eqb, ne-eqb, eqb-true, ltb-true}
+use lib.Pow.{pow-pos, pow-lt, pow-add}
+use lib.Bits.{bitOr, shifted-even}
+use lib.Dec.{T, eqb, ltb}
+use lib.ListN.{length, getD, set, take, drop, length-take, length-drop, replicate}
+use lib.Seq.{getD-set-same, getD-set-other, getD-take, getD-drop}
+use Rattle.base.specs.Lists.{all, any}
+use Rattle.format.specs.Book.{records, recordEnd, arrowOf}
+use Rattle.book.specs.Causes.{arrowOk}
+use Rattle.layers.specs.Masks.{bitOf, marked}
+use Rattle.format.proofs.Offsets.{records-cut, records-done, end-over, end-in}
+use Rattle.layers.proofs.BitLaws.{or-false, or-assoc, and-left, and-right, none-marked}
+
+-- the arrow record at an offset
+pub record ArrowAt (s : List ℕ) (at : ℕ) : Type 0 where
+  pub room : at + 3 ≤ length s
+  pub earlier : getD s (at + 1) 0 < 32
+  pub later : getD s (at + 2) 0 < 32
+  pub rest : all (arrowOk 32) (records (drop (at + 3) s)) ≡ true
+  pub split : map arrowOf (records (drop at s)) ≡ link (getD s (at + 1) 0) (getD s (at + 2) 0) ∷ map arrowOf (records (drop (at + 3) s))
+
+record Two (r : List ℕ) : Type 0 where
+  size : length r ≡ 2
+  low : getD r 0 0 < 32
+  high : getD r 1 0 < 32
+
+two-of : (r : List ℕ) → arrowOk 32 r ≡ true → Two r
+unfolding arrowOk arrowOf
+two-of r e = record {
+  size = eqb-true (length r) 2 (and-left (eqb (length r) 2) (ltb (getD r 0 0) 32) (and-left (eqb (length r) 2 && ltb (getD r 0 0) 32) (ltb (getD r 1 0) 32) e));
+  low = ltb-true (getD r 0 0) 32 (and-right (eqb (length r) 2) (ltb (getD r 0 0) 32) (and-left (eqb (length r) 2 && ltb (getD r 0 0) 32) (ltb (getD r 1 0) 32) e));
+  high = ltb-true (getD r 1 0) 32 (and-right (eqb (length r) 2 && ltb (getD r 0 0) 32) (ltb (getD r 1 0) 32) e);
+}
+
+module _ (s : List ℕ) (at : ℕ) (h : at < length s) (good : all (arrowOk 32) (records (drop at s)) ≡ true) where
+  rec-at : List ℕ
+  rec-at = take (recordEnd s at - (at + 1)) (drop (at + 1) s)
+
+  opened : (arrowOk 32 rec-at && all (arrowOk 32) (records (drop (recordEnd s at) s))) ≡ true
+  unfolding all rec-at
+  opened = sym (ap (all (arrowOk 32)) (records-cut s at h)) ∙ good
+
+  two : Two rec-at
+  two = two-of rec-at (and-left (arrowOk 32 rec-at) (all (arrowOk 32) (records (drop (recordEnd s at) s))) opened)
+
+  ends : recordEnd s at ≡ at + 3
+  unfolding rec-at
+  ends =
+      let a : length rec-at ≡ min (recordEnd s at - (at + 1)) (length s - (at + 1)) = length-take (recordEnd s at - (at + 1)) (drop (at + 1) s) ∙ ap (λ (k : ℕ). min (recordEnd s at - (at + 1)) k) (length-drop (at + 1) s) in
+      omega (arith, a, two .size, end-in s at h, end-over s at h)
+
+  byte-at : (k : ℕ) → k < 2 → getD rec-at k 0 ≡ getD s (at + 1 + k) 0
+  unfolding rec-at
+  byte-at k b = getD-take (recordEnd s at - (at + 1)) (drop (at + 1) s) k 0 (omega (arith, ends)) ∙ getD-drop (at + 1) s k 0
+
+  first-byte : getD rec-at 0 0 ≡ getD s (at + 1) 0
+  first-byte = byte-at 0 (omega arith) ∙ ap (λ (k : ℕ). getD s k 0) {x = at + 1 + 0} {y = at + 1} (omega arith)
+
+  second-byte : getD rec-at 1 0 ≡ getD s (at + 2) 0
+  second-byte = byte-at 1 (omega arith) ∙ ap (λ (k : ℕ). getD s k 0) {x = at + 1 + 1} {y = at + 2} (omega arith)
+
+  split-at : map arrowOf (records (drop at s)) ≡ arrowOf rec-at ∷ map arrowOf (records (drop (recordEnd s at) s))
+  unfolding rec-at
+  split-at = ap (map arrowOf) (records-cut s at h)
+
+  pub arrow-at : ArrowAt s at
+  unfolding arrowOf
+  arrow-at = record {
+    room = omega (arith, ends, end-in s at h);
+    earlier = omega (arith, two .low, first-byte);
+    later = omega (arith, two .high, second-byte);
+    rest = rw ends at (and-right (arrowOk 32 rec-at) (all (arrowOk 32) (records (drop (recordEnd s at) s))) opened);
+    split = split-at ∙ rw (first-byte, second-byte, ends) refl;
+  }
+
+-- the same, with the two layers in locals
+pub split-as : (s : List ℕ) (at i j : ℕ) → ArrowAt s at → i ≡ getD s (at + 1) 0 → j ≡ getD s (at + 2) 0
+    → map arrowOf (records (drop at s)) ≡ link i j ∷ map arrowOf (records (drop (at + 3) s))
+split-as s at i j w e f = rw (e, f) (w .split)
+
+four : (a b c d : Bool) → (a || b || (c || d)) ≡ (a || c || (b || d))
+four true b c d = refl
+four false true true d = refl
+four false true false d = refl
+four false false c d = refl
+
+-- two equal arrows: none so far, and those passed are marked
+pub hit : List ℕ → Arrow → Bool
+hit m a = marked m (a .earlier) (a .later)
+
+abbrev pub left-over : List ℕ → List Arrow → Bool
+left-over m l = any (hit m) l || repeats l
+
+-- what the walks over arrows have passed
+pub record Walked (s : List ℕ) (at : ℕ) : Type 0 where
+  pub inside : at ≤ length s
+  pub good : all (arrowOk 32) (records (drop at s)) ≡ true
+
+any-none : (m : List ℕ) (l : List Arrow) → ((x y : ℕ) → marked m x y ≡ false) → any (hit m) l ≡ false
+unfolding any hit
+any-none m [] h = refl
+any-none m (a ∷ l) h = rw (h (a .earlier) (a .later), any-none m l h) refl
+
+any-both : (m m′ : List ℕ) (b : Arrow) (l : List Arrow) → ((x y : ℕ) → marked m′ x y ≡ (marked m x y || sameArrow b (link x y)))
+    → any (hit m′) l ≡ (any (hit m) l || any (sameArrow b) l)
+unfolding any hit sameArrow
+any-both m m′ b [] h = refl
+any-both m m′ b (a ∷ l) h = rw (h (a .earlier) (a .later), any-both m m′ b l h) (four (marked m (a .earlier) (a .later)) (eqb (b .earlier) (a .earlier) && eqb (b .later) (a .later)) (any (hit m) l) (any (sameArrow b) l))
+
+pub fresh : (l : List Arrow) → repeats l ≡ left-over (replicate 32 0) l
+fresh l = sym (rw (any-none (replicate 32 0) l none-marked) refl)
+
+module _ (m : List ℕ) (l r : List Arrow) (i j : ℕ) (e : l ≡ link i j ∷ r) where
+  opened-over : left-over m l ≡ (marked m i j || any (hit m) r || (any (sameArrow (link i j)) r || repeats r))
+  unfolding any repeats hit
+  opened-over = ap (left-over m) e
+
+  pub over-hit : (t : Bool) → t ≡ marked m i j → t ≡ true → left-over m l ≡ true
+  over-hit t q f = opened-over ∙ rw (← q, f) refl
+
+  pub over-next : (t : Bool) → t ≡ marked m i j → t ≡ false → (m′ : List ℕ) → ((x y : ℕ) → marked m′ x y ≡ (marked m x y || sameArrow (link i j) (link x y))) → left-over m l ≡ left-over m′ r
+  over-next t q f m′ h =
+      opened-over ∙ rw (← q, f, any-both m m′ (link i j) r h) (sym (or-assoc (any (hit m) r) (any (sameArrow (link i j)) r) (repeats r)))
+
+pub over-end : (m : List ℕ) (s : List ℕ) (at : ℕ) → length s ≤ at → left-over m (map arrowOf (records (drop at s))) ≡ false
+unfolding any repeats
+over-end m s at h = rw (records-done s at h) refl
+
+-- the arrows as masks
+abbrev pub linked : List Arrow → ℕ → ℕ → Bool
+linked l x y = any (λ a. sameArrow a (link x y)) l
+
+pub mask-start : (l : List Arrow) (x y : ℕ) → linked l x y ≡ (marked (replicate 32 0) x y || linked l x y)
+mask-start l x y = sym (rw (none-marked x y) refl)
+
+pub mask-next : (m m′ : List ℕ) (l r : List Arrow) (i j : ℕ) → l ≡ link i j ∷ r → ((x y : ℕ) → marked m′ x y ≡ (marked m x y || sameArrow (link i j) (link x y)))
+    → (x y : ℕ) → (marked m x y || linked l x y) ≡ (marked m′ x y || linked r x y)
+unfolding any
+mask-next m m′ l r i j e h x y =
+    ap (λ (k : List Arrow). marked m x y || linked k x y) e
+    ∙ sym (or-assoc (marked m x y) (sameArrow (link i j) (link x y)) (linked r x y))
+    ∙ ap (λ (b : Bool). b || linked r x y) (sym (h x y))
+
+pub mask-end : (m : List ℕ) (s : List ℕ) (at : ℕ) → length s ≤ at → (x y : ℕ) → (marked m x y || linked (map arrowOf (records (drop at s))) x y) ≡ marked m x y
+unfolding any
+mask-end m s at h x y = rw (records-done s at h) (or-false (marked m x y))

@@ -1,0 +1,69 @@
+-- Laws for causes 5 and 6: the ranges, and the contents of the records of both sections. Assumes nothing.
+use mathlib.Core.Path.{_≡_, refl, sym, ap, subst, _∙_}
+use mathlib.Core.Bool.{Bool, true, false, not, _&&_, _||_, false≢true}
+use mathlib.Core.List.{List, [], _∷_}
+use Prim.Native.Nat.{ℕ, zero, suc, _+_, _*_, _-_, _<_, _≤_}
+use native.Mathlib.Omega.{arith}
+use native.Mathlib.Decide.{decLt}
+use borrow.Author.Tests.{le-leb, lt-leb, le-ltb, lt-ltb, leb-true, eqb-true}
+use lib.Dec.{leb, ltb, eqb}
+use lib.ListN.{length, getD, take, drop}
+use Rattle.base.specs.Lists.{all}
+use Rattle.format.specs.Book.{u16At, u32At, records, meetsEnd, sectionBytes, sectionCount, sectionEnd, sectionRecords, atomCount, layerCount, ruleSection, arrowRecords, ruleRecords}
+use Rattle.book.specs.Causes.{within, arrowOk, ruleOk, isOutOfRange, hasBadRecord}
+use Rattle.format.proofs.SectionLaws.{Laid, arrow-part, rule-part}
+
+pub out-low : (low high x : ℕ) → x < low → true ≡ not (within low high x)
+unfolding within
+out-low low high x h = sym (rw (lt-leb low x h) refl)
+
+pub out-high : (low high x : ℕ) → low ≤ x → ltb high x ≡ not (within low high x)
+unfolding within
+out-high low high x h = go (decLt high x)
+  where
+    go : Dec (high < x) → ltb high x ≡ not (leb low x && leb x high)
+    go (yes i) = rw (lt-ltb high x i, le-leb low x h, lt-leb x high i) refl
+    go (no i) = rw (le-ltb high x (omega arith), le-leb low x h, le-leb x high (omega arith)) refl
+
+module _ (s : List ℕ) (n : ℕ) (en : n ≡ u16At s 5) (t1 : Bool) (e1 : t1 ≡ not (within 1 256 n)) where
+  pub five-facts : t1 ≡ true → true ≡ isOutOfRange s
+  unfolding isOutOfRange atomCount
+  five-facts q = sym (rw (← en, ← e1, q) refl)
+
+  module _ (f1 : t1 ≡ false) (l : ℕ) (el : l ≡ getD s 7 0) (t2 : Bool) (e2 : t2 ≡ not (within 1 32 l)) where
+    pub five-layers : t2 ≡ true → true ≡ isOutOfRange s
+    unfolding isOutOfRange atomCount layerCount
+    five-layers q = sym (rw (← en, ← e1, f1, ← el, ← e2, q) refl)
+
+    module _ (f2 : t2 ≡ false) (a : ℕ) (ea : a ≡ u16At s 12) (t3 : Bool) (e3 : t3 ≡ not (within 0 496 a)) where
+      pub five-arrows : t3 ≡ true → true ≡ isOutOfRange s
+      unfolding isOutOfRange atomCount layerCount sectionCount
+      five-arrows q = sym (rw (← en, ← e1, f1, ← el, ← e2, f2, ← ea, ← e3, q) refl)
+
+      pub five-rules : t3 ≡ false → (b : ℕ) → b ≡ u32At s 8 → (r : ℕ) → r ≡ u16At s (14 + b + 4) → (t4 : Bool) → t4 ≡ not (within 0 1024 r) → t4 ≡ isOutOfRange s
+      unfolding isOutOfRange atomCount layerCount sectionCount ruleSection sectionEnd sectionBytes
+      five-rules f3 b eb r er t4 e4 = sym (rw (← en, ← e1, f1, ← el, ← e2, f2, ← ea, ← e3, f3, ← eb, ← er, ← e4) refl)
+
+-- the records of both sections, as the code cuts them
+module _ (s : List ℕ) (b : ℕ) (eb : b ≡ u32At s 8) where
+  module _ (l n : ℕ) (el : l ≡ getD s 7 0) (en : n ≡ u16At s 5) (t : Bool) (et : t ≡ all (arrowOk l) (records (take (14 + b - 14) (drop 14 s)))) where
+    layers-is : l ≡ layerCount s
+    unfolding layerCount
+    layers-is = el
+
+    facts-is : n ≡ atomCount s
+    unfolding atomCount
+    facts-is = en
+
+    arrows-is : t ≡ all (arrowOk (layerCount s)) (arrowRecords s)
+    arrows-is = et ∙ ap (all (arrowOk l)) (arrow-part s b eb) ∙ ap (λ (k : ℕ). all (arrowOk k) (arrowRecords s)) layers-is
+
+    pub six-arrows : t ≡ false → true ≡ hasBadRecord s
+    unfolding hasBadRecord
+    six-arrows f = sym (rw (← arrows-is, f) refl)
+
+    pub six-rules : t ≡ true → Laid s → (u : Bool) → u ≡ all (ruleOk l n) (records (take (length s - (14 + b + 6)) (drop (14 + b + 6) s))) → not u ≡ hasBadRecord s
+    unfolding hasBadRecord
+    six-rules f w u eu =
+        let v : u ≡ all (ruleOk (layerCount s) (atomCount s)) (ruleRecords s) = eu ∙ ap (all (ruleOk l n)) (rule-part s b eb w) ∙ ap (λ (k : ℕ). all (ruleOk k n) (ruleRecords s)) layers-is ∙ ap (λ (k : ℕ). all (ruleOk (layerCount s) k) (ruleRecords s)) facts-is in
+        sym (rw (← arrows-is, f, ← v) refl)

@@ -1,0 +1,148 @@
+-- A layer is below itself exactly where the closed masks have a bit on the diagonal.
+-- Assumes nothing.
+use Rattle.layers.specs.Layers.{Arrow, link, repeats, sameArrow}
+use mathlib.Core.Path.{_≡_, refl, sym, ap, subst, _∙_}
+use mathlib.Core.Bool.{Bool, true, false, not, _&&_, _||_, false≢true}
+use mathlib.Core.List.{List, [], _∷_, map, List·Memᴰ, Memᴰ·cast, Memᴰ·of-map}
+use Prim.Native.Nat.{ℕ, zero, suc, _+_, _-_, _<_, _≤_}
+use native.Mathlib.Omega.{arith}
+use borrow.Author.Tests.{eq-eqb, eqb-true, ltb-true, lt-ltb, leb-true}
+use lib.Dec.{T, eqb, ltb, leb, eqb→eq, eqb-refl}
+use lib.ListN.{length, getD, take, drop}
+use Rattle.base.specs.Lists.{all, any, upTo}
+use Rattle.format.specs.Book.{u32At, u16At, records, arrowOf, arrowRecords, ruleRecords, arrowsOf, atomCount, layerCount, sectionCount, ruleSection}
+use Rattle.layers.specs.Layers.{Path, single, longer, below}
+use Rattle.layers.specs.Masks.{bitOf, marked, Linked, Way, edge, join}
+use Rattle.format.specs.Sections.{hasBrokenSection}
+use Rattle.book.specs.Causes.{within, arrowOk, ruleOk, isOutOfRange, hasBadRecord, repeatsArrow, hasCycle}
+use Rattle.base.proofs.Members.{_∈_, and-left, and-right, and-both, all-at, all-of, any-at, any-of, same-test}
+use Rattle.base.proofs.UpTo.{passed, upTo-has}
+use Rattle.layers.proofs.BelowLaws.{below-sound, below-complete}
+use Rattle.format.proofs.SectionLaws.{or-first, or-second, not-out, arrow-part}
+use Rattle.book.proofs.MaskLaws.{linked}
+
+pub true-of : (b : Bool) → b ≡ true → T b
+true-of true e = tt
+true-of false e = absurd (false≢true e)
+
+same-is : (a b : Arrow) → T (sameArrow a b) → a ≡ b
+unfolding sameArrow
+same-is a b t =
+    let e : a .earlier ≡ b .earlier = eqb→eq (a .earlier) (b .earlier) (and-left (eqb (a .earlier) (b .earlier)) (eqb (a .later) (b .later)) t) in
+    let f : a .later ≡ b .later = eqb→eq (a .later) (b .later) (and-right (eqb (a .earlier) (b .earlier)) (eqb (a .later) (b .later)) t) in
+    ap (λ (i : ℕ). link i (a .later)) e ∙ ap (λ (j : ℕ). link (b .earlier) j) f
+
+same-self : (a : Arrow) → T (sameArrow a a)
+unfolding sameArrow
+same-self a = and-both (eqb (a .earlier) (a .earlier)) (eqb (a .later) (a .later)) (eqb-refl (a .earlier)) (eqb-refl (a .later))
+
+path-join : (links : List Arrow) (k j i : ℕ) → Path links k i → Path links j k → Path links j i
+path-join links k j i (single a m e) q = longer a m (subst (Path links j) (sym e) q)
+path-join links k j i (longer a m p) q = longer a m (path-join links k j (a .later) p q)
+
+module _ (links : List Arrow) (n : ℕ) (start m : List ℕ) (few : n ≤ 32)
+    (reads : (x y : ℕ) → marked start x y ≡ linked links x y)
+    (wholeSection : (i j : ℕ) → Linked m i j → Way start i j) (full : (i j : ℕ) → Way start i j → Linked m i j)
+    (low : (a : Arrow) → a ∈ links → (a .earlier < n) × (a .later < n)) where
+  linked-in : (i j : ℕ) → Linked start i j → link i j ∈ links
+  unfolding marked
+  linked-in i j e =
+      let t : T (linked links i j) = true-of (linked links i j) (sym (reads i j) ∙ eq-eqb (bitOf (getD start i 0) j) 1 e) in
+      let w : (a : Arrow) × a ∈ links × T (sameArrow a (link i j)) = any-at (λ a. sameArrow a (link i j)) links t in
+      Memᴰ·cast (sym (same-is (w .0) (link i j) (w .2))) (w .1)
+
+  in-linked : (a : Arrow) → a ∈ links → Linked start (a .earlier) (a .later)
+  unfolding marked
+  in-linked a k =
+      eqb-true (bitOf (getD start (a .earlier) 0) (a .later)) 1
+      (reads (a .earlier) (a .later) ∙ passed (linked links (a .earlier) (a .later)) (any-of (λ b. sameArrow b (link (a .earlier) (a .later))) k (same-self a)))
+
+  way-path : (i j : ℕ) → Way start i j → Path links j i
+  way-path x y (edge i j e) = single (link i j) (linked-in i j e) refl
+  way-path x y (join i k j b p q) = path-join links k j i (way-path i k p) (way-path k j q)
+
+  path-way : (i j : ℕ) → Path links j i → Way start i j
+  path-way i j (single a k e) = subst (Way start (a .earlier)) e (edge (a .earlier) (a .later) (in-linked a k))
+  path-way i j (longer a k p) = join (a .earlier) (a .later) j (let h : a .later < n = low a k .1 in omega arith) (edge (a .earlier) (a .later) (in-linked a k)) (path-way (a .later) j p)
+
+  path-low : (i j : ℕ) → Path links j i → i < n
+  path-low i j (single a k e) = low a k .0
+  path-low i j (longer a k p) = low a k .0
+
+  to-below : T (any (λ i. marked m i i) (upTo 32)) → T (any (λ i. below links i i) (upTo n))
+  unfolding marked
+  to-below t =
+      let w : (i : ℕ) × i ∈ upTo 32 × T (marked m i i) = any-at (λ i. marked m i i) (upTo 32) t in
+      let p : Path links (w .0) (w .0) = way-path (w .0) (w .0) (wholeSection (w .0) (w .0) (eqb→eq (bitOf (getD m (w .0) 0) (w .0)) 1 (w .2))) in
+      any-of (λ i. below links i i) (upTo-has n (w .0) (path-low (w .0) (w .0) p)) (below-complete links (w .0) (w .0) p)
+
+  to-marked : T (any (λ i. below links i i) (upTo n)) → T (any (λ i. marked m i i) (upTo 32))
+  unfolding marked
+  to-marked t =
+      let w : (i : ℕ) × i ∈ upTo n × T (below links i i) = any-at (λ i. below links i i) (upTo n) t in
+      let p : Path links (w .0) (w .0) = below-sound links (w .0) (w .0) (w .2) in
+      let h : w .0 < n = path-low (w .0) (w .0) p in
+      any-of (λ i. marked m i i) (upTo-has 32 (w .0) (omega arith))
+      (true-of (marked m (w .0) (w .0)) (eq-eqb (bitOf (getD m (w .0) 0) (w .0)) 1 (full (w .0) (w .0) (path-way (w .0) (w .0) p))))
+
+  pub ring-is : any (λ i. marked m i i) (upTo 32) ≡ any (λ i. below links i i) (upTo n)
+  ring-is = same-test (any (λ i. marked m i i) (upTo 32)) (any (λ i. below links i i) (upTo n)) to-below to-marked
+
+arrows-are : (s : List ℕ) (b : ℕ) → b ≡ u32At s 8 → map arrowOf (records (take (14 + b - 14) (drop 14 s))) ≡ arrowsOf s
+unfolding arrowsOf
+arrows-are s b eb = ap (map arrowOf) (arrow-part s b eb)
+
+-- what follows where causes 5 and 6 do not apply
+wider : (l : ℕ) (r : List ℕ) → l ≤ 32 → T (arrowOk l r) → T (arrowOk 32 r)
+unfolding arrowOk arrowOf
+wider l r h t =
+    let a : T (eqb (length r) 2 && ltb (getD r 0 0) l) = and-left (eqb (length r) 2 && ltb (getD r 0 0) l) (ltb (getD r 1 0) l) t in
+    let x : getD r 0 0 < l = ltb-true (getD r 0 0) l (passed (ltb (getD r 0 0) l) (and-right (eqb (length r) 2) (ltb (getD r 0 0) l) a)) in
+    let y : getD r 1 0 < l = ltb-true (getD r 1 0) l (passed (ltb (getD r 1 0) l) (and-right (eqb (length r) 2 && ltb (getD r 0 0) l) (ltb (getD r 1 0) l) t)) in
+    and-both (eqb (length r) 2 && ltb (getD r 0 0) 32) (ltb (getD r 1 0) 32)
+    (and-both (eqb (length r) 2) (ltb (getD r 0 0) 32) (and-left (eqb (length r) 2) (ltb (getD r 0 0) l) a) (true-of (ltb (getD r 0 0) 32) (lt-ltb (getD r 0 0) 32 (omega arith))))
+    (true-of (ltb (getD r 1 0) 32) (lt-ltb (getD r 1 0) 32 (omega arith)))
+
+both-low : (l : ℕ) (r : List ℕ) → T (arrowOk l r) → (arrowOf r .earlier < l) × (arrowOf r .later < l)
+unfolding arrowOk arrowOf
+both-low l r t =
+    let a : T (eqb (length r) 2 && ltb (getD r 0 0) l) = and-left (eqb (length r) 2 && ltb (getD r 0 0) l) (ltb (getD r 1 0) l) t in (
+      ltb-true (getD r 0 0) l (passed (ltb (getD r 0 0) l) (and-right (eqb (length r) 2) (ltb (getD r 0 0) l) a)),
+      ltb-true (getD r 1 0) l (passed (ltb (getD r 1 0) l) (and-right (eqb (length r) 2 && ltb (getD r 0 0) l) (ltb (getD r 1 0) l) t)),
+    )
+
+module _ (s : List ℕ) (five : isOutOfRange s ≡ false) (six : hasBadRecord s ≡ false) where
+  layers-few : layerCount s ≤ 32
+  unfolding isOutOfRange within
+  layers-few =
+      let f : not (leb 1 (layerCount s) && leb (layerCount s) 32) ≡ false =
+      or-second (not (leb 1 (atomCount s) && leb (atomCount s) 256)) (not (leb 1 (layerCount s) && leb (layerCount s) 32))
+      (or-first (not (leb 1 (atomCount s) && leb (atomCount s) 256) || not (leb 1 (layerCount s) && leb (layerCount s) 32)) (not (leb 0 (sectionCount s 8) && leb (sectionCount s 8) 496))
+      (or-first (not (leb 1 (atomCount s) && leb (atomCount s) 256) || not (leb 1 (layerCount s) && leb (layerCount s) 32) || not (leb 0 (sectionCount s 8) && leb (sectionCount s 8) 496)) (not (leb 0 (sectionCount s (ruleSection s)) && leb (sectionCount s (ruleSection s)) 1024)) five)) in
+      leb-true (layerCount s) 32 (passed (leb (layerCount s) 32) (and-right (leb 1 (layerCount s)) (leb (layerCount s) 32) (true-of (leb 1 (layerCount s) && leb (layerCount s) 32) (not-out (leb 1 (layerCount s) && leb (layerCount s) 32) f))))
+
+  arrows-good : T (all (arrowOk (layerCount s)) (arrowRecords s))
+  unfolding hasBadRecord
+  arrows-good = true-of (all (arrowOk (layerCount s)) (arrowRecords s)) (not-out (all (arrowOk (layerCount s)) (arrowRecords s)) (or-first (not (all (arrowOk (layerCount s)) (arrowRecords s))) (not (all (ruleOk (layerCount s) (atomCount s)) (ruleRecords s))) six))
+
+  arrows-low : (a : Arrow) → a ∈ arrowsOf s → (a .earlier < layerCount s) × (a .later < layerCount s)
+  unfolding arrowsOf
+  arrows-low a k =
+      let w : (r : List ℕ) × r ∈ arrowRecords s × (arrowOf r ≡ a) = Memᴰ·of-map arrowOf (arrowRecords s) k in
+      subst (λ (b : Arrow). (b .earlier < layerCount s) × (b .later < layerCount s)) (w .2) (both-low (layerCount s) (w .0) (all-at (arrowOk (layerCount s)) arrows-good (w .1)))
+
+  module _ (b : ℕ) (eb : b ≡ u32At s 8) where
+    pub part-good : all (arrowOk 32) (records (take (14 + b - 14) (drop 14 s))) ≡ true
+    part-good =
+        ap (all (arrowOk 32)) (arrow-part s b eb)
+        ∙ passed (all (arrowOk 32) (arrowRecords s)) (all-of (arrowOk 32) (arrowRecords s) (λ r k. wider (layerCount s) r layers-few (all-at (arrowOk (layerCount s)) arrows-good k)))
+
+    pub seven-is : (t : Bool) → t ≡ repeats (map arrowOf (records (take (14 + b - 14) (drop 14 s)))) → t ≡ repeatsArrow s
+    unfolding repeatsArrow arrowsOf
+    seven-is t e = e ∙ ap (λ (l : List (List ℕ)). repeats (map arrowOf l)) (arrow-part s b eb)
+
+    pub eight-is : (start m : List ℕ) → ((x y : ℕ) → marked start x y ≡ linked (map arrowOf (records (take (14 + b - 14) (drop 14 s)))) x y)
+        → ((i j : ℕ) → Linked m i j → Way start i j) → ((i j : ℕ) → Way start i j → Linked m i j) → (t : Bool) → t ≡ any (λ i. marked m i i) (upTo 32) → t ≡ hasCycle s
+    unfolding hasCycle
+    eight-is start m reads wholeSection full t e =
+        e ∙ ring-is (arrowsOf s) (layerCount s) start m layers-few (λ x y. reads x y ∙ ap (λ (l : List Arrow). linked l x y) (arrows-are s b eb)) wholeSection full arrows-low

@@ -1,0 +1,69 @@
+use mathlib.Core.Path.{_≡_, refl, sym, _∙_}
+use Prim.Native.Nat.{_≤_, _-_}
+use lib.ListN.{length, drop}
+use borrow.Author.Tests.{not-true, not-false}
+use Rattle.base.specs.Lists.{all}
+use Rattle.format.specs.Book.{records, recordEnd}
+use Rattle.book.specs.Causes.{ruleOk}
+use Rattle.format.proofs.Offsets.{end-over, end-in, all-fails, all-more, all-done}
+use borrow.Author.Needs.{needs}
+use native.Mathlib.Omega.{arith}
+use Rattle.book.proofs.rules_ok.Statement.{statement}
+use Rattle.book.proofs.rules_ok.Tie as tie
+
+abbrev Inv-loop : tie.InvT-loop
+Inv-loop part layerCount atomCount at₀ at = (at ≤ length part) × (all (ruleOk layerCount atomCount) (records part) ≡ all (ruleOk layerCount atomCount) (records (drop at part)))
+
+abbrev μ-loop : tie.MeasureT-loop
+μ-loop part layerCount atomCount at₀ at = length part - at
+
+loop-holds : tie.Need-loop-holds Inv-loop μ-loop
+loop-holds c = (search needs, refl)
+
+add-from : tie.Need-add-from Inv-loop μ-loop
+add-from c = search needs
+
+record-end-requires : tie.Need-record-end-requires Inv-loop μ-loop
+record-end-requires c κs = search needs
+
+sub-rule-ok : tie.Need-sub-rule-ok Inv-loop μ-loop
+sub-rule-ok c = omega (arith, c .record-end .ensures, end-over (c .before .before .before .before .args .part .now) (c .before .before .loop .at) (search needs))
+
+part-rule-ok-start : tie.Need-part-rule-ok-start Inv-loop μ-loop
+part-rule-ok-start c = omega (arith, c .record-end .ensures, end-over (c .before .before .before .before .args .part .now) (c .before .before .loop .at) (search needs))
+
+part-rule-ok-end : tie.Need-part-rule-ok-end Inv-loop μ-loop
+part-rule-ok-end c = omega (arith, c .record-end .ensures, end-in (c .before .before .before .before .args .part .now) (c .before .before .loop .at) (search needs))
+
+rule-ok-requires : tie.Need-rule-ok-requires Inv-loop μ-loop
+rule-ok-requires c κs = search needs
+
+returns : tie.Need-returns Inv-loop μ-loop
+returns c = sym (c .before .before .before .before .before .loop .inv .1 ∙ all-fails (c .before .before .before .before .before .before .before .args .part .now) (c .before .before .before .before .before .loop .at) (search needs) (ruleOk (c .before .before .before .before .before .before .before .args .layers) (c .before .before .before .before .before .before .before .args .atoms)) (c .before .before .before .record-end .result) (c .before .before .before .record-end .ensures) (c .before .rule-ok .result) (c .before .rule-ok .ensures) (not-true _ (c .if1 .taken)))
+
+loop-less : tie.Need-loop-less Inv-loop μ-loop
+loop-less c = omega (arith, c .before .before .before .record-end .ensures, end-over (c .before .before .before .before .before .before .before .args .part .now) (c .before .before .before .before .before .loop .at) (search needs))
+
+loop-again : tie.Need-loop-again Inv-loop μ-loop
+loop-again c = (omega (arith, c .before .before .before .record-end .ensures, end-in (c .before .before .before .before .before .before .before .args .part .now) (c .before .before .before .before .before .loop .at) (search needs)), c .before .before .before .before .before .loop .inv .1 ∙ all-more (c .before .before .before .before .before .before .before .args .part .now) (c .before .before .before .before .before .loop .at) (search needs) (ruleOk (c .before .before .before .before .before .before .before .args .layers) (c .before .before .before .before .before .before .before .args .atoms)) (c .before .before .before .record-end .result) (c .before .before .before .record-end .ensures) (c .before .rule-ok .result) (c .before .rule-ok .ensures) (not-false _ (c .if1 .left)))
+
+returns-2 : tie.Need-returns-2 Inv-loop μ-loop
+returns-2 c = sym (c .before .loop .inv .1 ∙ all-done (ruleOk (c .before .before .before .args .layers) (c .before .before .before .args .atoms)) (c .before .before .before .args .part .now) (c .before .loop .at) (search needs))
+
+pub rules-ok-spec : {M : Type 1} → statement M
+rules-ok-spec =
+    tie.close
+    (tie.spec
+    Inv-loop
+    μ-loop
+    loop-holds
+    add-from
+    record-end-requires
+    sub-rule-ok
+    part-rule-ok-start
+    part-rule-ok-end
+    rule-ok-requires
+    returns
+    loop-less
+    loop-again
+    returns-2)

@@ -1,0 +1,20 @@
+-- Document 01's number of each cause. Assumes nothing.
+use Prim.Native.Nat.{ℕ}
+use Rattle.book.specs.declared.Cause.{Cause}
+use Rattle.book.specs.declared.Cause.the-variants.{TooShort, WrongVersion, WrongLength, BrokenSection, OutOfRange, BadRecord, RepeatedArrow, Cycle, NoSuchLayer, BadCandidate, NoSuchFact, TooManyBranching, BufferTooShort, NoStableState}
+
+abbrev pub numberOf : Cause → ℕ
+numberOf TooShort = 1
+numberOf WrongVersion = 2
+numberOf WrongLength = 3
+numberOf BrokenSection = 4
+numberOf OutOfRange = 5
+numberOf BadRecord = 6
+numberOf RepeatedArrow = 7
+numberOf Cycle = 8
+numberOf NoSuchLayer = 9
+numberOf BadCandidate = 10
+numberOf NoSuchFact = 11
+numberOf TooManyBranching = 12
+numberOf BufferTooShort = 13
+numberOf NoStableState = 14

@@ -1,0 +1,294 @@
+// The check of a book: the first of causes 1 to 8 that applies, or accepted.
+ghost use mathlib.Core.Path.{_≡_};
+ghost use mathlib.Core.Bool.{not, true, false};
+ghost use mathlib.Core.List.{map};
+ghost use Prim.Native.Nat.{ℕ};
+ghost use lib.ListN.{drop};
+ghost use Rattle.base.specs.Lists.{all, any};
+ghost use Rattle.layers.specs.Layers.{link, repeats, sameArrow};
+ghost use Rattle.layers.specs.Masks.{marked};
+ghost use Rattle.format.specs.Book.{records, literalOf, literalsOf, arrowOf};
+ghost use Rattle.format.specs.Sections.{hasBrokenSection};
+ghost use Rattle.book.specs.Causes.{within, arrowOk, atomBelow, ruleOk, isOutOfRange, hasBadRecord, repeatsArrow, hasCycle, tests, firstOf, verdict};
+ghost use Rattle.book.specs.Numbers.{numberOf};
+use base::MAX_ARROWS;
+use base::MAX_ATOMS;
+use base::MAX_LAYERS;
+use base::MAX_RULES;
+use base::wide;
+use format::be16;
+use format::be32;
+use format::broken_section;
+use format::record_end;
+
+// The causes of document 01, in the order of test; specs/Numbers.antt has their numbers.
+pub enum Cause {
+    TooShort,
+    WrongVersion,
+    WrongLength,
+    BrokenSection,
+    OutOfRange,
+    BadRecord,
+    RepeatedArrow,
+    Cycle,
+    NoSuchLayer,
+    BadCandidate,
+    NoSuchFact,
+    TooManyBranching,
+    BufferTooShort,
+    NoStableState,
+}
+
+pub enum Verdict {
+    Accepted,
+    Refused(Cause),
+}
+
+pub fn cause_number(c: Cause) -> u64
+    ensures { λ r. ⌜ r ≡ numberOf c ⌝ }
+{
+    match c {
+        Cause::TooShort => 1,
+        Cause::WrongVersion => 2,
+        Cause::WrongLength => 3,
+        Cause::BrokenSection => 4,
+        Cause::OutOfRange => 5,
+        Cause::BadRecord => 6,
+        Cause::RepeatedArrow => 7,
+        Cause::Cycle => 8,
+        Cause::NoSuchLayer => 9,
+        Cause::BadCandidate => 10,
+        Cause::NoSuchFact => 11,
+        Cause::TooManyBranching => 12,
+        Cause::BufferTooShort => 13,
+        Cause::NoStableState => 14,
+    }
+}
+
+pub fn arrow_ok(rec: &[u8], layers: usize) -> bool
+    ensures { λ r. ⌜ r ≡ arrowOk layers (now (rec .entry)) ⌝ }
+{
+    if rec.len() != 2 {
+        return false;
+    }
+    if layers <= wide(rec[0]) {
+        return false;
+    }
+    wide(rec[1]) < layers
+}
+
+pub fn arrows_ok(part: &[u8], layers: usize) -> bool
+    ensures { λ r. ⌜ r ≡ all (arrowOk layers) (records (now (part .entry))) ⌝ }
+{
+    let mut at: usize = 0;
+    while at < part.len() {
+        let from = at + 1;
+        let to = record_end(part, at);
+        if !arrow_ok(&part[from..to], layers) {
+            return false;
+        }
+        at = to;
+    }
+    true
+}
+
+pub fn atom_ok(a: u8, b: u8, atoms: usize) -> bool
+    ensures { λ r. ⌜ r ≡ atomBelow atoms (literalOf a b) ⌝ }
+{
+    (wide(a) * 256 + wide(b)) % 32768 < atoms
+}
+
+pub fn literals_ok(literals: &[u8], atoms: usize) -> bool
+    ensures { λ r. ⌜ r ≡ all (atomBelow atoms) (literalsOf (now (literals .entry))) ⌝ }
+{
+    let mut i: usize = 0;
+    while 2 <= literals.len() - i {
+        if !atom_ok(literals[i], literals[i + 1], atoms) {
+            return false;
+        }
+        i += 2;
+    }
+    true
+}
+
+pub fn rule_ok(rec: &[u8], layers: usize, atoms: usize) -> bool
+    ensures { λ r. ⌜ r ≡ ruleOk layers atoms (now (rec .entry)) ⌝ }
+{
+    let len = rec.len();
+    if len < 3 {
+        return false;
+    }
+    if 35 < len {
+        return false;
+    }
+    if len % 2 == 0 {
+        return false;
+    }
+    if layers <= wide(rec[0]) {
+        return false;
+    }
+    if !atom_ok(rec[1], rec[2], atoms) {
+        return false;
+    }
+    literals_ok(&rec[3..len], atoms)
+}
+
+pub fn rules_ok(part: &[u8], layers: usize, atoms: usize) -> bool
+    ensures { λ r. ⌜ r ≡ all (ruleOk layers atoms) (records (now (part .entry))) ⌝ }
+{
+    let mut at: usize = 0;
+    while at < part.len() {
+        let from = at + 1;
+        let to = record_end(part, at);
+        if !rule_ok(&part[from..to], layers, atoms) {
+            return false;
+        }
+        at = to;
+    }
+    true
+}
+
+fn outside(low: usize, high: usize, x: usize) -> bool
+    ensures { λ r. ⌜ r ≡ not (within low high x) ⌝ }
+{
+    if x < low {
+        return true;
+    }
+    high < x
+}
+
+// Cause 5, once the sections are whole.
+pub fn out_of_range(book: &[u8]) -> bool
+    requires { ⌜ hasBrokenSection (now book) ≡ false ⌝ }
+    ensures { λ r. ⌜ r ≡ isOutOfRange (now (book .entry)) ⌝ }
+{
+    let layers = wide(book[7]);
+    let second = 14 + be32(book, 8);
+    if outside(1, MAX_ATOMS, be16(book, 5)) {
+        return true;
+    }
+    if outside(1, MAX_LAYERS, layers) {
+        return true;
+    }
+    if outside(0, MAX_ARROWS, be16(book, 12)) {
+        return true;
+    }
+    outside(0, MAX_RULES, be16(book, second + 4))
+}
+
+// Cause 6, once the sections are whole.
+pub fn bad_record(book: &[u8]) -> bool
+    requires { ⌜ hasBrokenSection (now book) ≡ false ⌝ }
+    ensures { λ r. ⌜ r ≡ hasBadRecord (now (book .entry)) ⌝ }
+{
+    let layers = wide(book[7]);
+    let atoms = be16(book, 5);
+    let second = 14 + be32(book, 8);
+    if !arrows_ok(&book[14..second], layers) {
+        return true;
+    }
+    let from = second + 6;
+    let to = book.len();
+    !rules_ok(&book[from..to], layers, atoms)
+}
+
+// Whether two arrow records are equal: each arrow is looked up in the masks of those before it.
+pub fn repeated(part: &[u8]) -> bool
+    requires { ⌜ all (arrowOk 32) (records (now part)) ≡ true ⌝ }
+    ensures { λ r. ⌜ r ≡ repeats (map arrowOf (records (now (part .entry)))) ⌝ }
+{
+    let mut m: [u32; 32] = [0; 32];
+    let mut at: usize = 0;
+    while at < part.len() {
+        let i = wide(part[at + 1]);
+        let j = wide(part[at + 2]);
+        if layers::bit_of(m, i, j) {
+            return true;
+        }
+        let next = layers::with_bit(m, i, j);
+        m = next;
+        at += 3;
+    }
+    false
+}
+
+// The arrows as masks: bit j of mask i for an arrow from i to j.
+pub fn arrow_masks(part: &[u8]) -> [u32; 32]
+    requires { ⌜ all (arrowOk 32) (records (now part)) ≡ true ⌝ }
+    ensures { λ r. ⌜ ((x y : ℕ) → marked r x y ≡ any (λ a. sameArrow a (link x y)) (map arrowOf (records (now (part .entry))))) ⌝ }
+{
+    let mut m: [u32; 32] = [0; 32];
+    let mut at: usize = 0;
+    while at < part.len() {
+        let i = wide(part[at + 1]);
+        let j = wide(part[at + 2]);
+        let next = layers::with_bit(m, i, j);
+        m = next;
+        at += 3;
+    }
+    m
+}
+
+// Cause 7, once causes 4 to 6 are ruled out.
+pub fn repeated_arrow(book: &[u8]) -> bool
+    requires { ⌜ (hasBrokenSection (now book) ≡ false) × (isOutOfRange (now book) ≡ false) × (hasBadRecord (now book) ≡ false) ⌝ }
+    ensures { λ r. ⌜ r ≡ repeatsArrow (now (book .entry)) ⌝ }
+{
+    let second = 14 + be32(book, 8);
+    repeated(&book[14..second])
+}
+
+// Cause 8, once causes 4 to 6 are ruled out: some layer reaches itself in the closure of the arrows.
+pub fn cyclic(book: &[u8]) -> bool
+    requires { ⌜ (hasBrokenSection (now book) ≡ false) × (isOutOfRange (now book) ≡ false) × (hasBadRecord (now book) ≡ false) ⌝ }
+    ensures { λ r. ⌜ r ≡ hasCycle (now (book .entry)) ⌝ }
+{
+    let second = 14 + be32(book, 8);
+    layers::has_cycle(layers::transitive_closure(arrow_masks(&book[14..second])))
+}
+
+// The tests from cause 7 on.
+fn check_arrows(book: &[u8]) -> Verdict
+    requires { ⌜ (hasBrokenSection (now book) ≡ false) × (isOutOfRange (now book) ≡ false) × (hasBadRecord (now book) ≡ false) ⌝ }
+    ensures { λ r. ⌜ r ≡ firstOf (drop 6 (tests (now (book .entry)))) ⌝ }
+{
+    if repeated_arrow(book) {
+        return Verdict::Refused(Cause::RepeatedArrow);
+    }
+    if cyclic(book) {
+        return Verdict::Refused(Cause::Cycle);
+    }
+    Verdict::Accepted
+}
+
+// The tests from cause 4 on.
+fn check_sections(book: &[u8]) -> Verdict
+    ensures { λ r. ⌜ r ≡ firstOf (drop 3 (tests (now (book .entry)))) ⌝ }
+{
+    if broken_section(book) {
+        return Verdict::Refused(Cause::BrokenSection);
+    }
+    if out_of_range(book) {
+        return Verdict::Refused(Cause::OutOfRange);
+    }
+    if bad_record(book) {
+        return Verdict::Refused(Cause::BadRecord);
+    }
+    check_arrows(book)
+}
+
+// Accepted, or refused for the first of causes 1 to 8 that applies.
+pub fn check(book: &[u8]) -> Verdict
+    ensures { λ r. ⌜ r ≡ verdict (now (book .entry)) ⌝ }
+{
+    if book.len() < 20 {
+        return Verdict::Refused(Cause::TooShort);
+    }
+    if book[0] != 1 {
+        return Verdict::Refused(Cause::WrongVersion);
+    }
+    if be32(book, 1) != book.len() {
+        return Verdict::Refused(Cause::WrongLength);
+    }
+    check_sections(book)
+}

@@ -1,0 +1,92 @@
+-- Laws for the masks: one more bit, and arrows read into bits.
+-- Assumes nothing.
+use Rattle.layers.specs.Layers.{link}
+use mathlib.Core.Path.{_≡_, refl, sym, ap, subst, _∙_}
+use mathlib.Core.Bool.{Bool, true, false, not, _&&_, _||_, false≢true}
+use mathlib.Core.List.{List, [], _∷_, map}
+use Prim.Native.Nat.{ℕ, zero, suc, _+_, _*_, _-_, _/_, _%_, _^_, _<_, _≤_, min, max}
+use native.Mathlib.Omega.{arith}
+use native.Mathlib.Nat.{zero-div, div-eq-of-lt, div-self, mod-eq-of-lt, mul-div-cancel, pow-suc}
+use native.Mathlib.Decide.{decLt, ℕ-discrete}
+use borrow.Author.Tests.{eq-eqb, ne-eqb, eqb-true, ltb-true}
+use lib.Pow.{pow-pos, pow-lt, pow-add}
+use lib.Bits.{bitOr, shifted-even}
+use lib.Dec.{T, eqb, ltb}
+use lib.ListN.{length, getD, set, take, drop, length-take, length-drop, replicate}
+use lib.Seq.{getD-set-same, getD-set-other, getD-take, getD-drop}
+use Rattle.layers.specs.Layers.{Arrow, sameArrow}
+use Rattle.layers.specs.Masks.{bitOf, marked}
+use Rattle.layers.proofs.WarshallLaws.{bit-or}
+
+pub or-true : (b : Bool) → true ≡ (b || true)
+or-true true = refl
+or-true false = refl
+
+pub or-false : (b : Bool) → (b || false) ≡ b
+or-false true = refl
+or-false false = refl
+
+pub or-assoc : (a b c : Bool) → (a || b || c) ≡ (a || (b || c))
+or-assoc true b c = refl
+or-assoc false b c = refl
+
+pub and-left : (a b : Bool) → (a && b) ≡ true → a ≡ true
+and-left true b e = refl
+and-left false b e = e
+
+pub and-right : (a b : Bool) → (a && b) ≡ true → b ≡ true
+and-right true b e = e
+and-right false b e = absurd (false≢true e)
+
+-- the bits of a power of two
+pow-fits : (j : ℕ) → j < 32 → 1 * 2 ^ j % 4294967296 ≡ 2 ^ j
+pow-fits j h = let b : 2 ^ j < 2 ^ 32 = pow-lt h in mod-eq-of-lt {n = 1 * 2 ^ j} {m = 4294967296} (omega arith) ∙ omega arith
+
+bit-same : (j : ℕ) → bitOf (2 ^ j) j ≡ 1
+bit-same j =
+    let e : 2 ^ j / 2 ^ j ≡ 1 = div-self (pow-pos j) in
+    rw e refl
+
+bit-above : (j y : ℕ) → j < y → bitOf (2 ^ j) y ≡ 0
+bit-above j y h = let e : 2 ^ j / 2 ^ y ≡ 0 = div-eq-of-lt (pow-lt h) in rw e refl
+
+bit-under : (y d : ℕ) → bitOf (2 ^ (suc d + y)) y ≡ 0
+bit-under y d =
+    let e : 2 ^ (suc d + y) / 2 ^ y ≡ 2 ^ suc d = ap (λ (k : ℕ). k / 2 ^ y) (pow-add 2 (suc d) y) ∙ mul-div-cancel (2 ^ suc d) (pow-pos y) in
+    rw (e, pow-suc 2 d) (omega arith)
+
+bit-other : (j y : ℕ) → (j ≡ y → ⊥) → bitOf (2 ^ j) y ≡ 0
+bit-other j y n = go (decLt j y)
+  where
+    go : Dec (j < y) → bitOf (2 ^ j) y ≡ 0
+    go (yes h) = bit-above j y h
+    go (no h) = let e : suc (j - y - 1) + y ≡ j = omega arith in subst (λ (k : ℕ). bitOf (2 ^ k) y ≡ 0) e (bit-under y (j - y - 1))
+
+small : (a j : ℕ) → bitOf a j < 2
+small a j = omega arith
+
+module _ (m : List ℕ) (i j : ℕ) (h : i < length m) (k : j < 32) where
+  pub with-bit : (x y : ℕ) → marked (set m i (bitOr (getD m i 0) (1 * 2 ^ j % 4294967296))) x y ≡ (marked m x y || sameArrow (link i j) (link x y))
+  unfolding marked sameArrow
+  with-bit x y = rw (pow-fits j k) (go (ℕ-discrete i x) (ℕ-discrete j y))
+    where
+      go : Dec (i ≡ x) → Dec (j ≡ y) → eqb (bitOf (getD (set m i (bitOr (getD m i 0) (2 ^ j))) x 0) y) 1 ≡ (eqb (bitOf (getD m x 0) y) 1 || (eqb i x && eqb j y))
+      go (yes e) (yes f) = rw (← e, ← f, getD-set-same m i (bitOr (getD m i 0) (2 ^ j)) 0 h, bit-or (getD m i 0) (2 ^ j) j, bit-same j) (both (bitOf (getD m i 0) j) (small (getD m i 0) j))
+        where
+          both : (b : ℕ) → b < 2 → eqb (max b 1) 1 ≡ (eqb b 1 || (eqb i i && eqb j j))
+          both b h = rw (eq-eqb (max b 1) 1 (omega arith), eq-eqb i i refl, eq-eqb j j refl) (or-true (eqb b 1))
+      go (yes e) (no f) = rw (← e, getD-set-same m i (bitOr (getD m i 0) (2 ^ j)) 0 h, bit-or (getD m i 0) (2 ^ j) y, bit-other j y f, ne-eqb j y f, eq-eqb i i refl) (alone (bitOf (getD m i 0) y))
+        where
+          alone : (b : ℕ) → eqb (max b 0) 1 ≡ (eqb b 1 || false)
+          alone b = let e : max b 0 ≡ b = omega arith in rw e (sym (or-false (eqb b 1)))
+      go (no e) d = rw (getD-set-other m i x (bitOr (getD m i 0) (2 ^ j)) 0 (λ q. e (sym q)), ne-eqb i x e) (sym (or-false (eqb (bitOf (getD m x 0) y) 1)))
+
+no-bits : (n x : ℕ) → getD {A = ℕ} (replicate n 0) x 0 ≡ 0
+no-bits zero x = refl
+no-bits (suc n) zero = refl
+no-bits (suc n) (suc x) = no-bits n x
+
+-- no bit is set yet
+pub none-marked : (x y : ℕ) → marked (replicate 32 0) x y ≡ false
+unfolding marked
+none-marked x y = rw (no-bits 32 x, zero-div (2 ^ y)) refl

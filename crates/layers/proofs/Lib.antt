@@ -1,0 +1,3 @@
+pub mod BelowLaws
+pub mod WarshallLaws
+pub mod BitLaws

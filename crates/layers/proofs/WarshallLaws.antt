@@ -1,0 +1,138 @@
+-- Laws that the proof of masks cites. Assumes nothing.
+use mathlib.Core.Path.{_≡_, refl, sym, ap, _∙_, subst}
+use mathlib.Core.Bool.{Bool, true, false, cond}
+use mathlib.Core.Logic.{_⊎_, inl, inr, ⊎-elim}
+use mathlib.Core.List.{List, [], _∷_}
+use Prim.Native.Nat.{ℕ, zero, suc, _+_, _-_, _*_, _/_, _%_, _^_, _≤_, _<_, min, max}
+use native.Mathlib.Nat.{zero-div, mod-lt}
+use native.Mathlib.Decide.{decLt, ℕ-discrete}
+use native.Mathlib.Omega.{arith}
+use lib.Bits.{bitOr, bitAnd, or-step, or-shr, and-mask}
+use lib.ListN.{length, getD, set, length-set, List·getD-eq-default}
+use lib.Seq.{getD-set-same, getD-set-other}
+use Rattle.layers.specs.Masks.{bitOf, Linked, Way, edge, join}
+
+pub bit-or : (a b j : ℕ) → bitOf (bitOr a b) j ≡ max (bitOf a j) (bitOf b j)
+bit-or a b j = rw (or-shr a b j) (omega (arith, or-step (a / 2 ^ j) (b / 2 ^ j)))
+
+pub test-bit : (a k : ℕ) → bitAnd (a / 2 ^ k) 1 ≡ bitOf a k
+test-bit a k = and-mask (a / 2 ^ k) 1
+
+-- a turn at k has gone over the masks below i
+pub record Row (m₀ m : List ℕ) (k i : ℕ) : Type 0 where
+  pub len : length m ≡ length m₀
+  pub same : (x : ℕ) → i ≤ x → getD m x 0 ≡ getD m₀ x 0
+  pub hit : (x : ℕ) → x < i → Linked m₀ x k → getD m x 0 ≡ bitOr (getD m₀ x 0) (getD m₀ k 0)
+  pub miss : (x : ℕ) → x < i → (Linked m₀ x k → ⊥) → getD m x 0 ≡ getD m₀ x 0
+
+pub row-start : (m : List ℕ) (k : ℕ) → Row m m k 0
+row-start m k = record { len = refl; same = λ x h. refl; hit = λ x h. absurd (omega arith); miss = λ x h. absurd (omega arith) }
+
+lt-or-eq : (x i : ℕ) → x < i + 1 → (x < i) ⊎ (x ≡ i)
+lt-or-eq x i h = go (decLt x i)
+  where
+    go : Dec (x < i) → (x < i) ⊎ (x ≡ i)
+    go (yes a) = inl a
+    go (no a) = inr (omega arith)
+
+pub row-miss : (m₀ m : List ℕ) (k i : ℕ) → Row m₀ m k i → (Linked m₀ i k → ⊥) → Row m₀ m k (i + 1)
+row-miss m₀ m k i r n = record {
+  len = r .len;
+  same = λ x h. r .same x (omega arith);
+  hit = λ x h a. ⊎-elim (λ b. r .hit x b a) (λ e. absurd (n (subst (λ (y : ℕ). Linked m₀ y k) e a))) (lt-or-eq x i h);
+  miss = λ x h a. ⊎-elim (λ b. r .miss x b a) (λ e. r .same x (omega arith)) (lt-or-eq x i h);
+}
+
+pub row-hit : (m₀ m : List ℕ) (k i v : ℕ) → Row m₀ m k i → i < length m → v ≡ bitOr (getD m₀ i 0) (getD m₀ k 0) → Linked m₀ i k → Row m₀ (set m i v) k (i + 1)
+row-hit m₀ m k i v r b e y = record {
+  len = length-set m i v ∙ r .len;
+  same = λ x h. getD-set-other m i x v 0 (omega arith) ∙ r .same x (omega arith);
+  hit = λ x h a. ⊎-elim
+      (λ c. getD-set-other m i x v 0 (omega arith) ∙ r .hit x c a)
+      (λ q. subst (λ (y : ℕ). getD (set m i v) y 0 ≡ bitOr (getD m₀ y 0) (getD m₀ k 0)) (sym q) (getD-set-same m i v 0 b ∙ e))
+      (lt-or-eq x i h);
+  miss = λ x h a. ⊎-elim
+      (λ c. getD-set-other m i x v 0 (omega arith) ∙ r .miss x c a)
+      (λ q. absurd (a (subst (λ (z : ℕ). Linked m₀ z k) (sym q) y)))
+      (lt-or-eq x i h);
+}
+
+-- what a turn at k does to the arrows
+pub record Step (m₀ m : List ℕ) (k : ℕ) : Type 0 where
+  pub consIf : (x j : ℕ) → Linked m₀ x j → Linked m x j
+  pub both : (x j : ℕ) → Linked m₀ x k → Linked m₀ k j → Linked m x j
+  pub back : (x j : ℕ) → Linked m x j → Linked m₀ x j ⊎ (Linked m₀ x k × Linked m₀ k j)
+
+small : (a j : ℕ) → bitOf a j < 2
+small a j = omega arith
+
+no-bit : (a j : ℕ) → a ≡ 0 → bitOf a j ≡ 1 → ⊥
+no-bit a j e h = let z : bitOf 0 j ≡ 1 = rw e at h in omega (arith, z, zero-div (2 ^ j))
+
+module _ (m₀ m : List ℕ) (k i : ℕ) (r : Row m₀ m k i) (all : length m₀ ≤ i) where
+  step-of : Step m₀ m k
+  step-of = record { consIf = λ x j a. consIf-at x j a (ℕ-discrete (bitOf (getD m₀ x 0) k) 1) (decLt x i); both = both-at; back = λ x j a. back-at x j a (ℕ-discrete (bitOf (getD m₀ x 0) k) 1) (decLt x i) }
+    where
+      consIf-at : (x j : ℕ) → Linked m₀ x j → Dec (Linked m₀ x k) → Dec (x < i) → Linked m x j
+      consIf-at x j a (yes y) (yes b) = rw (r .hit x b y, bit-or (getD m₀ x 0) (getD m₀ k 0) j) (omega (arith, small (getD m₀ k 0) j))
+      consIf-at x j a (no n) (yes b) = rw (r .miss x b n) a
+      consIf-at x j a (yes y) (no b) = rw (r .same x (omega arith)) a
+      consIf-at x j a (no n) (no b) = rw (r .same x (omega arith)) a
+
+      both-at : (x j : ℕ) → Linked m₀ x k → Linked m₀ k j → Linked m x j
+      both-at x j a b = go (decLt x i)
+        where
+          go : Dec (x < i) → Linked m x j
+          go (yes c) = rw (r .hit x c a, bit-or (getD m₀ x 0) (getD m₀ k 0) j) (omega (arith, small (getD m₀ x 0) j))
+          go (no c) = absurd (no-bit (getD m₀ x 0) k (List·getD-eq-default m₀ 0 {n = x} (omega arith)) a)
+
+      back-at : (x j : ℕ) → Linked m x j → Dec (Linked m₀ x k) → Dec (x < i) → Linked m₀ x j ⊎ (Linked m₀ x k × Linked m₀ k j)
+      back-at x j a (no n) (yes b) = inl (rw (r .miss x b n) at a)
+      back-at x j a (yes y) (no b) = inl (rw (r .same x (omega arith)) at a)
+      back-at x j a (no n) (no b) = inl (rw (r .same x (omega arith)) at a)
+      back-at x j a (yes y) (yes b) =
+          let q : max (bitOf (getD m₀ x 0) j) (bitOf (getD m₀ k 0) j) ≡ 1 = rw (r .hit x b y, bit-or (getD m₀ x 0) (getD m₀ k 0) j) at a in
+          go (ℕ-discrete (bitOf (getD m₀ x 0) j) 1) q
+        where
+          go : Dec (Linked m₀ x j) → max (bitOf (getD m₀ x 0) j) (bitOf (getD m₀ k 0) j) ≡ 1 → Linked m₀ x j ⊎ (Linked m₀ x k × Linked m₀ k j)
+          go (yes c) q = inl c
+          go (no c) q = inr (y, omega (arith, q, small (getD m₀ x 0) j))
+
+-- what the turns keep
+pub record Turns (s m : List ℕ) (k : ℕ) : Type 0 where
+  pub len : length m ≡ 32
+  pub sound : (i j : ℕ) → Linked m i j → Way s i j
+  pub saturate : (i j : ℕ) → Linked s i j → Linked m i j
+  pub closed : (x i j : ℕ) → x < k → Linked m i x → Linked m x j → Linked m i j
+
+pub turns-start : (s : List ℕ) → length s ≡ 32 → Turns s s 0
+turns-start s e = record { len = e; sound = λ i j a. edge i j a; saturate = λ i j a. a; closed = λ x i j h. absurd (omega arith) }
+
+pub turns-more : (s m₀ m : List ℕ) (k i : ℕ) → Turns s m₀ k → k < 32 → Row m₀ m k i → 32 ≤ i → Turns s m (k + 1)
+turns-more s m₀ m k i t b r h = record {
+  len = r .len ∙ t .len;
+  sound = λ x j a. ⊎-elim (λ p. t .sound x j p) (λ p. join x k j b (t .sound x k (p .0)) (t .sound k j (p .1))) (st .back x j a);
+  saturate = λ x j a. st .consIf x j (t .saturate x j a);
+  closed = λ x y j c p q. ⊎-elim (λ l. low x y j l (st .back y x p) (st .back x j q)) (λ e. st .both y j (to-k x y e (st .back y x p)) (from-k x j e (st .back x j q))) (lt-or-eq x k c);
+}
+  where
+    st : Step m₀ m k
+    st = step-of m₀ m k i r (omega (arith, t .len))
+
+    low : (x y j : ℕ) → x < k → Linked m₀ y x ⊎ (Linked m₀ y k × Linked m₀ k x) → Linked m₀ x j ⊎ (Linked m₀ x k × Linked m₀ k j) → Linked m y j
+    low x y j l (inl p) (inl q) = st .consIf y j (t .closed x y j l p q)
+    low x y j l (inl p) (inr q) = st .both y j (t .closed x y k l p (q .0)) (q .1)
+    low x y j l (inr p) (inl q) = st .both y j (p .0) (t .closed x k j l (p .1) q)
+    low x y j l (inr p) (inr q) = st .both y j (p .0) (q .1)
+
+    to-k : (x y : ℕ) → x ≡ k → Linked m₀ y x ⊎ (Linked m₀ y k × Linked m₀ k x) → Linked m₀ y k
+    to-k x y e (inl p) = subst (λ (z : ℕ). Linked m₀ y z) e p
+    to-k x y e (inr p) = p .0
+
+    from-k : (x j : ℕ) → x ≡ k → Linked m₀ x j ⊎ (Linked m₀ x k × Linked m₀ k j) → Linked m₀ k j
+    from-k x j e (inl p) = subst (λ (z : ℕ). Linked m₀ z j) e p
+    from-k x j e (inr p) = p .1
+
+pub full : (s m : List ℕ) (k : ℕ) → Turns s m k → 32 ≤ k → (i j : ℕ) → Way s i j → Linked m i j
+full s m k t h x y (edge i j a) = t .saturate i j a
+full s m k t h x y (join i l j b p q) = t .closed l i j (omega arith) (full s m k t h i l p) (full s m k t h l j q)

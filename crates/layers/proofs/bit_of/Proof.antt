@@ -1,0 +1,29 @@
+use mathlib.Core.Path.{_≡_, refl, ap}
+use Prim.Native.Nat.{ℕ}
+use lib.Dec.{eqb}
+use lib.ListN.{getD}
+use Rattle.layers.specs.Masks.{marked}
+use Rattle.layers.proofs.WarshallLaws.{test-bit}
+use native.Mathlib.Omega.{arith}
+use borrow.Author.Needs.{needs}
+use Rattle.layers.proofs.bit_of.Statement.{statement}
+use Rattle.layers.proofs.bit_of.Tie as tie
+
+mul-result : tie.Need-mul-result
+mul-result c = search needs
+
+array-read-result : tie.Need-array-read-result
+array-read-result c = search needs
+
+cast-result : tie.Need-cast-result
+cast-result c = search needs
+
+shr-result : tie.Need-shr-result
+shr-result c = search needs
+
+returns : tie.Need-returns
+unfolding marked
+returns c = ap (λ (b : ℕ). eqb b 1) (test-bit (getD (c .args .t1) (c .args .i) 0) (c .args .j))
+
+pub bit-of-spec : {M : Type 1} → statement M
+bit-of-spec = tie.close (tie.spec mul-result array-read-result cast-result shr-result returns)

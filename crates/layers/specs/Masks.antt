@@ -1,0 +1,22 @@
+-- Arrows between 32 layers as masks, as the code keeps them: bit j of mask i stands for an arrow from i to j. Assumes nothing.
+use mathlib.Core.Path.{_≡_}
+use mathlib.Core.Bool.{Bool}
+use mathlib.Core.List.{List}
+use Prim.Native.Nat.{ℕ, _/_, _%_, _^_, _<_}
+use lib.Dec.{eqb}
+use lib.ListN.{getD}
+use Rattle.base.specs.Bounds.{maxLayers}
+
+abbrev pub bitOf : ℕ → ℕ → ℕ
+bitOf a j = a / 2 ^ j % 2
+
+unfoldable pub marked : List ℕ → ℕ → ℕ → Bool
+marked m i j = eqb (bitOf (getD m i 0) j) 1
+
+abbrev pub Linked : List ℕ → ℕ → ℕ → Type 0
+Linked m i j = bitOf (getD m i 0) j ≡ 1
+
+-- a way along the masks' arrows
+pub data Way (m : List ℕ) : ℕ → ℕ → Type 0 where
+  edge : (i j : ℕ) → Linked m i j → Way m i j
+  join : (i k j : ℕ) → k < maxLayers → Way m i k → Way m k j → Way m i j

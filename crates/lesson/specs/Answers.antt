@@ -1,0 +1,11 @@
+-- What the C host reads: how each call's answer becomes one 64-bit number. The low byte is 0 where the call is granted, and
+-- else the cause's number with every other bit 0; the bits above the low byte carry what the answer carries. Assumes nothing.
+use Prim.Native.Nat.{ℕ}
+use Rattle.book.specs.declared.Verdict.{Verdict}
+use Rattle.book.specs.declared.Verdict.the-variants.{Accepted, Refused}
+use Rattle.book.specs.Numbers.{numberOf}
+
+-- lesson_check: accepted carries nothing
+abbrev pub checkAnswer : Verdict → ℕ
+checkAnswer Accepted = 0
+checkAnswer (Refused c) = numberOf c

@@ -1,0 +1,116 @@
+-- The computed tests and the statements agree: `least` has exactly what is `Derived`, and `stable` is `StableModel`.
+-- Assumes nothing.
+use mathlib.Core.Path.{_≡_, refl, sym, ap, ap₂, subst, _∙_}
+use mathlib.Core.Logic.{_⊎_, inl, inr, _↔_}
+use mathlib.Core.Bool.{Bool, true, false, not, _&&_, _||_, Bool·beq}
+use mathlib.Core.List.{List, [], _∷_, _++_, map, List·Memᴰ, List·Memᴰ·head, List·Memᴰ·tail, List·Memᴰ·cases-cons, List·Memᴰ·not-nil, List·Memᴰ·append-cases, List·Memᴰ·eq-of-singleton, Memᴰ·append-left, Memᴰ·append-right, Memᴰ·map, Memᴰ·of-map, Memᴰ·cast}
+use Prim.Native.Nat.{ℕ, zero, suc, _<_, _≤_}
+use native.Mathlib.Omega.{arith}
+use native.Mathlib.Nat.{eq-or-lt-of-le, le-of-suc-le-suc}
+use lib.Dec.{T, eqb, eqb-refl, eqb→eq}
+use lib.ListN.{length, getD}
+use Rattle.base.specs.Lists.{all, any, filter, upTo}
+use Rattle.base.specs.Closure.{Clause, Consequence, given, by-clause, member, closure}
+use Rattle.models.specs.Program.{Program}
+use Rattle.format.specs.Book.{Literal, Rule}
+use Rattle.models.specs.StableModels.{Interpretation, atomHolds, signed, holds, sameLiteral, rejected, default, defaults, activeRules, clauseOf, least, agreesAt, stable}
+use Rattle.models.specs.StableModels.{Derived, by-default, by-rule, StableModel, WellFormed}
+use Rattle.base.proofs.Members.{_∈_, and-left, and-right, and-both, filter-from, filter-into, all-at, all-of, same-test}
+use Rattle.base.proofs.UpTo.{upTo-lt, upTo-has}
+use Rattle.base.proofs.ClosureLaws.{member-sound, member-complete, closure-sound, closure-complete}
+
+beq-same : (a b : Bool) → T (Bool·beq a b) → a ≡ b
+beq-same true true t = refl
+beq-same true false t = absurd t
+beq-same false true t = absurd t
+beq-same false false t = refl
+
+beq-refl : (a : Bool) → T (Bool·beq a a)
+beq-refl true = tt
+beq-refl false = tt
+
+pub lit-same : (a b : Literal) → T (sameLiteral a b) → a ≡ b
+unfolding sameLiteral
+lit-same a b t =
+    let p : a .atom ≡ b .atom = eqb→eq (a .atom) (b .atom) (and-left (eqb (a .atom) (b .atom)) (Bool·beq (a .negated) (b .negated)) t) in
+    let q : a .negated ≡ b .negated = beq-same (a .negated) (b .negated) (and-right (eqb (a .atom) (b .atom)) (Bool·beq (a .negated) (b .negated)) t) in
+    λ i. record { atom = p i; negated = q i }
+
+pub lit-refl : (a : Literal) → T (sameLiteral a a)
+unfolding sameLiteral
+lit-refl a = and-both (eqb (a .atom) (a .atom)) (Bool·beq (a .negated) (a .negated)) (eqb-refl (a .atom)) (beq-refl (a .negated))
+
+pub litin-from : (l : Literal) (ls : List Literal) → T (member sameLiteral l ls) → l ∈ ls
+litin-from l ls t = member-sound sameLiteral lit-same lit-refl l ls t
+
+pub litin-of : {l : Literal} {ls : List Literal} → l ∈ ls → T (member sameLiteral l ls)
+litin-of k = member-complete sameLiteral lit-same lit-refl k
+
+module _ (P : Program) (m : Interpretation) where
+  named : ℕ → Literal
+  named f = record { atom = f; negated = true }
+
+  of-derived : (l : Literal) → Consequence (map clauseOf (activeRules P m)) (defaults P m) l → Derived P m l
+  unfolding defaults activeRules named clauseOf
+  of-derived l (given k) =
+      let w : (f : ℕ) × f ∈ filter (default P m) (upTo (P .atoms)) × (named f ≡ l) = Memᴰ·of-map named (filter (default P m) (upTo (P .atoms))) k in
+      let v : w .0 ∈ upTo (P .atoms) × T (default P m (w .0)) = filter-from (default P m) (upTo (P .atoms)) (w .1) in
+      subst (Derived P m) (w .2) (by-default (w .0) (upTo-lt (P .atoms) (w .0) (v .0)) (v .1))
+  of-derived l (by-clause c k h) = go (Memᴰ·of-map clauseOf (activeRules P m) k) (λ x n. of-derived x (h x n))
+    where
+      go : (r : Rule) × r ∈ activeRules P m × (clauseOf r ≡ c) → ((x : Literal) → x ∈ c .premises → Derived P m x) → Derived P m (c .conclusion)
+      go w f =
+          let v : w .0 ∈ P .rules × T (not (rejected P m (w .0))) = filter-from (λ r. not (rejected P m r)) (P .rules) (w .1) in
+          subst (λ (d : Clause Literal). Derived P m (d .conclusion)) (w .2)
+          (by-rule (w .0) (v .0) (v .1) (λ x n. f x (subst (λ (d : Clause Literal). x ∈ d .premises) (w .2) n)))
+
+  to-derived : (l : Literal) → Derived P m l → Consequence (map clauseOf (activeRules P m)) (defaults P m) l
+  unfolding defaults activeRules named clauseOf
+  to-derived l (by-default f h d) = given (Memᴰ·map named (filter-into (default P m) (upTo-has (P .atoms) f h) d))
+  to-derived l (by-rule r k u below) =
+      by-clause (clauseOf r) (Memᴰ·map clauseOf (filter-into (λ r. not (rejected P m r)) k u)) (λ x n. to-derived x (below x n))
+
+  pub least-sound : (l : Literal) → l ∈ least P m → Derived P m l
+  unfolding least
+  least-sound l k = of-derived l (closure-sound sameLiteral lit-same lit-refl (map clauseOf (activeRules P m)) (defaults P m) l k)
+
+  pub least-complete : (l : Literal) → Derived P m l → l ∈ least P m
+  unfolding least
+  least-complete l d = closure-complete sameLiteral lit-same lit-refl (map clauseOf (activeRules P m)) (defaults P m) l (to-derived l d)
+
+  plain : ℕ → Literal
+  plain f = record { atom = f; negated = false }
+
+  right : ℕ → Bool
+  right f = Bool·beq (member sameLiteral (plain f) (least P m)) (atomHolds m f) && Bool·beq (member sameLiteral (named f) (least P m)) (not (atomHolds m f))
+
+  told : (f : ℕ) → T (right f) → (c : Bool) → member sameLiteral (record { atom = f; negated = c }) (least P m) ≡ signed c (atomHolds m f)
+  unfolding right plain named signed
+  told f t true = beq-same (member sameLiteral (named f) (least P m)) (not (atomHolds m f)) (and-right (Bool·beq (member sameLiteral (plain f) (least P m)) (atomHolds m f)) (Bool·beq (member sameLiteral (named f) (least P m)) (not (atomHolds m f))) t)
+  told f t false = beq-same (member sameLiteral (plain f) (least P m)) (atomHolds m f) (and-left (Bool·beq (member sameLiteral (plain f) (least P m)) (atomHolds m f)) (Bool·beq (member sameLiteral (named f) (least P m)) (not (atomHolds m f))) t)
+
+  pub stable-sound : length m ≡ P .atoms → T (stable P m) → StableModel P m
+  unfolding stable agreesAt holds right plain named
+  stable-sound e t = record {
+    size = e;
+    exact = λ l h.
+        let q : member sameLiteral l (least P m) ≡ signed (l .negated) (atomHolds m (l .atom)) = told (l .atom) (all-at right t (upTo-has (P .atoms) (l .atom) h)) (l .negated) in
+        (λ r. subst T q (litin-of (least-complete l r)), λ u. least-sound l (litin-from l (least P m) (subst T (sym q) u)));
+  }
+
+  same-beq : (a c : Bool) → (T a → T c) → (T c → T a) → T (Bool·beq a c)
+  same-beq a c f g = subst (λ (x : Bool). T (Bool·beq a x)) (same-test a c f g) (beq-refl a)
+
+  pub stable-complete : StableModel P m → T (stable P m)
+  unfolding stable agreesAt holds right plain named signed
+  stable-complete w =
+      all-of right (upTo (P .atoms))
+      (λ f k.
+      let h : f < P .atoms = upTo-lt (P .atoms) f k in
+      and-both (Bool·beq (member sameLiteral (plain f) (least P m)) (atomHolds m f)) (Bool·beq (member sameLiteral (named f) (least P m)) (not (atomHolds m f)))
+      (same-beq (member sameLiteral (plain f) (least P m)) (atomHolds m f)
+      (λ t. w .exact (plain f) h .0 (least-sound (plain f) (litin-from (plain f) (least P m) t)))
+      (λ t. litin-of (least-complete (plain f) (w .exact (plain f) h .1 t))))
+      (same-beq (member sameLiteral (named f) (least P m)) (not (atomHolds m f))
+      (λ t. w .exact (named f) h .0 (least-sound (named f) (litin-from (named f) (least P m) t)))
+      (λ t. litin-of (least-complete (named f) (w .exact (named f) h .1 t)))))

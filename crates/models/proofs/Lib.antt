@@ -1,0 +1,11 @@
+pub mod InterpretationLaws
+pub mod LeastLaws
+pub mod BranchingLaws
+pub mod CandidateLaws
+pub mod SettingLaws
+pub mod RecordLaws
+pub mod RecordBits
+pub mod RecordOrder
+pub mod LeafLaws
+pub mod ListingLaws
+pub mod ExampleLaws
