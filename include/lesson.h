@@ -1,0 +1,91 @@
+/*
+ * lesson.h: the lesson engine, for C11 and C++.
+ *
+ * Link with liblesson.a (64-bit x86, Linux); it needs nothing beyond the C
+ * library. examples/check.c is a host to copy from.
+ *
+ * What holds for every call:
+ *
+ * - Slices. A byte string is a pointer and a length in bytes. All `length`
+ *   bytes must be readable, and those of a buffer that the call fills writable
+ *   too. Any alignment will do. NULL with length 0 is an empty slice and is
+ *   allowed; NULL with another length is not.
+ * - Memory. Everything is the caller's, before and after. The engine reads and
+ *   writes only what it is lent, keeps nothing once a call has returned, and
+ *   does not use the heap.
+ * - Overlap. Two slices that are only read may overlap. A buffer that a call
+ *   writes must not overlap any other slice of the same call.
+ * - Threads. There is no state between calls, and no global variable. Calls may
+ *   run in several threads at once, also on the same book, as long as nobody
+ *   writes to a slice while a call has it.
+ * - Every input has an answer. No contents and no length make a call crash, run
+ *   on without end or touch other memory, however damaged a book is. A book
+ *   needs no checking before it is handed to any call.
+ * - A refusal leaves every byte of every buffer as it was.
+ *
+ * Every call answers with one 64-bit number. Its low byte is 0 where the call
+ * is granted, and the bits above it carry what the answer carries. Where the
+ * call is refused, the low byte is the number of the cause, and all other bits
+ * are 0. A host that meets a number it does not know treats it as a refusal.
+ */
+#ifndef LESSON_H
+#define LESSON_H
+
+#include <stdbool.h>
+#include <stddef.h>
+#include <stdint.h>
+
+/* Why a call was refused. Each call makes the tests that concern it, in this
+ * order, and names the first that applies. */
+enum lesson_cause_number {
+    LESSON_GRANTED = 0,             /* not refused */
+    LESSON_TOO_SHORT = 1,           /* book: fewer than 20 bytes */
+    LESSON_WRONG_VERSION = 2,       /* book: version not 1 */
+    LESSON_WRONG_LENGTH = 3,        /* book: length field differs from the bytes lent */
+    LESSON_BROKEN_SECTION = 4,      /* book: a section passes the book's end, its records miss its end,
+                                       their number is not the count, or bytes follow the rule section */
+    LESSON_OUT_OF_RANGE = 5,        /* book: facts, layers or a count outside its range */
+    LESSON_BAD_RECORD = 6,          /* book: a record's length not of its kind, or a layer or a fact
+                                       that the book does not have */
+    LESSON_REPEATED_ARROW = 7,      /* book: two equal arrows */
+    LESSON_CYCLE = 8,               /* book: the arrows lead from a layer back to itself */
+    LESSON_NO_SUCH_LAYER = 9,       /* driven layer that the book does not have */
+    LESSON_BAD_CANDIDATE = 10,      /* candidate of another length, or a spare bit set */
+    LESSON_NO_SUCH_FACT = 11,       /* fact that the book does not have */
+    LESSON_TOO_MANY_BRANCHING = 12, /* more than 20 branching facts */
+    LESSON_BUFFER_TOO_SHORT = 13,   /* buffer shorter than what would be written */
+    LESSON_NO_STABLE_STATE = 14     /* the book has no stable state at the driven layer */
+};
+
+/* The cause that an answer names; LESSON_GRANTED where there is none. */
+static inline enum lesson_cause_number lesson_cause(uint64_t answer)
+{
+    return (enum lesson_cause_number)(answer & 0xFF);
+}
+
+/* Whether the call was granted. */
+static inline bool lesson_granted(uint64_t answer)
+{
+    return (answer & 0xFF) == 0;
+}
+
+#ifdef __cplusplus
+extern "C" {
+#endif
+
+/*
+ * Checks a book. Writes nothing.
+ *
+ * book, book_len: the bytes to check, any number of them. A lawful book has 20
+ * to 38,372 bytes; the length field in the book has to agree with book_len.
+ *
+ * Answers LESSON_GRANTED (the whole number is 0) where the book is accepted,
+ * and else the first of LESSON_TOO_SHORT to LESSON_CYCLE that applies.
+ */
+uint64_t lesson_check(const uint8_t *book, size_t book_len);
+
+#ifdef __cplusplus
+}
+#endif
+
+#endif

@@ -1,0 +1,74 @@
+/* Checks lesson_check from C, through the header: accepted books, each refusal and NULL. */
+#include "lesson.h"
+
+#include <stdio.h>
+#include <string.h>
+
+/* Book B of document 01. */
+static const uint8_t B[48] = {
+    0x01, 0x00, 0x00, 0x00, 0x30, 0x00, 0x03, 0x04,             /* head: 3 facts, 4 layers */
+    0x00, 0x00, 0x00, 0x0C, 0x00, 0x04,                         /* at 8: arrow section */
+    0x02, 0x00, 0x01, 0x02, 0x00, 0x02,                         /* at 14 */
+    0x02, 0x01, 0x03, 0x02, 0x02, 0x03,                         /* at 20 */
+    0x00, 0x00, 0x00, 0x10, 0x00, 0x03,                         /* at 26: rule section */
+    0x05, 0x00, 0x00, 0x00, 0x80, 0x01, 0x03, 0x01, 0x00, 0x02, /* at 32 */
+    0x05, 0x02, 0x80, 0x00, 0x00, 0x02                          /* at 42 */
+};
+
+/* One fact, one layer, no records. */
+static const uint8_t smallest[20] = {1, 0, 0, 0, 20, 0, 1, 1};
+
+static unsigned passed, failed;
+
+static void expect(const char *what, const uint8_t *book, size_t length, uint64_t expected)
+{
+    uint64_t answer = lesson_check(book, length);
+    bool helpers_agree =
+        lesson_granted(answer) == (expected == 0) && lesson_cause(answer) == expected;
+
+    if (answer == expected && helpers_agree) {
+        passed++;
+        printf("ok: %s\n", what);
+    } else {
+        failed++;
+        printf("FAILED: %s: expected %llu, answer %llu\n", what, (unsigned long long)expected,
+               (unsigned long long)answer);
+    }
+}
+
+/* B with other bytes from `at` on. */
+static void expect_edited(const char *what, size_t at, const char *bytes, size_t count,
+                          uint64_t expected)
+{
+    uint8_t book[sizeof B];
+
+    memcpy(book, B, sizeof B);
+    memcpy(book + at, bytes, count);
+    expect(what, book, sizeof book, expected);
+}
+
+int main(void)
+{
+    expect("B is accepted", B, sizeof B, LESSON_GRANTED);
+    expect("the smallest book is accepted", smallest, sizeof smallest, LESSON_GRANTED);
+    expect("NULL with length 0 is too short", NULL, 0, LESSON_TOO_SHORT);
+    expect("19 bytes are too short", smallest, 19, LESSON_TOO_SHORT);
+    expect_edited("version 2", 0, "\x02", 1, LESSON_WRONG_VERSION);
+    expect_edited("length field 49", 4, "\x31", 1, LESSON_WRONG_LENGTH);
+    expect("B without its last byte", B, sizeof B - 1, LESSON_WRONG_LENGTH);
+    expect_edited("arrow count 5", 13, "\x05", 1, LESSON_BROKEN_SECTION);
+    expect_edited("arrow section of 2^32 - 1 bytes", 8, "\xFF\xFF\xFF\xFF", 4,
+                  LESSON_BROKEN_SECTION);
+    expect_edited("no facts", 5, "\x00\x00", 2, LESSON_OUT_OF_RANGE);
+    expect_edited("257 facts", 5, "\x01\x01", 2, LESSON_OUT_OF_RANGE);
+    expect_edited("256 facts are accepted", 5, "\x01\x00", 2, LESSON_GRANTED);
+    expect_edited("33 layers", 7, "\x21", 1, LESSON_OUT_OF_RANGE);
+    expect_edited("a rule of layer 4 of 4", 33, "\x04", 1, LESSON_BAD_RECORD);
+    expect_edited("fact 3 of 3", 41, "\x03", 1, LESSON_BAD_RECORD);
+    expect_edited("two equal arrows", 18, "\x00\x01", 2, LESSON_REPEATED_ARROW);
+    expect_edited("an arrow from a layer to itself", 24, "\x02\x02", 2, LESSON_CYCLE);
+    expect_edited("arrows in a circle", 24, "\x03\x00", 2, LESSON_CYCLE);
+
+    printf("%u passed, %u failed\n", passed, failed);
+    return failed != 0;
+}

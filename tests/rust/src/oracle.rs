@@ -1,0 +1,336 @@
+//! Document 01's definitions by brute force, in its order and words, for small books: every
+//! state is tried. Nothing is clever here, and nothing is shared with the engine.
+
+use crate::book::{Book, Literal, Rule};
+
+/// `below[i][j]`: a path of one or more arrows leads from layer i to layer j.
+pub fn below(book: &Book) -> Vec<Vec<bool>> {
+    let layers = usize::from(book.layers);
+    let mut below = vec![vec![false; layers]; layers];
+    for arrow in &book.arrows {
+        below[usize::from(arrow.earlier)][usize::from(arrow.later)] = true;
+    }
+    loop {
+        let mut added = false;
+        for i in 0..layers {
+            for j in 0..layers {
+                if !below[i][j] && (0..layers).any(|via| below[i][via] && below[via][j]) {
+                    below[i][j] = true;
+                    added = true;
+                }
+            }
+        }
+        if !added {
+            return below;
+        }
+    }
+}
+
+/// Whether a rule counts at the driven layer: its layer is that one or below it.
+fn relevant(below: &[Vec<bool>], rule: &Rule, layer: u8) -> bool {
+    rule.layer == layer || below[usize::from(rule.layer)][usize::from(layer)]
+}
+
+/// Whether each plain literal of the body stands and each negated one does not.
+pub fn body_holds(rule: &Rule, state: &[bool]) -> bool {
+    rule.body
+        .iter()
+        .all(|literal| state[usize::from(literal.atom)] != literal.negated)
+}
+
+/// The names reached: `positive[f]` for "f", `negative[f]` for "not f".
+pub struct Least {
+    pub positive: Vec<bool>,
+    pub negative: Vec<bool>,
+}
+
+impl Least {
+    fn has(&self, literal: &Literal) -> bool {
+        let atom = usize::from(literal.atom);
+        match literal.negated {
+            false => self.positive[atom],
+            true => self.negative[atom],
+        }
+    }
+
+    fn add(&mut self, literal: &Literal) {
+        let atom = usize::from(literal.atom);
+        match literal.negated {
+            false => self.positive[atom] = true,
+            true => self.negative[atom] = true,
+        }
+    }
+}
+
+/// A book at the driven layer.
+pub struct Driven {
+    atoms: usize,
+    below: Vec<Vec<bool>>,
+    /// The relevant rules.
+    rules: Vec<Rule>,
+}
+
+impl Driven {
+    pub fn new(book: &Book, layer: u8) -> Driven {
+        let below = below(book);
+        let mut rules = book.rules.clone();
+        rules.retain(|rule| relevant(&below, rule, layer));
+        Driven {
+            atoms: usize::from(book.atoms),
+            below,
+            rules,
+        }
+    }
+
+    fn is_below(&self, earlier: &Rule, later: &Rule) -> bool {
+        self.below[usize::from(earlier.layer)][usize::from(later.layer)]
+    }
+
+    /// Document 01: displaced. Whether the displacing rule is itself displaced plays no part.
+    pub fn rejected(&self, rule: &Rule, state: &[bool]) -> bool {
+        self.rules.iter().any(|other| {
+            self.is_below(rule, other)
+                && other.head == rule.head.opposite()
+                && body_holds(other, state)
+        })
+    }
+
+    /// Whether "not f" is a default. Displaced rules count too.
+    pub fn default(&self, atom: usize, state: &[bool]) -> bool {
+        !self.rules.iter().any(|rule| {
+            usize::from(rule.head.atom) == atom && !rule.head.negated && body_holds(rule, state)
+        })
+    }
+
+    /// Document 01: the names reached.
+    pub fn least(&self, state: &[bool]) -> Least {
+        let mut least = Least {
+            positive: vec![false; self.atoms],
+            negative: vec![false; self.atoms],
+        };
+        for atom in 0..self.atoms {
+            least.negative[atom] = self.default(atom, state);
+        }
+        loop {
+            let mut added = false;
+            for rule in &self.rules {
+                if !self.rejected(rule, state)
+                    && rule.body.iter().all(|literal| least.has(literal))
+                    && !least.has(&rule.head)
+                {
+                    least.add(&rule.head);
+                    added = true;
+                }
+            }
+            if !added {
+                return least;
+            }
+        }
+    }
+
+    /// Whether `state` is a stable model (document 01: a stable state).
+    pub fn stable(&self, state: &[bool]) -> bool {
+        let least = self.least(state);
+        (0..self.atoms)
+            .all(|atom| least.positive[atom] == state[atom] && least.negative[atom] != state[atom])
+    }
+
+    /// Whether each atom branches.
+    pub fn branching(&self) -> Vec<bool> {
+        let mut branching = vec![false; self.atoms];
+        for rule in &self.rules {
+            let may_reject = self
+                .rules
+                .iter()
+                .any(|lower| self.is_below(lower, rule) && lower.head == rule.head.opposite());
+            for literal in &rule.body {
+                if literal.negated || may_reject {
+                    branching[usize::from(literal.atom)] = true;
+                }
+            }
+        }
+        branching
+    }
+
+    /// Document 01: g.
+    pub fn branching_count(&self) -> usize {
+        self.branching()
+            .iter()
+            .filter(|&&branches| branches)
+            .count()
+    }
+
+    /// The stable models in the order of their records: all 2^n states are tried, those in which
+    /// an earlier atom does not stand first.
+    pub fn stable_models(&self) -> Vec<Vec<bool>> {
+        assert!(self.atoms <= 20, "too many atoms to try every state");
+        let state = |number: u32| -> Vec<bool> {
+            (0..self.atoms)
+                .map(|atom| number >> (self.atoms - 1 - atom) & 1 == 1)
+                .collect()
+        };
+        (0..1 << self.atoms)
+            .map(state)
+            .filter(|state| self.stable(state))
+            .collect()
+    }
+
+    /// The bytes of the whole listing.
+    pub fn listing(&self) -> Vec<u8> {
+        let models = self.stable_models();
+        let records: Vec<u8> = models.iter().flat_map(|model| record(model)).collect();
+        let mut listing = vec![1];
+        listing.extend_from_slice(&(11 + records.len() as u32).to_be_bytes());
+        listing.extend_from_slice(&(self.atoms as u16).to_be_bytes());
+        listing.extend_from_slice(&(models.len() as u32).to_be_bytes());
+        listing.extend_from_slice(&records);
+        listing
+    }
+}
+
+/// The record of a state: fact f is bit 7 - (f mod 8) of byte f div 8.
+pub fn record(state: &[bool]) -> Vec<u8> {
+    let mut record = vec![0; state.len().div_ceil(8)];
+    for (atom, _) in state.iter().enumerate().filter(|(_, &stands)| stands) {
+        record[atom / 8] |= 1 << (7 - atom % 8);
+    }
+    record
+}
+
+#[cfg(test)]
+mod tests {
+    use super::*;
+    use crate::book::{hex, not, plain};
+    use crate::reader;
+    use crate::rng::{seed, Rng};
+    use crate::shapes;
+
+    const P: u16 = 0;
+    const Q: u16 = 1;
+
+    /// One starred example: the records, one byte each, and g where document 01 gives it.
+    fn assert_example(book: &Book, layer: u8, records: &[u8], g: Option<usize>) {
+        assert_eq!(reader::read(&book.bytes()).as_ref(), Ok(book));
+        let driven = Driven::new(book, layer);
+        let mut listing = vec![1, 0, 0, 0, 11 + records.len() as u8, 0, book.atoms as u8];
+        listing.extend_from_slice(&(records.len() as u32).to_be_bytes());
+        listing.extend_from_slice(records);
+        assert_eq!(hex(&driven.listing()), hex(&listing));
+        if let Some(g) = g {
+            assert_eq!(driven.branching_count(), g);
+        }
+    }
+
+    #[test]
+    fn book_b_at_3_has_the_listing_of_document_01() {
+        let driven = Driven::new(&reader::read(&shapes::B).unwrap(), 3);
+        assert_eq!(hex(&driven.listing()), "010000000C00030000000120");
+        assert_eq!(driven.branching_count(), 2);
+    }
+
+    #[test]
+    fn book_b_at_1_and_at_2() {
+        assert_example(&shapes::book_b(), 1, &[0xA0], Some(1));
+        assert_example(&shapes::book_b(), 2, &[0x80], Some(2));
+    }
+
+    #[test]
+    fn p_if_not_q_and_q_if_not_p() {
+        let book = Book::new(2, 1)
+            .rule(0, plain(P), &[not(Q)])
+            .rule(0, plain(Q), &[not(P)]);
+        assert_example(&book, 0, &[0x40, 0x80], Some(2));
+    }
+
+    #[test]
+    fn p_if_not_p() {
+        let book = Book::new(1, 1).rule(0, plain(P), &[not(P)]);
+        assert_example(&book, 0, &[], None);
+    }
+
+    #[test]
+    fn p_and_not_p_in_one_layer() {
+        let book = Book::new(1, 1).rule(0, plain(P), &[]).rule(0, not(P), &[]);
+        assert_example(&book, 0, &[], Some(0));
+    }
+
+    #[test]
+    fn p_if_p() {
+        let book = Book::new(1, 1).rule(0, plain(P), &[plain(P)]);
+        assert_example(&book, 0, &[0x00], Some(0));
+    }
+
+    #[test]
+    fn p_and_not_p_in_unrelated_layers() {
+        let book = Book::new(1, 3)
+            .arrow(0, 2)
+            .arrow(1, 2)
+            .rule(0, plain(P), &[])
+            .rule(1, not(P), &[]);
+        assert_example(&book, 2, &[], None);
+    }
+
+    #[test]
+    fn each_of_two_rules_displaces_what_the_other_leans_on() {
+        let book = Book::new(2, 2)
+            .arrow(0, 1)
+            .rule(0, plain(P), &[])
+            .rule(0, plain(Q), &[])
+            .rule(1, not(P), &[plain(Q)])
+            .rule(1, not(Q), &[plain(P)]);
+        assert_example(&book, 1, &[0x40, 0x80], Some(2));
+    }
+
+    #[test]
+    fn not_p_if_not_p_above_p() {
+        let book = Book::new(1, 2)
+            .arrow(0, 1)
+            .rule(0, plain(P), &[])
+            .rule(1, not(P), &[not(P)]);
+        assert_example(&book, 1, &[0x80], None);
+    }
+
+    #[test]
+    fn p_if_p_above_p_and_not_p() {
+        let book = Book::new(1, 2)
+            .arrow(0, 1)
+            .rule(0, plain(P), &[])
+            .rule(0, not(P), &[])
+            .rule(1, plain(P), &[plain(P)]);
+        assert_example(&book, 1, &[0x80], None);
+    }
+
+    /// Document 01's remark on branching facts, the rise of the records and k <= 2^g, which hold
+    /// of every book, tried on many.
+    #[test]
+    fn stable_models_differ_on_branching_atoms_and_their_records_rise() {
+        let seed = seed();
+        let mut rng = Rng::named(seed, "branching");
+        let mut several = 0;
+        for turn in 0..1_000 {
+            let book = match turn % 2 {
+                0 => shapes::small(&mut rng),
+                _ => shapes::choices(&mut rng),
+            };
+            for layer in 0..book.layers {
+                let driven = Driven::new(&book, layer);
+                let models = driven.stable_models();
+                let told = format!("seed {seed}, layer {layer}, book {}", hex(&book.bytes()));
+                for (i, model) in models.iter().enumerate() {
+                    for earlier in &models[..i] {
+                        assert!(record(earlier) < record(model), "{told}");
+                        let differs = |atom| earlier[atom] != model[atom];
+                        let branching = driven.branching();
+                        assert!(
+                            (0..driven.atoms).any(|f| branching[f] && differs(f)),
+                            "{told}"
+                        );
+                    }
+                }
+                assert!(models.len() <= 1 << driven.branching_count(), "{told}");
+                several += usize::from(models.len() > 1);
+            }
+        }
+        assert!(several > 300, "only {several} books with several states");
+    }
+}

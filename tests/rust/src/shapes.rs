@@ -1,0 +1,562 @@
+//! Books of every shape, lawful and not. The same generator state gives the same book.
+
+use crate::book::{framed, not, plain, set_length, Arrow, Book, Draft, Literal, Rule, Section};
+use crate::rng::Rng;
+
+/// Book B, byte by byte as document 01 has it.
+pub const B: [u8; 48] = [
+    0x01, 0x00, 0x00, 0x00, 0x30, 0x00, 0x03, 0x04, // version, length, facts, layers
+    0x00, 0x00, 0x00, 0x0C, 0x00, 0x04, // arrow section
+    0x02, 0x00, 0x01, 0x02, 0x00, 0x02, 0x02, 0x01, 0x03, 0x02, 0x02, 0x03, //
+    0x00, 0x00, 0x00, 0x10, 0x00, 0x03, // rule section
+    0x05, 0x00, 0x00, 0x00, 0x80, 0x01, // a if not b
+    0x03, 0x01, 0x00, 0x02, // c
+    0x05, 0x02, 0x80, 0x00, 0x00, 0x02, // not a if c
+];
+
+/// Book B as a value: a, b, c are 0, 1, 2; t, u, v, w are layers 0 to 3.
+pub fn book_b() -> Book {
+    Book::new(3, 4)
+        .arrow(0, 1)
+        .arrow(0, 2)
+        .arrow(1, 3)
+        .arrow(2, 3)
+        .rule(0, plain(0), &[not(1)])
+        .rule(1, plain(2), &[])
+        .rule(2, not(0), &[plain(2)])
+}
+
+/// One fact, one layer, no records: 20 bytes.
+pub fn smallest() -> Book {
+    Book::new(1, 1)
+}
+
+/// What a lawful book is to have.
+struct Sizes {
+    atoms: usize,
+    layers: usize,
+    arrows: usize,
+    rules: usize,
+    /// The fewest and the most body literals.
+    body: (usize, usize),
+    /// How many heads of a hundred are negated.
+    negated_heads: usize,
+}
+
+/// A lawful book. The layers stand in a hidden order, and all arrows follow it. Equal rules and
+/// repeated body literals come up.
+fn lawful(rng: &mut Rng, sizes: Sizes) -> Book {
+    let mut book = Book::new(sizes.atoms as u16, sizes.layers as u8);
+    book.arrows = all_arrows(&hidden_order(rng, sizes.layers));
+    rng.shuffle(&mut book.arrows);
+    book.arrows.truncate(sizes.arrows);
+    for _ in 0..sizes.rules {
+        let rule = match book.rules.is_empty() || rng.chance(95) {
+            true => rule(rng, &sizes),
+            false => book.rules[rng.below(book.rules.len())].clone(),
+        };
+        book.rules.push(rule);
+    }
+    book
+}
+
+fn hidden_order(rng: &mut Rng, layers: usize) -> Vec<u8> {
+    let mut order: Vec<u8> = (0..layers as u8).collect();
+    rng.shuffle(&mut order);
+    order
+}
+
+/// Every arrow that leads forward in `order`.
+fn all_arrows(order: &[u8]) -> Vec<Arrow> {
+    let mut arrows = Vec::new();
+    for (at, &later) in order.iter().enumerate() {
+        arrows.extend(order[..at].iter().map(|&earlier| Arrow { earlier, later }));
+    }
+    arrows
+}
+
+fn rule(rng: &mut Rng, sizes: &Sizes) -> Rule {
+    let (fewest, most) = sizes.body;
+    Rule {
+        layer: rng.below(sizes.layers) as u8,
+        head: literal(rng, sizes.atoms, sizes.negated_heads),
+        body: (0..rng.range(fewest, most))
+            .map(|_| literal(rng, sizes.atoms, 50))
+            .collect(),
+    }
+}
+
+fn literal(rng: &mut Rng, atoms: usize, negated: usize) -> Literal {
+    Literal {
+        atom: rng.below(atoms) as u16,
+        negated: rng.chance(negated),
+    }
+}
+
+fn pairs(layers: usize) -> usize {
+    layers * (layers - 1) / 2
+}
+
+/// A lawful book that an oracle can try every state of.
+pub fn small(rng: &mut Rng) -> Book {
+    let layers = rng.range(1, 6);
+    let sizes = Sizes {
+        atoms: rng.range(1, 8),
+        layers,
+        arrows: rng.range(0, pairs(layers)),
+        rules: rng.range(0, 12),
+        body: rng.pick(&[(0, 0), (0, 1), (0, 2), (0, 4), (1, 1), (1, 2), (1, 3)]),
+        negated_heads: rng.pick(&[0, 10, 30, 50]),
+    };
+    lawful(rng, sizes)
+}
+
+/// A small lawful book with choices in it, so that several stable states are common.
+pub fn choices(rng: &mut Rng) -> Book {
+    let layers = rng.range(1, 4);
+    let sizes = Sizes {
+        atoms: rng.range(2, 8),
+        layers,
+        arrows: rng.range(0, pairs(layers)),
+        rules: rng.range(0, 5),
+        body: (1, 3),
+        negated_heads: rng.pick(&[0, 20, 50]),
+    };
+    let mut book = lawful(rng, sizes);
+    for _ in 0..rng.range(1, 4) {
+        let a = rng.below(usize::from(book.atoms)) as u16;
+        let b = (a + 1) % book.atoms;
+        let layer = rng.below(layers) as u8;
+        book = match (rng.below(3), book.arrows.first().copied()) {
+            (1, Some(arrow)) => book
+                .rule(arrow.earlier, plain(a), &[])
+                .rule(arrow.earlier, plain(b), &[])
+                .rule(arrow.later, not(a), &[plain(b)])
+                .rule(arrow.later, not(b), &[plain(a)]),
+            (2, Some(arrow)) => book
+                .rule(arrow.earlier, plain(a), &[])
+                .rule(arrow.earlier, not(a), &[])
+                .rule(arrow.later, plain(a), &[plain(a)])
+                .rule(arrow.later, not(a), &[not(a)]),
+            _ => book
+                .rule(layer, plain(a), &[not(b)])
+                .rule(layer, plain(b), &[not(a)]),
+        };
+    }
+    rng.shuffle(&mut book.rules);
+    book
+}
+
+/// A lawful book with something in it to damage: an arrow and a rule at least.
+fn eventful(rng: &mut Rng) -> Book {
+    loop {
+        let book = small(rng);
+        if !book.arrows.is_empty() && !book.rules.is_empty() {
+            return book;
+        }
+    }
+}
+
+/// A lawful book of any size.
+pub fn large(rng: &mut Rng) -> Book {
+    let layers = rng.range(1, 32);
+    let sizes = Sizes {
+        atoms: rng.range(1, 256),
+        layers,
+        arrows: rng.range(0, pairs(layers)),
+        rules: rng.range(0, 1024),
+        body: (0, 16),
+        negated_heads: 50,
+    };
+    lawful(rng, sizes)
+}
+
+/// The largest lawful book: 38,372 bytes. Its arrows are those of a line of 32 layers, all of
+/// them, and the first of its arrows leads from the line's first layer to its last.
+pub fn largest(rng: &mut Rng) -> Book {
+    let sizes = Sizes {
+        atoms: 256,
+        layers: 32,
+        arrows: 0,
+        rules: 1024,
+        body: (16, 16),
+        negated_heads: 50,
+    };
+    let mut book = lawful(rng, sizes);
+    let order = hidden_order(rng, 32);
+    let ends = Arrow {
+        earlier: order[0],
+        later: order[31],
+    };
+    let mut others = all_arrows(&order);
+    others.retain(|&arrow| arrow != ends);
+    rng.shuffle(&mut others);
+    book.arrows = vec![ends];
+    book.arrows.extend(others);
+    book
+}
+
+/// Few layers and arrows between any two of them: equal arrows, self-arrows and cycles come up.
+pub fn arrow_graph(rng: &mut Rng) -> Book {
+    let layers = rng.pick(&[1, 2, 3, 4, 6, 9, 16, 32]);
+    let mut book = Book::new(1, layers as u8);
+    let number = rng.range(0, layers + 1);
+    let forward = rng.chance(50);
+    for _ in 0..number {
+        let (a, b) = (rng.below(layers) as u8, rng.below(layers) as u8);
+        let turned = forward && a > b;
+        book = book.arrow(if turned { b } else { a }, if turned { a } else { b });
+    }
+    book
+}
+
+/// A line of layers through a hidden order, closed to a circle half of the time.
+pub fn line_or_circle(rng: &mut Rng) -> Book {
+    let layers = rng.range(1, 32);
+    let order = hidden_order(rng, layers);
+    let mut book = Book::new(1, layers as u8);
+    for two in order.windows(2) {
+        book = book.arrow(two[0], two[1]);
+    }
+    if rng.chance(50) {
+        book = book.arrow(order[layers - 1], order[0]);
+    }
+    rng.shuffle(&mut book.arrows);
+    book
+}
+
+pub fn small_lawful(rng: &mut Rng) -> Vec<u8> {
+    small(rng).bytes()
+}
+
+pub fn large_lawful(rng: &mut Rng) -> Vec<u8> {
+    large(rng).bytes()
+}
+
+pub fn arrow_graphs(rng: &mut Rng) -> Vec<u8> {
+    match rng.chance(70) {
+        true => arrow_graph(rng).bytes(),
+        false => line_or_circle(rng).bytes(),
+    }
+}
+
+/// A lawful book cut off, with the length field as it was or as it would have to be.
+pub fn truncated(rng: &mut Rng) -> Vec<u8> {
+    let mut bytes = small(rng).bytes();
+    bytes.truncate(rng.below(bytes.len()));
+    if rng.chance(60) {
+        repair_length(&mut bytes);
+    }
+    bytes
+}
+
+/// B or a lawful book with one byte changed.
+pub fn damaged_once(rng: &mut Rng) -> Vec<u8> {
+    damaged(rng, 1)
+}
+
+/// B or a lawful book with two bytes changed.
+pub fn damaged_twice(rng: &mut Rng) -> Vec<u8> {
+    damaged(rng, 2)
+}
+
+fn damaged(rng: &mut Rng, times: usize) -> Vec<u8> {
+    let mut bytes = match rng.chance(30) {
+        true => B.to_vec(),
+        false => small(rng).bytes(),
+    };
+    for _ in 0..times {
+        // Small values keep records and sections close to lawful ones.
+        let value = match rng.chance(50) {
+            true => rng.below(8) as u8,
+            false => rng.byte(),
+        };
+        let at = rng.below(bytes.len());
+        bytes[at] = if bytes[at] == value { !value } else { value };
+    }
+    bytes
+}
+
+/// A large lawful book with one or two bytes changed, the length field left alone.
+pub fn large_damaged(rng: &mut Rng) -> Vec<u8> {
+    let mut bytes = large(rng).bytes();
+    for _ in 0..rng.range(1, 2) {
+        let at = rng.range(5, bytes.len() - 1);
+        bytes[at] ^= 1 << rng.below(8);
+    }
+    bytes
+}
+
+/// Bytes put in or taken out somewhere, with the length field repaired.
+pub fn resized(rng: &mut Rng) -> Vec<u8> {
+    let mut bytes = small(rng).bytes();
+    for _ in 0..rng.range(1, 3) {
+        let at = rng.range(5, bytes.len() - 1);
+        match rng.chance(50) {
+            true => bytes.insert(at, rng.below(4) as u8),
+            false => drop(bytes.remove(at)),
+        }
+    }
+    repair_length(&mut bytes);
+    bytes
+}
+
+/// A section's size field that misses the end of its records, or bytes behind the rule section.
+pub fn missed_ends(rng: &mut Rng) -> Vec<u8> {
+    let mut draft = small(rng).draft();
+    miss_an_end(rng, &mut draft);
+    draft.bytes()
+}
+
+/// A count that is not the number of records.
+pub fn wrong_counts(rng: &mut Rng) -> Vec<u8> {
+    let mut draft = small(rng).draft();
+    miscount(rng, &mut draft);
+    draft.bytes()
+}
+
+/// Facts, layers and counts around their bounds.
+pub fn odd_ranges(rng: &mut Rng) -> Vec<u8> {
+    let mut draft = small(rng).draft();
+    if rng.chance(70) {
+        draft.atoms = rng.pick(&[
+            0, 1, 2, 255, 256, 257, 258, 511, 512, 0x8000, 0x8001, 0xFFFF,
+        ]);
+    }
+    if rng.chance(70) {
+        draft.layers = rng.pick(&[0, 1, 2, 31, 32, 33, 34, 64, 128, 255]);
+    }
+    if rng.chance(5) {
+        draft.rules.records = vec![framed(&[0, 0, 0]); rng.range(1020, 1028)];
+    }
+    if rng.chance(5) {
+        draft.layers = 32;
+        let arrows = all_arrows(&hidden_order(rng, 32));
+        let records = arrows
+            .iter()
+            .map(|arrow| framed(&[arrow.earlier, arrow.later]));
+        draft.arrows.records = records.collect();
+        let spare = framed(&[0, rng.below(32) as u8]);
+        draft.arrows.records.resize(rng.range(494, 499), spare);
+    }
+    draft.bytes()
+}
+
+/// A well-framed record whose length is not of its kind, or with a layer or a fact too high.
+pub fn unlawful_records(rng: &mut Rng) -> Vec<u8> {
+    let book = eventful(rng);
+    let mut draft = book.draft();
+    break_a_record(rng, &book, &mut draft);
+    draft.bytes()
+}
+
+/// Sections of random records behind a lawful or nearly lawful head.
+pub fn random_records(rng: &mut Rng) -> Vec<u8> {
+    let mut section = |lengths: &[usize]| {
+        let mut records = Vec::new();
+        for _ in 0..rng.range(0, 3) {
+            let length = rng.pick(lengths);
+            let contents: Vec<u8> = (0..length).map(|_| rng.below(3) as u8).collect();
+            records.push(framed(&contents));
+        }
+        Section::new(records)
+    };
+    let arrows = section(&[2, 2, 2, 2, 2, 2, 0, 1, 3]);
+    let rules = section(&[3, 3, 5, 5, 7, 35, 0, 1, 2, 4, 37, 255]);
+    let mut draft = Book::new(rng.range(1, 300) as u16, rng.range(1, 6) as u8).draft();
+    draft.arrows = arrows;
+    draft.rules = rules;
+    draft.bytes()
+}
+
+/// Random bytes, most of them with a lawful version and length.
+pub fn noise(rng: &mut Rng) -> Vec<u8> {
+    let number = rng.below(120);
+    let mut bytes: Vec<u8> = (0..number)
+        .map(|_| match rng.chance(60) {
+            true => rng.below(4) as u8,
+            false => rng.byte(),
+        })
+        .collect();
+    if number > 8 && rng.chance(80) {
+        bytes[0] = 1;
+        repair_length(&mut bytes);
+    }
+    if number > 14 && rng.chance(80) {
+        let size = rng.below(number) as u8;
+        bytes[8..14].copy_from_slice(&[0, 0, 0, size, 0, size / 3]);
+    }
+    bytes
+}
+
+/// Some of the causes at once, any of them.
+pub fn several_causes(rng: &mut Rng) -> Vec<u8> {
+    let causes = rng.below(256) & rng.below(256) & rng.below(256);
+    with_causes(rng, causes as u8)
+}
+
+/// A name for messages, and a generator.
+pub type Shape = (&'static str, fn(&mut Rng) -> Vec<u8>);
+
+pub const EVERY_SHAPE: [Shape; 15] = [
+    ("small lawful", small_lawful),
+    ("large lawful", large_lawful),
+    ("arrow graphs", arrow_graphs),
+    ("truncated", truncated),
+    ("damaged once", damaged_once),
+    ("damaged twice", damaged_twice),
+    ("large damaged", large_damaged),
+    ("resized", resized),
+    ("missed ends", missed_ends),
+    ("wrong counts", wrong_counts),
+    ("odd ranges", odd_ranges),
+    ("unlawful records", unlawful_records),
+    ("random records", random_records),
+    ("noise", noise),
+    ("several causes", several_causes),
+];
+
+/// A book to which each cause of `causes` applies (bit c - 1 for cause c), and none smaller than
+/// the smallest of them. With no cause the book is lawful.
+pub fn with_causes(rng: &mut Rng, causes: u8) -> Vec<u8> {
+    let wanted = |cause: u8| causes >> (cause - 1) & 1 == 1;
+    let lawful = eventful(rng);
+    let mut book = lawful.clone();
+    if wanted(8) {
+        close_a_cycle(rng, &mut book);
+    }
+    if wanted(7) {
+        let arrow = rng.pick(&lawful.arrows);
+        book.arrows.push(arrow);
+    }
+    rng.shuffle(&mut book.arrows);
+    let mut draft = book.draft();
+    if wanted(6) {
+        break_a_record(rng, &lawful, &mut draft);
+    }
+    if wanted(5) {
+        leave_a_range(rng, &mut draft);
+    }
+    if wanted(4) {
+        match rng.chance(50) {
+            true => miss_an_end(rng, &mut draft),
+            false => miscount(rng, &mut draft),
+        }
+    }
+    if wanted(3) {
+        let right = draft.bytes().len() as u32;
+        let wrong = [right - 1, right + 1, right << 8, 0, u32::MAX, !right];
+        draft.length = Some(rng.pick(&wrong));
+    }
+    if wanted(2) {
+        draft.version = rng.pick(&[0, 2, 3, 129, 255]);
+    }
+    let mut bytes = draft.bytes();
+    if wanted(1) {
+        bytes.truncate(rng.below(20));
+    }
+    bytes
+}
+
+fn repair_length(bytes: &mut [u8]) {
+    let length = bytes.len() as u32;
+    set_length(bytes, length);
+}
+
+/// Adds an arrow that closes a cycle and equals no other: a self-arrow, or an arrow turned round.
+fn close_a_cycle(rng: &mut Rng, book: &mut Book) {
+    let Arrow { earlier, later } = rng.pick(&book.arrows);
+    book.arrows.push(match rng.chance(50) {
+        true => Arrow {
+            earlier: later,
+            later: earlier,
+        },
+        false => Arrow {
+            earlier,
+            later: earlier,
+        },
+    });
+}
+
+fn any_section<'a>(rng: &mut Rng, draft: &'a mut Draft) -> &'a mut Section {
+    match rng.chance(50) {
+        true => &mut draft.arrows,
+        false => &mut draft.rules,
+    }
+}
+
+/// Cause 4 by a size field that is not the size, or by bytes behind the rule section.
+fn miss_an_end(rng: &mut Rng, draft: &mut Draft) {
+    if rng.chance(15) {
+        draft.tail = vec![0; rng.range(1, 8)];
+        return;
+    }
+    let section = any_section(rng, draft);
+    let size = section.true_size();
+    let delta = rng.range(1, 8) as u32;
+    let wrong = match rng.below(6) {
+        0 => size.wrapping_sub(delta),
+        1 => size + delta,
+        2 => size + 6, // up to the end of the next section's fields
+        3 => u32::MAX,
+        4 => u32::MAX - rng.below(40) as u32, // sums with an offset wrap round
+        _ => size | 1 << rng.range(16, 31),
+    };
+    section.size = Some(wrong);
+}
+
+/// Cause 4 by a count that is not the number of records.
+fn miscount(rng: &mut Rng, draft: &mut Draft) {
+    let section = any_section(rng, draft);
+    let number = section.records.len() as u16;
+    let wrong = [number + 1, number + 256, number.wrapping_sub(1), u16::MAX];
+    section.count = Some(rng.pick(&wrong));
+}
+
+/// Cause 5 by one of the four ranges.
+fn leave_a_range(rng: &mut Rng, draft: &mut Draft) {
+    match rng.below(10) {
+        0..=3 => draft.atoms = rng.pick(&[0, 257, 512, 0x8000, 0xFFFF]),
+        4..=7 => draft.layers = rng.pick(&[0, 33, 64, 255]),
+        8 => draft
+            .arrows
+            .records
+            .resize(rng.range(497, 520), framed(&[0, 0])),
+        _ => draft
+            .rules
+            .records
+            .resize(rng.range(1025, 1040), framed(&[0, 0, 0])),
+    }
+}
+
+/// Cause 6 by one record that a book with the facts and layers of `book` cannot have.
+fn break_a_record(rng: &mut Rng, book: &Book, draft: &mut Draft) {
+    let layer = rng.pick(&[book.layers, book.layers + 1, 32, 255]);
+    if rng.chance(40) {
+        let at = rng.below(draft.arrows.records.len());
+        let record = &mut draft.arrows.records[at];
+        match rng.below(3) {
+            0 => record[1] = layer,
+            1 => record[2] = layer,
+            _ => *record = framed(&vec![0; rng.pick(&[0, 1, 3, 5, 255])]),
+        }
+        return;
+    }
+    let at = rng.below(draft.rules.records.len());
+    let record = &mut draft.rules.records[at];
+    match rng.below(3) {
+        0 => record[1] = layer,
+        1 => {
+            let atom = rng.pick(&[book.atoms, book.atoms + 1, 256, 0x7FFF]);
+            let sign = rng.pick(&[0, 0x8000]);
+            let at = 2 + 2 * rng.below((record.len() - 2) / 2);
+            record[at..at + 2].copy_from_slice(&(atom | sign).to_be_bytes());
+        }
+        _ => {
+            *record = framed(&vec![
+                0;
+                rng.pick(&[0, 1, 2, 4, 6, 34, 36, 37, 39, 254, 255])
+            ])
+        }
+    }
+}
