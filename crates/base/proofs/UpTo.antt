@@ -16,6 +16,10 @@ pub passed : (c : Bool) → T c → c ≡ true
 passed true t = refl
 passed false t = absurd t
 
+pub failed : (c : Bool) → (T c → ⊥) → c ≡ false
+failed true f = absurd (f tt)
+failed false f = refl
+
 -- the members of upTo n are the numbers below n
 pub upTo-lt : (n f : ℕ) → f ∈ upTo n → f < n
 unfolding upTo

@@ -18,3 +18,10 @@ pub fn wide(x: u8) -> usize
 {
     x as usize
 }
+
+// A table's 16-bit entry as a length or an index.
+pub fn wide16(x: u16) -> usize
+    ensures { λ r. ⌜ (r ≡ x) × (r < 65536) ⌝ }
+{
+    x as usize
+}

@@ -1,4 +1,4 @@
--- Laws for the tests on records' contents: arrows, literals and rules as the code reads them.
+-- Laws for the tests on records' contents: arrows and rules as the code reads them.
 -- Assumes nothing.
 use mathlib.Core.Path.{_≡_, refl, sym, ap, subst, _∙_}
 use mathlib.Core.Bool.{Bool, true, false, not, _&&_, _||_, false≢true}
@@ -30,35 +30,6 @@ module _ (l : ℕ) (r : List ℕ) where
   pub arrow-later : (x y : ℕ) → x ≡ getD r 0 0 → y ≡ getD r 1 0 → length r ≡ 2 → x < l → ltb y l ≡ arrowOk l r
   unfolding arrowOk arrowOf
   arrow-later x y e f q h = sym (rw (eq-eqb _ _ q, lt-ltb (getD r 0 0) l (omega arith), f) refl)
-
--- literals, two bytes each
-module _ (p : Literal → Bool) (s : List ℕ) (i : ℕ) (h : 2 ≤ length s - i) where
-  two-more : drop i s ≡ getD s i 0 ∷ getD s (i + 1) 0 ∷ drop (i + 2) s
-  two-more =
-      drop-cons s i 0 (omega arith)
-      ∙ ap (λ (t : List ℕ). getD s i 0 ∷ t) (drop-cons s (suc i) 0 (omega arith))
-      ∙ ap (λ (k : ℕ). getD s i 0 ∷ getD s k 0 ∷ drop (suc k) s) {x = suc i} {y = i + 1} (omega arith)
-      ∙ ap (λ (k : ℕ). getD s i 0 ∷ getD s (i + 1) 0 ∷ drop k s) {x = suc (i + 1)} {y = i + 2} (omega arith)
-
-  module _ (r : Bool) (e : r ≡ p (literalOf (getD s i 0) (getD s (i + 1) 0))) where
-    lits-step : all p (literalsOf (drop i s)) ≡ (r && all p (literalsOf (drop (i + 2) s)))
-    unfolding all literalsOf
-    lits-step = ap (λ (t : List ℕ). all p (literalsOf t)) two-more ∙ ap (λ (c : Bool). c && all p (literalsOf (drop (i + 2) s))) (sym e)
-
-    pub lits-fails : r ≡ false → all p (literalsOf (drop i s)) ≡ false
-    lits-fails q = lits-step ∙ ap (λ (c : Bool). c && all p (literalsOf (drop (i + 2) s))) q
-
-    pub lits-more : r ≡ true → all p (literalsOf (drop i s)) ≡ all p (literalsOf (drop (i + 2) s))
-    lits-more q = lits-step ∙ ap (λ (c : Bool). c && all p (literalsOf (drop (i + 2) s))) q
-
-few : (p : Literal → Bool) (s : List ℕ) → length s < 2 → all p (literalsOf s) ≡ true
-unfolding all literalsOf
-few p [] h = refl
-few p (a ∷ []) h = refl
-few p (a ∷ (b ∷ s)) h = absurd (omega arith)
-
-pub lits-done : (p : Literal → Bool) (s : List ℕ) (i : ℕ) → length s - i < 2 → all p (literalsOf (drop i s)) ≡ true
-lits-done p s i h = few p (drop i s) (simp length-drop (omega arith))
 
 -- the length of a rule
 off-length : (k : ℕ) → ((b : ℕ) → b < 17 → k ≡ 3 + 2 * b → ⊥) → ruleLength k ≡ false

@@ -3,6 +3,7 @@
 use Rattle.layers.specs.Layers.{link}
 use mathlib.Core.Path.{_≡_, refl, sym, ap, subst, _∙_}
 use mathlib.Core.Bool.{Bool, true, false, not, _&&_, _||_, false≢true}
+use mathlib.Core.Logic.{_⊎_, inl, inr}
 use mathlib.Core.List.{List, [], _∷_, map}
 use Prim.Native.Nat.{ℕ, zero, suc, _+_, _*_, _-_, _/_, _%_, _^_, _<_, _≤_, min, max}
 use native.Mathlib.Omega.{arith}
@@ -10,13 +11,13 @@ use native.Mathlib.Nat.{zero-div, div-eq-of-lt, div-self, mod-eq-of-lt, mul-div-
 use native.Mathlib.Decide.{decLt, ℕ-discrete}
 use borrow.Author.Tests.{eq-eqb, ne-eqb, eqb-true, ltb-true}
 use lib.Pow.{pow-pos, pow-lt, pow-add}
-use lib.Bits.{bitOr, shifted-even}
+use lib.Bits.{bitOr, bitAnd, and-step, and-shr}
 use lib.Dec.{T, eqb, ltb}
 use lib.ListN.{length, getD, set, take, drop, length-take, length-drop, replicate}
 use lib.Seq.{getD-set-same, getD-set-other, getD-take, getD-drop}
 use Rattle.layers.specs.Layers.{Arrow, sameArrow}
 use Rattle.layers.specs.Masks.{bitOf, marked}
-use Rattle.layers.proofs.WarshallLaws.{bit-or}
+use Rattle.layers.proofs.WarshallLaws.{bit-or, bit-small}
 
 pub or-true : (b : Bool) → true ≡ (b || true)
 or-true true = refl
@@ -39,10 +40,10 @@ and-right true b e = e
 and-right false b e = absurd (false≢true e)
 
 -- the bits of a power of two
-pow-fits : (j : ℕ) → j < 32 → 1 * 2 ^ j % 4294967296 ≡ 2 ^ j
+pub pow-fits : (j : ℕ) → j < 32 → 1 * 2 ^ j % 4294967296 ≡ 2 ^ j
 pow-fits j h = let b : 2 ^ j < 2 ^ 32 = pow-lt h in mod-eq-of-lt {n = 1 * 2 ^ j} {m = 4294967296} (omega arith) ∙ omega arith
 
-bit-same : (j : ℕ) → bitOf (2 ^ j) j ≡ 1
+pub bit-same : (j : ℕ) → bitOf (2 ^ j) j ≡ 1
 bit-same j =
     let e : 2 ^ j / 2 ^ j ≡ 1 = div-self (pow-pos j) in
     rw e refl
@@ -55,15 +56,36 @@ bit-under y d =
     let e : 2 ^ (suc d + y) / 2 ^ y ≡ 2 ^ suc d = ap (λ (k : ℕ). k / 2 ^ y) (pow-add 2 (suc d) y) ∙ mul-div-cancel (2 ^ suc d) (pow-pos y) in
     rw (e, pow-suc 2 d) (omega arith)
 
-bit-other : (j y : ℕ) → (j ≡ y → ⊥) → bitOf (2 ^ j) y ≡ 0
+pub bit-other : (j y : ℕ) → (j ≡ y → ⊥) → bitOf (2 ^ j) y ≡ 0
 bit-other j y n = go (decLt j y)
   where
     go : Dec (j < y) → bitOf (2 ^ j) y ≡ 0
     go (yes h) = bit-above j y h
     go (no h) = let e : suc (j - y - 1) + y ≡ j = omega arith in subst (λ (k : ℕ). bitOf (2 ^ k) y ≡ 0) e (bit-under y (j - y - 1))
 
-small : (a j : ℕ) → bitOf a j < 2
-small a j = omega arith
+-- a bit of two masks joined, or of what they share
+module _ (a b i : ℕ) where
+  pub or-cases : bitOf (bitOr a b) i ≡ 1 → (bitOf a i ≡ 1) ⊎ (bitOf b i ≡ 1)
+  or-cases e = go (ℕ-discrete (bitOf a i) 1)
+    where
+      go : Dec (bitOf a i ≡ 1) → (bitOf a i ≡ 1) ⊎ (bitOf b i ≡ 1)
+      go (yes h) = inl h
+      go (no h) = inr (omega (arith, bit-or a b i, bit-small a i, bit-small b i))
+
+  pub or-left : bitOf a i ≡ 1 → bitOf (bitOr a b) i ≡ 1
+  or-left e = omega (arith, bit-or a b i, bit-small b i)
+
+  pub or-right : bitOf b i ≡ 1 → bitOf (bitOr a b) i ≡ 1
+  or-right e = omega (arith, bit-or a b i, bit-small a i)
+
+  bit-and : bitOf (bitAnd a b) i ≡ min (bitOf a i) (bitOf b i)
+  bit-and = rw (and-shr a b i) (omega (arith, and-step (a / 2 ^ i) (b / 2 ^ i)))
+
+  pub and-second : bitOf (bitAnd a b) i ≡ 1 → bitOf b i ≡ 1
+  and-second e = omega (arith, bit-and, bit-small a i, bit-small b i)
+
+  pub and-both : bitOf a i ≡ 1 → bitOf b i ≡ 1 → bitOf (bitAnd a b) i ≡ 1
+  and-both e f = omega (arith, bit-and)
 
 module _ (m : List ℕ) (i j : ℕ) (h : i < length m) (k : j < 32) where
   pub with-bit : (x y : ℕ) → marked (set m i (bitOr (getD m i 0) (1 * 2 ^ j % 4294967296))) x y ≡ (marked m x y || sameArrow (link i j) (link x y))
@@ -71,7 +93,7 @@ module _ (m : List ℕ) (i j : ℕ) (h : i < length m) (k : j < 32) where
   with-bit x y = rw (pow-fits j k) (go (ℕ-discrete i x) (ℕ-discrete j y))
     where
       go : Dec (i ≡ x) → Dec (j ≡ y) → eqb (bitOf (getD (set m i (bitOr (getD m i 0) (2 ^ j))) x 0) y) 1 ≡ (eqb (bitOf (getD m x 0) y) 1 || (eqb i x && eqb j y))
-      go (yes e) (yes f) = rw (← e, ← f, getD-set-same m i (bitOr (getD m i 0) (2 ^ j)) 0 h, bit-or (getD m i 0) (2 ^ j) j, bit-same j) (both (bitOf (getD m i 0) j) (small (getD m i 0) j))
+      go (yes e) (yes f) = rw (← e, ← f, getD-set-same m i (bitOr (getD m i 0) (2 ^ j)) 0 h, bit-or (getD m i 0) (2 ^ j) j, bit-same j) (both (bitOf (getD m i 0) j) (bit-small (getD m i 0) j))
         where
           both : (b : ℕ) → b < 2 → eqb (max b 1) 1 ≡ (eqb b 1 || (eqb i i && eqb j j))
           both b h = rw (eq-eqb (max b 1) 1 (omega arith), eq-eqb i i refl, eq-eqb j j refl) (or-true (eqb b 1))
@@ -81,7 +103,7 @@ module _ (m : List ℕ) (i j : ℕ) (h : i < length m) (k : j < 32) where
           alone b = let e : max b 0 ≡ b = omega arith in rw e (sym (or-false (eqb b 1)))
       go (no e) d = rw (getD-set-other m i x (bitOr (getD m i 0) (2 ^ j)) 0 (λ q. e (sym q)), ne-eqb i x e) (sym (or-false (eqb (bitOf (getD m x 0) y) 1)))
 
-no-bits : (n x : ℕ) → getD {A = ℕ} (replicate n 0) x 0 ≡ 0
+pub no-bits : (n x : ℕ) → getD {A = ℕ} (replicate n 0) x 0 ≡ 0
 no-bits zero x = refl
 no-bits (suc n) zero = refl
 no-bits (suc n) (suc x) = no-bits n x

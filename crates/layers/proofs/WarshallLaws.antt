@@ -63,10 +63,10 @@ pub record Step (m₀ m : List ℕ) (k : ℕ) : Type 0 where
   pub both : (x j : ℕ) → Linked m₀ x k → Linked m₀ k j → Linked m x j
   pub back : (x j : ℕ) → Linked m x j → Linked m₀ x j ⊎ (Linked m₀ x k × Linked m₀ k j)
 
-small : (a j : ℕ) → bitOf a j < 2
-small a j = omega arith
+pub bit-small : (a j : ℕ) → bitOf a j < 2
+bit-small a j = omega arith
 
-no-bit : (a j : ℕ) → a ≡ 0 → bitOf a j ≡ 1 → ⊥
+pub no-bit : (a j : ℕ) → a ≡ 0 → bitOf a j ≡ 1 → ⊥
 no-bit a j e h = let z : bitOf 0 j ≡ 1 = rw e at h in omega (arith, z, zero-div (2 ^ j))
 
 module _ (m₀ m : List ℕ) (k i : ℕ) (r : Row m₀ m k i) (all : length m₀ ≤ i) where
@@ -74,7 +74,7 @@ module _ (m₀ m : List ℕ) (k i : ℕ) (r : Row m₀ m k i) (all : length m₀
   step-of = record { consIf = λ x j a. consIf-at x j a (ℕ-discrete (bitOf (getD m₀ x 0) k) 1) (decLt x i); both = both-at; back = λ x j a. back-at x j a (ℕ-discrete (bitOf (getD m₀ x 0) k) 1) (decLt x i) }
     where
       consIf-at : (x j : ℕ) → Linked m₀ x j → Dec (Linked m₀ x k) → Dec (x < i) → Linked m x j
-      consIf-at x j a (yes y) (yes b) = rw (r .hit x b y, bit-or (getD m₀ x 0) (getD m₀ k 0) j) (omega (arith, small (getD m₀ k 0) j))
+      consIf-at x j a (yes y) (yes b) = rw (r .hit x b y, bit-or (getD m₀ x 0) (getD m₀ k 0) j) (omega (arith, bit-small (getD m₀ k 0) j))
       consIf-at x j a (no n) (yes b) = rw (r .miss x b n) a
       consIf-at x j a (yes y) (no b) = rw (r .same x (omega arith)) a
       consIf-at x j a (no n) (no b) = rw (r .same x (omega arith)) a
@@ -83,7 +83,7 @@ module _ (m₀ m : List ℕ) (k i : ℕ) (r : Row m₀ m k i) (all : length m₀
       both-at x j a b = go (decLt x i)
         where
           go : Dec (x < i) → Linked m x j
-          go (yes c) = rw (r .hit x c a, bit-or (getD m₀ x 0) (getD m₀ k 0) j) (omega (arith, small (getD m₀ x 0) j))
+          go (yes c) = rw (r .hit x c a, bit-or (getD m₀ x 0) (getD m₀ k 0) j) (omega (arith, bit-small (getD m₀ x 0) j))
           go (no c) = absurd (no-bit (getD m₀ x 0) k (List·getD-eq-default m₀ 0 {n = x} (omega arith)) a)
 
       back-at : (x j : ℕ) → Linked m x j → Dec (Linked m₀ x k) → Dec (x < i) → Linked m₀ x j ⊎ (Linked m₀ x k × Linked m₀ k j)
@@ -96,7 +96,7 @@ module _ (m₀ m : List ℕ) (k i : ℕ) (r : Row m₀ m k i) (all : length m₀
         where
           go : Dec (Linked m₀ x j) → max (bitOf (getD m₀ x 0) j) (bitOf (getD m₀ k 0) j) ≡ 1 → Linked m₀ x j ⊎ (Linked m₀ x k × Linked m₀ k j)
           go (yes c) q = inl c
-          go (no c) q = inr (y, omega (arith, q, small (getD m₀ x 0) j))
+          go (no c) q = inr (y, omega (arith, q, bit-small (getD m₀ x 0) j))
 
 -- what the turns keep
 pub record Turns (s m : List ℕ) (k : ℕ) : Type 0 where

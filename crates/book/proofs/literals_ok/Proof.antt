@@ -5,7 +5,7 @@ use borrow.Author.Tests.{not-true, not-false}
 use Rattle.base.specs.Lists.{all}
 use Rattle.format.specs.Book.{literalsOf}
 use Rattle.book.specs.Causes.{atomBelow}
-use Rattle.book.proofs.RecordLaws.{lits-fails, lits-more, lits-done}
+use Rattle.format.proofs.LiteralLaws.{literals-fail, literals-more, literals-done}
 use borrow.Author.Needs.{needs}
 use native.Mathlib.Omega.{arith}
 use Rattle.book.proofs.literals_ok.Statement.{statement}
@@ -36,7 +36,7 @@ atom-ok-requires : tie.Need-atom-ok-requires Inv-loop μ-loop
 atom-ok-requires c κs = search needs
 
 returns : tie.Need-returns Inv-loop μ-loop
-returns c = sym (c .before .before .before .before .before .loop .inv .1 ∙ lits-fails (atomBelow (c .before .before .before .before .before .before .before .args .atoms)) (c .before .before .before .before .before .before .before .args .literals .now) (c .before .before .before .before .before .loop .i) (search needs) (c .before .atom-ok .result) (c .before .atom-ok .ensures) (not-true _ (c .if1 .taken)))
+returns c = sym (c .before .before .before .before .before .loop .inv .1 ∙ literals-fail (atomBelow (c .before .before .before .before .before .before .before .args .atoms)) (c .before .before .before .before .before .before .before .args .literals .now) (c .before .before .before .before .before .loop .i) (search needs) (c .before .atom-ok .result) (c .before .atom-ok .ensures) (not-true _ (c .if1 .taken)))
 
 add-i : tie.Need-add-i Inv-loop μ-loop
 add-i c = search needs
@@ -45,10 +45,10 @@ loop-less : tie.Need-loop-less Inv-loop μ-loop
 loop-less c = search needs
 
 loop-again : tie.Need-loop-again Inv-loop μ-loop
-loop-again c = (search needs, c .before .before .before .before .before .loop .inv .1 ∙ lits-more (atomBelow (c .before .before .before .before .before .before .before .args .atoms)) (c .before .before .before .before .before .before .before .args .literals .now) (c .before .before .before .before .before .loop .i) (search needs) (c .before .atom-ok .result) (c .before .atom-ok .ensures) (not-false _ (c .if1 .left)))
+loop-again c = (search needs, c .before .before .before .before .before .loop .inv .1 ∙ literals-more (atomBelow (c .before .before .before .before .before .before .before .args .atoms)) (c .before .before .before .before .before .before .before .args .literals .now) (c .before .before .before .before .before .loop .i) (search needs) (c .before .atom-ok .result) (c .before .atom-ok .ensures) (not-false _ (c .if1 .left)))
 
 returns-2 : tie.Need-returns-2 Inv-loop μ-loop
-returns-2 c = sym (c .before .loop .inv .1 ∙ lits-done (atomBelow (c .before .before .before .args .atoms)) (c .before .before .before .args .literals .now) (c .before .loop .i) (search needs))
+returns-2 c = sym (c .before .loop .inv .1 ∙ literals-done (atomBelow (c .before .before .before .args .atoms)) (c .before .before .before .args .literals .now) (c .before .loop .i) (search needs))
 
 pub literals-ok-spec : {M : Type 1} → statement M
 literals-ok-spec =
