@@ -1,0 +1,6 @@
+pub mod NameLaws
+pub mod BodyLaws
+pub mod RowLaws
+pub mod WalkLaws
+pub mod OverridingLaws
+pub mod TableLaws

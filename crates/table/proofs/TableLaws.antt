@@ -1,0 +1,137 @@
+-- The rows and masks that the code makes are the table of the program. Used by rule_table; `tabulates` needs of the masks only
+-- that they are those of the layers below. Assumes nothing.
+use mathlib.Core.Path.{_≡_, refl, sym, ap, ap₂, subst, _∙_}
+use mathlib.Core.Logic.{_⊎_, inl, inr, ⊎-elim}
+use mathlib.Core.Bool.{Bool, true, false, _&&_, _||_}
+use mathlib.Core.List.{List, [], _∷_, map, List·Memᴰ·head, List·Memᴰ·tail, Memᴰ·of-map}
+use Prim.Native.Nat.{ℕ, _+_, _*_, _-_, _/_, _%_, _^_, _<_, _≤_}
+use native.Mathlib.Decide.{ℕ-discrete}
+use native.Mathlib.Omega.{arith}
+use lib.Bits.{bitOr}
+use lib.Dec.{T, eqb, eqb-refl, eqb→eq}
+use lib.ListN.{length, getD, take, drop, length-take}
+use lib.Seq.{getD-take}
+use Rattle.base.specs.Lists.{consIf, filter}
+use Rattle.layers.specs.Layers.{below}
+use Rattle.layers.specs.Masks.{bitOf}
+use Rattle.format.specs.Book.{Literal, Rule, ruleOf, records, bookOf}
+use Rattle.models.specs.Program.{Program, relevant, programAt}
+use Rattle.models.specs.StableModels.{complement, sameLiteral, overrides}
+use Rattle.base.proofs.Members.{_∈_, and-left, and-right, or-cases, or-left, or-right, same-test}
+use Rattle.layers.proofs.BitLaws as bits
+use Rattle.models.proofs.LeastLaws.{lit-same}
+use Rattle.table.specs.Names.{literalNamed}
+use Rattle.table.specs.Rows.{rowCount, headName, rowLayer, rowAt, rowsOf, inMask, RowsBounded, RowsFit}
+use Rattle.table.specs.Overriding.{HeadAt, Overridden}
+use Rattle.table.specs.Table.{programOf, Prepared, RowsMade, Tabulates, TableMade}
+use Rattle.table.proofs.NameLaws.{complement-twice}
+use Rattle.table.proofs.RowLaws.{row-of}
+
+filter-same : (p q : Rule → Bool) (xs : List Rule) → ((x : Rule) → x ∈ xs → p x ≡ q x) → filter p xs ≡ filter q xs
+unfolding filter
+filter-same p q [] h = refl
+filter-same p q (x ∷ xs) h = ap₂ (λ (c : Bool) (l : List Rule). consIf c x l) (h x (List·Memᴰ·head refl)) (filter-same p q xs (λ y k. h y (List·Memᴰ·tail k)))
+
+pub overrides-below : (P : Program) (t r : Rule) → T (overrides P t r) → T (P .below (r .layer) (t .layer))
+unfolding overrides
+overrides-below P t r o = and-left (P .below (r .layer) (t .layer)) (sameLiteral (t .head) (complement (r .head))) o
+
+pub overrides-heads : (P : Program) (t r : Rule) → T (overrides P t r) → t .head ≡ complement (r .head)
+unfolding overrides
+overrides-heads P t r o = lit-same (t .head) (complement (r .head)) (and-right (P .below (r .layer) (t .layer)) (sameLiteral (t .head) (complement (r .head))) o)
+
+-- the mask of the relevant layers: the driven layer, and those below it
+module _ (book : List ℕ) (first : ℕ) (lower : List ℕ) (w : Prepared book first lower) (layer : ℕ) (h : layer < 32) where
+  abbrev pub relevantMask : ℕ
+  relevantMask = bitOr (getD lower layer 0) (1 * 2 ^ layer % 4294967296)
+
+  rule-low : (r : Rule) → r ∈ bookOf book .rules → r .layer < 32
+  rule-low r k =
+      let v : (x : List ℕ) × x ∈ records (drop first book) × (ruleOf x ≡ r) = Memᴰ·of-map ruleOf (records (drop first book)) (subst (λ (rs : List Rule). r ∈ rs) (w .rules-are) k) in
+      subst (λ (x : Rule). x .layer < 32) (v .2) (w .rule-records .each (v .0) (v .1) .layer-low)
+
+  mask-relevant : (r : Rule) → r ∈ bookOf book .rules → inMask relevantMask r ≡ relevant (bookOf book) layer r
+  unfolding inMask relevant
+  mask-relevant r k =
+      same-test (eqb (bitOf relevantMask (r .layer)) 1) (eqb (r .layer) layer || below (bookOf book .arrows) (r .layer) layer)
+      (λ t. ⊎-elim
+      (λ e. or-right (eqb (r .layer) layer) (below (bookOf book .arrows) (r .layer) layer) (w .lower-sound (r .layer) layer h e))
+      (λ e. or-left (eqb (r .layer) layer) (below (bookOf book .arrows) (r .layer) layer) (itself (ℕ-discrete layer (r .layer)) (rw (bits.pow-fits layer h) at e)))
+      (bits.or-cases (getD lower layer 0) (1 * 2 ^ layer % 4294967296) (r .layer) (eqb→eq (bitOf relevantMask (r .layer)) 1 t)))
+      (λ t. subst (λ (x : ℕ). T (eqb x 1)) (sym (⊎-elim
+      (λ e. bits.or-right (getD lower layer 0) (1 * 2 ^ layer % 4294967296) (r .layer) (own (eqb→eq (r .layer) layer e)))
+      (λ e. bits.or-left (getD lower layer 0) (1 * 2 ^ layer % 4294967296) (r .layer) (w .lower-full (r .layer) layer (rule-low r k) h e))
+      (or-cases (eqb (r .layer) layer) (below (bookOf book .arrows) (r .layer) layer) t))) tt)
+    where
+      itself : Dec (layer ≡ r .layer) → bitOf (2 ^ layer) (r .layer) ≡ 1 → T (eqb (r .layer) layer)
+      itself (yes e) z = subst (λ (x : ℕ). T (eqb x layer)) e (eqb-refl layer)
+      itself (no n) z = absurd (omega (arith, bits.bit-other layer (r .layer) n))
+
+      own : r .layer ≡ layer → bitOf (1 * 2 ^ layer % 4294967296) (r .layer) ≡ 1
+      own e = rw (bits.pow-fits layer h, e) (bits.bit-same layer)
+
+  pub rules-relevant : filter (inMask relevantMask) (map ruleOf (records (drop first book))) ≡ programOf book layer .rules
+  unfolding programAt
+  rules-relevant =
+      ap (filter (inMask relevantMask)) (sym (w .rules-are))
+      ∙ filter-same (inMask relevantMask) (relevant (bookOf book) layer) (bookOf book .rules) mask-relevant
+
+  module _ (rows masks : List ℕ) (fits : RowsFit book rows) (rs : rowsOf book rows ≡ filter (inMask relevantMask) (map ruleOf (records (drop first book))))
+      (sz : length masks ≡ rowCount rows) (un : Overridden rows lower masks (rowCount rows)) where
+    row-full : (j : ℕ) → j < rowCount rows → (x : ℕ) → x < rowCount rows → T (overrides (programOf book layer) (rowAt book rows j) (rowAt book rows x)) → bitOf (getD masks j 0) (rowAt book rows x .layer) ≡ 1
+    unfolding rowAt programAt
+    row-full j b x k o =
+        un .full j b (rowLayer rows x) (headName rows x)
+        (sym (complement-twice (literalNamed (headName rows x))) ∙ ap complement (sym (overrides-heads (programOf book layer) (rowAt book rows j) (rowAt book rows x) o)))
+        (record { row = x; before = k; name-is = refl; layer-is = refl })
+        (w .lower-full (rowLayer rows x) (rowLayer rows j) (fits .bounded .layer-low x k) (fits .bounded .layer-low j b) (overrides-below (programOf book layer) (rowAt book rows j) (rowAt book rows x) o))
+
+    pub tabulates : Tabulates (programOf book layer) book rows masks
+    unfolding rowAt programAt
+    tabulates = record {
+      fits = fits;
+      rules = rs ∙ rules-relevant;
+      size = sz;
+      sound = λ j b i z. w .lower-sound i (rowLayer rows j) (fits .bounded .layer-low j b) (un .sound j b i z);
+      full = λ j b r k o.
+          let v : (x : ℕ) × (x < rowCount rows) × (rowAt book rows x ≡ r) = row-of book rows r k in
+          subst (λ (t : Rule). bitOf (getD masks j 0) (t .layer) ≡ 1) (v .2) (row-full j b (v .0) (v .1) (subst (λ (t : Rule). T (overrides (programOf book layer) (rowAt book rows j) t)) (sym (v .2)) o));
+    }
+
+-- as the code lends them: the first k rows, the first k masks
+overridden-take : (rows lower masks : List ℕ) (k : ℕ) → Overridden rows lower masks k → Overridden rows lower (take k masks) k
+overridden-take rows lower masks k w = record {
+  sound = λ j h i z. w .sound j h i (subst (λ (x : ℕ). bitOf x i ≡ 1) (getD-take k masks j 0 h) z);
+  full = λ j h i g e p z. subst (λ (x : ℕ). bitOf x i ≡ 1) (sym (getD-take k masks j 0 h)) (w .full j h i g e p z);
+}
+
+minus-zero : (n : ℕ) → n - 0 ≡ n
+minus-zero n = omega arith
+
+module _ (book : List ℕ) (first mask : ℕ) (rows : List ℕ) (k : ℕ) (w : RowsMade book first mask rows k) where
+  lent-count : length (take (4 * k - 0) rows) / 4 ≡ k
+  lent-count = let q : length (take (4 * k - 0) rows) ≡ 4 * k = simp length-take (omega (arith, w .size, w .room)) in omega arith
+
+  pub lent-room : length (take (4 * k - 0) rows) / 4 ≤ 1024
+  lent-room = omega (arith, lent-count, w .room)
+
+  pub lent-bounded : RowsBounded (take (4 * k - 0) rows)
+  lent-bounded = subst (λ (x : ℕ). RowsBounded (take x rows)) (sym (minus-zero (4 * k))) (w .fits .bounded)
+
+  pub taken-count : length (take (4 * k) rows) / 4 ≡ k
+  taken-count = subst (λ (x : ℕ). length (take x rows) / 4 ≡ k) (minus-zero (4 * k)) lent-count
+
+  pub table-made : (lower : List ℕ) (p : Prepared book first lower) (layer : ℕ) (h : layer < 32) → mask ≡ relevantMask book first lower p layer h
+      → (masks : List ℕ) → length masks ≡ 1024 → Overridden (take (4 * k - 0) rows) lower masks (length (take (4 * k - 0) rows) / 4)
+      → TableMade (programOf book layer) book rows masks k
+  table-made lower p layer h em masks e o = record {
+    room = w .room;
+    row-size = w .size;
+    mask-size = e;
+    table =
+        tabulates book first lower p layer h (take (4 * k) rows) (take k masks) (w .fits) (w .rules ∙ ap (λ (x : ℕ). filter (inMask x) (map ruleOf (records (drop first book)))) em)
+        (let q : length (take k masks) ≡ k = simp length-take (omega (arith, w .room)) in q ∙ sym taken-count)
+        (subst (λ (x : ℕ). Overridden (take (4 * k) rows) lower (take k masks) x) (sym taken-count) (overridden-take (take (4 * k) rows) lower masks k
+        (subst (λ (x : ℕ). Overridden (take (4 * k) rows) lower masks x) taken-count
+        (subst (λ (x : ℕ). Overridden (take x rows) lower masks (length (take x rows) / 4)) (minus-zero (4 * k)) o))));
+  }

@@ -1,0 +1,233 @@
+-- The invariant: the rows so far are those of the records passed that the mask takes, and of the records left none passes the
+-- end. Each turn takes one record, so the bytes left fall.
+use mathlib.Core.Path.{_≡_, refl, sym, _∙_}
+use mathlib.Core.Logic.{⊎-elim}
+use Prim.Native.Nat.{_-_}
+use lib.ListN.{length}
+use Rattle.table.proofs.WalkLaws.{RowsSoFar, rows-start, here, free, rows-more, rows-skip, rows-end}
+use borrow.Author.Needs.{needs}
+use native.Mathlib.Omega.{arith}
+use Rattle.table.proofs.make_rows.Statement.{statement}
+use Rattle.table.proofs.make_rows.Tie as tie
+
+abbrev Inv-loop : tie.InvT-loop
+Inv-loop book first mask rows₀ count₀ at₀ rows count at = RowsSoFar book first mask rows count at
+
+abbrev μ-loop : tie.MeasureT-loop
+μ-loop book first mask rows₀ count₀ at₀ rows count at = length book - at
+
+loop-holds : tie.Need-loop-holds Inv-loop μ-loop
+loop-holds c =
+    let e = c .before .args in
+    rows-start (e .book .now) (e .first) (e .mask) _ (search needs) (c .before .pre .0) (c .before .pre .1 .0)
+
+shared-slice-read-wide : tie.Need-shared-slice-read-wide Inv-loop μ-loop
+shared-slice-read-wide c = search needs
+
+wide-requires : tie.Need-wide-requires Inv-loop μ-loop
+wide-requires c κs = search needs
+
+add-wide : tie.Need-add-wide Inv-loop μ-loop
+add-wide c = search needs
+
+shared-slice-read-wide-2 : tie.Need-shared-slice-read-wide-2 Inv-loop μ-loop
+shared-slice-read-wide-2 c =
+    let l = c .before .before .before .before .loop in
+    omega (arith, here (l .inv) (search needs) .ends, here (l .inv) (search needs) .long)
+
+wide-requires-2 : tie.Need-wide-requires-2 Inv-loop μ-loop
+wide-requires-2 c κs = search needs
+
+cast-if1 : tie.Need-cast-if1 Inv-loop μ-loop
+cast-if1 c =
+    let l = c .before .before .before .before .before .loop in
+    omega (arith, here (l .inv) (search needs) .layer-low, c .wide2 .ensures .0)
+
+shr-if1 : tie.Need-shr-if1 Inv-loop μ-loop
+shr-if1 c =
+    let l = c .before .before .before .before .before .loop in
+    omega (arith, here (l .inv) (search needs) .layer-low, c .wide2 .ensures .0)
+
+add-name-of : tie.Need-add-name-of Inv-loop μ-loop
+add-name-of c =
+    let l = c .before .before .before .before .before .before .loop in
+    omega (arith, here (l .inv) (search needs) .ends, here (l .inv) (search needs) .long)
+
+shared-slice-read-name-of : tie.Need-shared-slice-read-name-of Inv-loop μ-loop
+shared-slice-read-name-of c =
+    let l = c .before .before .before .before .before .before .before .loop in
+    omega (arith, here (l .inv) (search needs) .ends, here (l .inv) (search needs) .long)
+
+add-name-of-2 : tie.Need-add-name-of-2 Inv-loop μ-loop
+add-name-of-2 c =
+    let l = c .before .before .before .before .before .before .before .loop in
+    omega (arith, here (l .inv) (search needs) .ends, here (l .inv) (search needs) .long)
+
+shared-slice-read-name-of-2 : tie.Need-shared-slice-read-name-of-2 Inv-loop μ-loop
+shared-slice-read-name-of-2 c =
+    let l = c .before .before .before .before .before .before .before .before .loop in
+    omega (arith, here (l .inv) (search needs) .ends, here (l .inv) (search needs) .long)
+
+name-of-requires : tie.Need-name-of-requires Inv-loop μ-loop
+name-of-requires c κs =
+    let l = c .before .before .before .before .before .before .before .before .loop in
+    here (l .inv) (search needs) .atom-low
+
+mul-i : tie.Need-mul-i Inv-loop μ-loop
+mul-i c =
+    let l = c .before .before .before .before .before .before .before .before .before .loop in
+    omega (arith, l .inv .size, free (l .inv) (search needs))
+
+add-rows : tie.Need-add-rows Inv-loop μ-loop
+add-rows c =
+    let l = c .before .before .before .before .before .before .before .before .before .loop in
+    omega (arith, here (l .inv) (search needs) .ends, here (l .inv) (search needs) .long, c .before .before .before .before .before .before .before .before .before .before .before .pre .1 .1)
+
+cast-rows : tie.Need-cast-rows Inv-loop μ-loop
+cast-rows c =
+    let l = c .before .before .before .before .before .before .before .before .before .loop in
+    omega (arith, here (l .inv) (search needs) .ends, here (l .inv) (search needs) .long, c .before .before .before .before .before .before .before .before .before .before .before .pre .1 .1)
+
+mul-rows : tie.Need-mul-rows Inv-loop μ-loop
+mul-rows c =
+    let l = c .before .before .before .before .before .before .before .before .before .loop in
+    omega (arith, l .inv .size, free (l .inv) (search needs))
+
+array-write-rows : tie.Need-array-write-rows Inv-loop μ-loop
+array-write-rows c =
+    let l = c .before .before .before .before .before .before .before .before .before .loop in
+    omega (arith, l .inv .size, free (l .inv) (search needs))
+
+sub-rows : tie.Need-sub-rows Inv-loop μ-loop
+sub-rows c =
+    let l = c .before .before .before .before .before .before .before .before .before .loop in
+    omega (arith, here (l .inv) (search needs) .long, c .before .before .before .before .before .before .wide .ensures .0)
+
+cast-rows-2 : tie.Need-cast-rows-2 Inv-loop μ-loop
+cast-rows-2 c = search needs
+
+add-rows-2 : tie.Need-add-rows-2 Inv-loop μ-loop
+add-rows-2 c =
+    let l = c .before .before .before .before .before .before .before .before .before .loop in
+    omega (arith, l .inv .size, free (l .inv) (search needs))
+
+mul-rows-2 : tie.Need-mul-rows-2 Inv-loop μ-loop
+mul-rows-2 c =
+    let l = c .before .before .before .before .before .before .before .before .before .loop in
+    omega (arith, l .inv .size, free (l .inv) (search needs))
+
+array-write-rows-2 : tie.Need-array-write-rows-2 Inv-loop μ-loop
+array-write-rows-2 c =
+    let l = c .before .before .before .before .before .before .before .before .before .loop in
+    omega (arith, l .inv .size, free (l .inv) (search needs))
+
+cast-rows-3 : tie.Need-cast-rows-3 Inv-loop μ-loop
+cast-rows-3 c = search needs
+
+add-rows-3 : tie.Need-add-rows-3 Inv-loop μ-loop
+add-rows-3 c =
+    let l = c .before .before .before .before .before .before .before .before .before .loop in
+    omega (arith, l .inv .size, free (l .inv) (search needs))
+
+mul-rows-3 : tie.Need-mul-rows-3 Inv-loop μ-loop
+mul-rows-3 c =
+    let l = c .before .before .before .before .before .before .before .before .before .loop in
+    omega (arith, l .inv .size, free (l .inv) (search needs))
+
+array-write-rows-3 : tie.Need-array-write-rows-3 Inv-loop μ-loop
+array-write-rows-3 c =
+    let l = c .before .before .before .before .before .before .before .before .before .loop in
+    omega (arith, l .inv .size, free (l .inv) (search needs))
+
+cast-rows-4 : tie.Need-cast-rows-4 Inv-loop μ-loop
+cast-rows-4 c = search needs
+
+add-rows-4 : tie.Need-add-rows-4 Inv-loop μ-loop
+add-rows-4 c =
+    let l = c .before .before .before .before .before .before .before .before .before .loop in
+    omega (arith, l .inv .size, free (l .inv) (search needs))
+
+mul-rows-4 : tie.Need-mul-rows-4 Inv-loop μ-loop
+mul-rows-4 c =
+    let l = c .before .before .before .before .before .before .before .before .before .loop in
+    omega (arith, l .inv .size, free (l .inv) (search needs))
+
+array-write-rows-4 : tie.Need-array-write-rows-4 Inv-loop μ-loop
+array-write-rows-4 c =
+    let l = c .before .before .before .before .before .before .before .before .before .loop in
+    omega (arith, l .inv .size, free (l .inv) (search needs))
+
+add-count : tie.Need-add-count Inv-loop μ-loop
+add-count c =
+    let l = c .before .before .before .before .before .before .before .before .before .loop in
+    omega (arith, l .inv .size, free (l .inv) (search needs))
+
+add-at : tie.Need-add-at Inv-loop μ-loop
+add-at c =
+    let l = c .before .before .before .before .before .before .loop in
+    omega (arith, here (l .inv) (search needs) .ends, c .before .before .before .wide .ensures .0)
+
+add-at-2 : tie.Need-add-at-2 Inv-loop μ-loop
+add-at-2 c =
+    let l = c .before .before .before .before .before .before .loop in
+    omega (arith, here (l .inv) (search needs) .ends, c .before .before .before .wide .ensures .0)
+
+loop-less : tie.Need-loop-less Inv-loop μ-loop
+loop-less c =
+    let l = c .before .before .before .before .before .before .loop in
+    omega (arith, here (l .inv) (search needs) .ends, c .before .before .before .wide .ensures .0)
+
+loop-again : tie.Need-loop-again Inv-loop μ-loop
+loop-again c =
+    let l = c .before .before .before .before .before .before .loop in
+    ⊎-elim
+    (λ w. rw (w .4, w .5) (rows-more (l .inv) (search needs) (c .before .before .before .wide .result) (c .before .wide2 .result) (c .before .before .before .wide .ensures .0) (c .before .wide2 .ensures .0) (w .3 .result) (w .3 .ensures .0) (w .3 .ensures .1) (w .0 .taken)))
+    (λ w. rw (w .1, w .2) (rows-skip (l .inv) (search needs) (c .before .before .before .wide .result) (c .before .wide2 .result) (c .before .before .before .wide .ensures .0) (c .before .wide2 .ensures .0) (w .0 .left)))
+    (c .if1 .came)
+
+returns : tie.Need-returns Inv-loop μ-loop
+returns c = rows-end (c .before .loop .inv) (c .loop-test .left)
+
+pub make-rows-spec : {M : Type 1} → statement M
+make-rows-spec =
+    tie.close
+    (tie.spec
+    Inv-loop
+    μ-loop
+    loop-holds
+    shared-slice-read-wide
+    wide-requires
+    add-wide
+    shared-slice-read-wide-2
+    wide-requires-2
+    cast-if1
+    shr-if1
+    add-name-of
+    shared-slice-read-name-of
+    add-name-of-2
+    shared-slice-read-name-of-2
+    name-of-requires
+    mul-i
+    add-rows
+    cast-rows
+    mul-rows
+    array-write-rows
+    sub-rows
+    cast-rows-2
+    add-rows-2
+    mul-rows-2
+    array-write-rows-2
+    cast-rows-3
+    add-rows-3
+    mul-rows-3
+    array-write-rows-3
+    cast-rows-4
+    add-rows-4
+    mul-rows-4
+    array-write-rows-4
+    add-count
+    add-at
+    add-at-2
+    loop-less
+    loop-again
+    returns)

@@ -1,0 +1,61 @@
+-- The rows are those of the relevant rules, since the mask has the driven layer and those below it; the masks are theirs.
+use mathlib.Core.Path.{_≡_, refl}
+use Rattle.table.proofs.TableLaws.{lent-bounded, lent-room, table-made}
+use native.Mathlib.Omega.{arith}
+use borrow.Author.Needs.{needs}
+use Rattle.table.proofs.rule_table.Statement.{statement}
+use Rattle.table.proofs.rule_table.Tie as tie
+
+mul-make-rows : tie.Need-mul-make-rows
+mul-make-rows c = search needs
+
+array-read-make-rows : tie.Need-array-read-make-rows
+array-read-make-rows c = search needs
+
+cast-make-rows : tie.Need-cast-make-rows
+cast-make-rows c = search needs
+
+shl-make-rows : tie.Need-shl-make-rows
+shl-make-rows c = search needs
+
+make-rows-requires : tie.Need-make-rows-requires
+make-rows-requires c κs = search needs
+
+mul-overridden-layers : tie.Need-mul-overridden-layers
+mul-overridden-layers c = search needs
+
+sub-overridden-layers : tie.Need-sub-overridden-layers
+sub-overridden-layers c = search needs
+
+part-overridden-layers-start : tie.Need-part-overridden-layers-start
+part-overridden-layers-start c = search needs
+
+part-overridden-layers-end : tie.Need-part-overridden-layers-end
+part-overridden-layers-end c = search needs
+
+overridden-layers-requires : tie.Need-overridden-layers-requires
+overridden-layers-requires c κs =
+    let w = c .before .before .before .make-rows in
+    (lent-bounded _ _ _ (w .result .rows) (w .result .count) (w .ensures), lent-room _ _ _ (w .result .rows) (w .result .count) (w .ensures))
+
+returns : tie.Need-returns
+returns c =
+    let e = c .before .before .before .before .before .before .args in
+    let w = c .before .before .before .before .make-rows in
+    table-made (e .book .now) (e .first) _ (w .result .rows) (w .result .count) (w .ensures) (e .t4) (c .before .before .before .before .before .before .pre .0) (e .layer) (c .before .before .before .before .before .before .pre .1) refl (c .overridden-layers .result) (search needs) (c .overridden-layers .ensures)
+
+pub rule-table-spec : {M : Type 1} → statement M
+rule-table-spec =
+    tie.close
+    (tie.spec
+    mul-make-rows
+    array-read-make-rows
+    cast-make-rows
+    shl-make-rows
+    make-rows-requires
+    mul-overridden-layers
+    sub-overridden-layers
+    part-overridden-layers-start
+    part-overridden-layers-end
+    overridden-layers-requires
+    returns)

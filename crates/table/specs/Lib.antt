@@ -1,0 +1,4 @@
+pub mod Names
+pub mod Rows
+pub mod Overriding
+pub mod Table

@@ -1,0 +1,12 @@
+-- Literals as numbers that index an array of 512: a plain literal is its fact, a negated one is 256 more. Assumes nothing.
+use mathlib.Core.Bool.{cond}
+use Prim.Native.Nat.{ℕ, _+_, _-_}
+use lib.Dec.{leb}
+use Rattle.base.specs.Bounds.{maxAtoms}
+use Rattle.format.specs.Book.{Literal}
+
+unfoldable pub literalNamed : ℕ → Literal
+literalNamed h = record { atom = cond (leb maxAtoms h) (h - maxAtoms) h; negated = leb maxAtoms h }
+
+unfoldable pub nameOf : Literal → ℕ
+nameOf l = cond (l .negated) (l .atom + maxAtoms) (l .atom)

@@ -1,0 +1,27 @@
+-- Masks of layers: in which layers a head stands, and in which layers the rules are that a row overrides. Assumes nothing.
+use mathlib.Core.Path.{_≡_}
+use mathlib.Core.List.{List}
+use Prim.Native.Nat.{ℕ, _<_}
+use lib.ListN.{length, getD}
+use Rattle.layers.specs.Masks.{bitOf}
+use Rattle.models.specs.StableModels.{complement}
+use Rattle.table.specs.Names.{literalNamed}
+use Rattle.table.specs.Rows.{rowCount, headName, rowLayer}
+
+-- a row before n with the head of name h, in layer i
+pub record HeadAt (rows : List ℕ) (n h i : ℕ) : Type 0 where
+  pub row : ℕ
+  pub before : row < n
+  pub name-is : headName rows row ≡ h
+  pub layer-is : rowLayer rows row ≡ i
+
+-- bit i of the mask at name h is set where a row before n has that head, in layer i
+pub record HeadLayers (rows masks : List ℕ) (n : ℕ) : Type 0 where
+  pub size : length masks ≡ 512
+  pub full : (h i : ℕ) → HeadAt rows n h i → bitOf (getD masks h 0) i ≡ 1
+
+-- each row's mask: of the layers below its own, at least those in which a row has the opposite head
+pub record Overridden (rows lower masks : List ℕ) (n : ℕ) : Type 0 where
+  pub sound : (j : ℕ) → j < n → (i : ℕ) → bitOf (getD masks j 0) i ≡ 1 → bitOf (getD lower (rowLayer rows j) 0) i ≡ 1
+  pub full : (j : ℕ) → j < n → (i h : ℕ) → literalNamed h ≡ complement (literalNamed (headName rows j)) → HeadAt rows (rowCount rows) h i
+      → bitOf (getD lower (rowLayer rows j) 0) i ≡ 1 → bitOf (getD masks j 0) i ≡ 1

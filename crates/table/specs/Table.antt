@@ -1,0 +1,65 @@
+-- What the table of a program says, and what it is made from. Assumes nothing.
+use mathlib.Core.Path.{_≡_}
+use mathlib.Core.Bool.{Bool, true}
+use mathlib.Core.List.{List, map, List·Memᴰ}
+use Prim.Native.Nat.{ℕ, _*_, _<_, _≤_}
+use lib.Dec.{T}
+use lib.ListN.{length, getD, take, drop}
+use Rattle.base.specs.Bounds.{maxAtoms, maxLayers, maxRules}
+use Rattle.base.specs.Lists.{filter}
+use Rattle.layers.specs.Layers.{below}
+use Rattle.layers.specs.Masks.{bitOf}
+use Rattle.format.specs.Book.{Rule, Book, records, meetsEnd, ruleOf, bookOf}
+use Rattle.models.specs.Program.{Program, programAt}
+use Rattle.models.specs.StableModels.{overrides}
+use Rattle.table.specs.Rows.{rowCount, rowAt, rowsOf, inMask, RowsFit}
+
+-- the program that a book's bytes give at a layer
+abbrev pub programOf : List ℕ → ℕ → Program
+programOf book layer = programAt (bookOf book) layer
+
+-- a record that has a layer and a head within the bounds
+pub record RuleRecord (r : List ℕ) : Type 0 where
+  pub long : 3 ≤ length r
+  pub layer-low : ruleOf r .layer < maxLayers
+  pub atom-low : ruleOf r .head .atom < maxAtoms
+
+-- the records of these bytes meet their end, are at most 1,024, and each has a layer and a head within the bounds
+pub record RuleRecords (s : List ℕ) : Type 0 where
+  pub whole : meetsEnd s ≡ true
+  pub few : length (records s) ≤ maxRules
+  pub each : (r : List ℕ) → List·Memᴰ r (records s) → RuleRecord r
+
+-- What the check of the book and the closure of its arrows have made sure of: the bytes from `first` on are the rules' records,
+-- and bit i of mask j in `lower` is set exactly where layer i is below j.
+pub record Prepared (book : List ℕ) (first : ℕ) (lower : List ℕ) : Type 0 where
+  pub rule-records : RuleRecords (drop first book)
+  pub starts : first ≤ length book
+  pub short : length book < 65536
+  pub rules-are : bookOf book .rules ≡ map ruleOf (records (drop first book))
+  pub lower-sound : (i j : ℕ) → j < maxLayers → bitOf (getD lower j 0) i ≡ 1 → T (below (bookOf book .arrows) i j)
+  pub lower-full : (i j : ℕ) → i < maxLayers → j < maxLayers → T (below (bookOf book .arrows) i j) → bitOf (getD lower j 0) i ≡ 1
+
+-- the first `count` rows are those of the rules that pass the mask, in order
+pub record RowsMade (book : List ℕ) (first mask : ℕ) (rows : List ℕ) (count : ℕ) : Type 0 where
+  pub room : count ≤ maxRules
+  pub size : length rows ≡ 4 * maxRules
+  pub fits : RowsFit book (take (4 * count) rows)
+  pub rules : rowsOf book (take (4 * count) rows) ≡ filter (inMask mask) (map ruleOf (records (drop first book)))
+
+-- The table of a program: its rules as rows, and for each row a mask of layers below its own that has every layer in which it
+-- overrides a rule.
+pub record Tabulates (P : Program) (book rows overridden : List ℕ) : Type 0 where
+  pub fits : RowsFit book rows
+  pub rules : rowsOf book rows ≡ P .rules
+  pub size : length overridden ≡ rowCount rows
+  pub sound : (j : ℕ) → j < rowCount rows → (i : ℕ) → bitOf (getD overridden j 0) i ≡ 1 → T (P .below i (rowAt book rows j .layer))
+  pub full : (j : ℕ) → j < rowCount rows → (r : Rule) → List·Memᴰ r (rowsOf book rows) → T (overrides P (rowAt book rows j) r)
+      → bitOf (getD overridden j 0) (r .layer) ≡ 1
+
+-- the first `count` rows and masks are the table
+pub record TableMade (P : Program) (book rows overridden : List ℕ) (count : ℕ) : Type 0 where
+  pub room : count ≤ maxRules
+  pub row-size : length rows ≡ 4 * maxRules
+  pub mask-size : length overridden ≡ maxRules
+  pub table : Tabulates P book (take (4 * count) rows) (take count overridden)
