@@ -1,0 +1,5 @@
+pub mod ByteOrder
+pub mod SortedLaws
+pub mod Once
+pub mod MoveLaws
+pub mod RunLaws
