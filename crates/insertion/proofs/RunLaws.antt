@@ -1,13 +1,13 @@
 -- The two runs as a list of records of one width, and what a record written at the gap makes of it: the proof of `insert`
--- cites `inserted`, and the crates above put additions together by `added-none` and `added-append`. Assumes nothing.
+-- cites `inserted`; the crates above start from `held-none` and put additions together by `added-none` and `added-append`. Assumes nothing.
 use mathlib.Core.Path.{_≡_, refl, sym, ap, ap₂, subst, _∙_}
 use mathlib.Core.Logic.{_⊎_, inl, inr}
 use mathlib.Core.Bool.{true, false}
-use mathlib.Core.List.{List, [], _∷_, _++_, append-assoc, List·Memᴰ·head, List·Memᴰ·tail}
+use mathlib.Core.List.{List, [], _∷_, _++_, append-assoc, List·Memᴰ·head, List·Memᴰ·tail, List·Memᴰ·not-nil}
 use Prim.Native.Nat.{ℕ, zero, suc, _+_, _-_, _*_, _≤_, _<_}
 use native.Mathlib.Nat.{mul-le-mul-right, le-of-mul-le-mul-right}
 use native.Mathlib.Omega.{arith}
-use lib.ListN.{length, getD, take, drop, length-drop, length-append}
+use lib.ListN.{length, getD, take, drop, length-drop, length-append, drop-of-length-le}
 use lib.Seq.{take-all, take-nil, drop-nil, take-take, length-take-le, take-append-le, drop-append-le, take-at, drop-at, take-append-add, drop-append-add}
 use Rattle.base.specs.Lists.{flat}
 use Rattle.base.proofs.Members.{_∈_}
@@ -162,3 +162,11 @@ added-append w xs ys lo₀ hi₀ part₀ lo₁ hi₁ l₁ lo hi l a b =
       whole = b .whole;
       held = λ rs h. subst (λ (z : List (List ℕ)). Held w lo hi l z) (sym (insertAll-append bytesBefore xs ys rs)) (b .held (insertAll bytesBefore xs rs) (a .held rs h));
     }
+
+-- a part that is all gap holds no record
+pub mult-zero : (w : ℕ) → Mult w 0
+mult-zero w = record { times = 0; eq = omega arith }
+
+pub held-none : (w hi : ℕ) (part : List ℕ) → length part ≤ hi → Held w 0 hi part []
+unfolding flat
+held-none w hi part h = record { wide = λ r m. absurd (List·Memᴰ·not-nil m); up = tt; bytes = drop-of-length-le part {i = hi} h }

@@ -1,0 +1,4 @@
+pub mod PackLaws
+pub mod RoomLaws
+pub mod OrderLaws
+pub mod WrittenLaws

@@ -1,0 +1,33 @@
+-- States found in any order, and what is written of them: room for their records, their records added, the states in the
+-- order of their records, and a listing in a lent buffer. Assumes nothing.
+use mathlib.Core.Bool.{Bool, cond}
+use mathlib.Core.List.{List, [], _++_, map}
+use Prim.Native.Nat.{ℕ, _+_, _*_, _≤_}
+use lib.Dec.{ltb}
+use lib.ListN.{length, drop}
+use Rattle.insertion.specs.Sorted.{insertAll}
+use Rattle.insertion.specs.Runs.{bytesBefore, Mult, Added}
+use Rattle.models.specs.StableModels.{Interpretation}
+use Rattle.models.specs.Listing.{recordSize, recordOf}
+
+-- the gap has room for the records of these states
+pub record RoomFor (n : ℕ) (ms : List Interpretation) (lo hi : ℕ) (part : List ℕ) : Type 0 where
+  pub fits : hi ≤ length part
+  pub whole : Mult (recordSize n) lo
+  pub room : lo + length ms * recordSize n ≤ hi
+
+-- the records of these states are added to those that the part held
+abbrev pub AddedFor : ℕ → List Interpretation → ℕ → ℕ → List ℕ → ℕ → ℕ → List ℕ → Type 0
+AddedFor n ms lo₀ hi₀ part₀ lo hi part = Added (recordSize n) (map (recordOf n) ms) lo₀ hi₀ part₀ lo hi part
+
+-- a state comes before another as its record does
+abbrev pub before : ℕ → Interpretation → Interpretation → Bool
+before n a b = bytesBefore (recordOf n a) (recordOf n b)
+
+-- the states in the order of their records
+unfoldable pub sorted : ℕ → List Interpretation → List Interpretation
+sorted n ms = insertAll (before n) ms []
+
+-- the listing in front of what follows it or, where there is no room, the buffer as it was
+unfoldable pub written : List ℕ → List ℕ → List ℕ
+written l old = cond (ltb (length old) (length l)) old (l ++ drop (length l) old)
