@@ -81,6 +81,9 @@ module _ (a b i : ℕ) where
   bit-and : bitOf (bitAnd a b) i ≡ min (bitOf a i) (bitOf b i)
   bit-and = rw (and-shr a b i) (omega (arith, and-step (a / 2 ^ i) (b / 2 ^ i)))
 
+  pub and-first : bitOf (bitAnd a b) i ≡ 1 → bitOf a i ≡ 1
+  and-first e = omega (arith, bit-and, bit-small a i, bit-small b i)
+
   pub and-second : bitOf (bitAnd a b) i ≡ 1 → bitOf b i ≡ 1
   and-second e = omega (arith, bit-and, bit-small a i, bit-small b i)
 
@@ -107,6 +110,9 @@ pub no-bits : (n x : ℕ) → getD {A = ℕ} (replicate n 0) x 0 ≡ 0
 no-bits zero x = refl
 no-bits (suc n) zero = refl
 no-bits (suc n) (suc x) = no-bits n x
+
+pub no-bit : (i : ℕ) → bitOf 0 i ≡ 1 → ⊥
+no-bit i e = omega (arith, e, zero-div (2 ^ i))
 
 -- no bit is set yet
 pub none-marked : (x y : ℕ) → marked (replicate 32 0) x y ≡ false

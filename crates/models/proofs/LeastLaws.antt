@@ -19,13 +19,13 @@ use Rattle.base.proofs.Members.{_∈_, and-left, and-right, and-both, filter-fr
 use Rattle.base.proofs.UpTo.{upTo-lt, upTo-has}
 use Rattle.base.proofs.ClosureLaws.{member-sound, member-complete, closure-sound, closure-complete}
 
-beq-same : (a b : Bool) → T (Bool·beq a b) → a ≡ b
+pub beq-same : (a b : Bool) → T (Bool·beq a b) → a ≡ b
 beq-same true true t = refl
 beq-same true false t = absurd t
 beq-same false true t = absurd t
 beq-same false false t = refl
 
-beq-refl : (a : Bool) → T (Bool·beq a a)
+pub beq-refl : (a : Bool) → T (Bool·beq a a)
 beq-refl true = tt
 beq-refl false = tt
 

@@ -1,5 +1,6 @@
 -- Document 01, "Branching facts". Assumes nothing.
 use mathlib.Core.Bool.{Bool, _&&_, _||_}
+use mathlib.Core.List.{List}
 use Prim.Native.Nat.{ℕ}
 use lib.Dec.{eqb}
 use lib.ListN.{length}
@@ -17,6 +18,10 @@ module _ (P : Program) where
   unfoldable pub branching : ℕ → Bool
   branching f = any (λ r. any (λ l. eqb (l .atom) f && (l .negated || canReject r)) (r .body)) (P .rules)
 
-  -- Document 01: g
+  -- the branching facts, rising
+  unfoldable pub branchingAtoms : List ℕ
+  branchingAtoms = filter branching (upTo (P .atoms))
+
+  -- Document 01: g, their number
   unfoldable pub branchingCount : ℕ
-  branchingCount = length (filter branching (upTo (P .atoms)))
+  branchingCount = length branchingAtoms

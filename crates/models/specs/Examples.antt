@@ -10,7 +10,7 @@ use Rattle.layers.specs.Layers.{backwards, layersBelow, below}
 use Rattle.format.specs.Book.{u16At, u32At, recordsIn, records, sectionBytes, sectionEnd, sectionRecords, literalOf, literalsOf, arrowOf, ruleOf, atomCount, layerCount, ruleSection, arrowRecords, ruleRecords, arrowsOf, rulesOf, bookOf}
 use Rattle.models.specs.Program.{Program, relevant, programAt}
 use Rattle.models.specs.StableModels.{atomHolds, complement, sameLiteral, signed, holds, bodyHolds, clauseOf, overrides, rejected, default, defaults, activeRules, least, agreesAt, stable}
-use Rattle.models.specs.Branching.{canReject, branching, branchingCount}
+use Rattle.models.specs.Branching.{canReject, branching, branchingAtoms, branchingCount}
 use Rattle.models.specs.Listing.{interpretations, stableModels, bitValue, bitsValue, packed, be16, be32, recordSize, recordOf, listingOf, listing}
 
 -- a book's bytes from its parts, for books of fewer than 256 bytes
@@ -120,5 +120,5 @@ right e = sameBytes (listing (seen e)) (e .written) && eqb (branchingCount (seen
 
 -- Every example of the table is right; `examples-say` of proofs/ExampleLaws.antt gives the equations.
 pub examples : T (all right table)
-unfolding framed section bytesOf p notP q notQ ruleIn arrow bookB table sameBytes seen right consIf all any filter flat upTo member fires extend saturate closure backwards layersBelow below u16At u32At recordsIn records sectionBytes sectionEnd sectionRecords literalOf literalsOf arrowOf ruleOf atomCount layerCount ruleSection arrowRecords ruleRecords arrowsOf rulesOf bookOf relevant programAt atomHolds complement sameLiteral signed holds bodyHolds clauseOf overrides rejected default defaults activeRules least agreesAt stable canReject branching branchingCount interpretations stableModels bitValue bitsValue packed be16 be32 recordSize recordOf listingOf listing
+unfolding framed section bytesOf p notP q notQ ruleIn arrow bookB table sameBytes seen right consIf all any filter flat upTo member fires extend saturate closure backwards layersBelow below u16At u32At recordsIn records sectionBytes sectionEnd sectionRecords literalOf literalsOf arrowOf ruleOf atomCount layerCount ruleSection arrowRecords ruleRecords arrowsOf rulesOf bookOf relevant programAt atomHolds complement sameLiteral signed holds bodyHolds clauseOf overrides rejected default defaults activeRules least agreesAt stable canReject branching branchingAtoms branchingCount interpretations stableModels bitValue bitsValue packed be16 be32 recordSize recordOf listingOf listing
 examples = tt

@@ -4,7 +4,6 @@ ghost use mathlib.Core.List.{[], _∷_, _++_};
 ghost use Prim.Native.Nat.{_≤_, _<_};
 ghost use lib.ListN.{length, take, drop};
 ghost use Rattle.base.specs.Bounds.{maxAtoms};
-ghost use Rattle.base.specs.Lists.{consIf};
 ghost use Rattle.models.specs.StableModels.{atomHolds};
 ghost use Rattle.models.specs.Listing.{bitValue, bitsValue, recordSize, recordOf, be16, be32};
 ghost use Rattle.records.specs.Written.{RoomFor, AddedFor};
@@ -61,17 +60,14 @@ pub fn record_of(m: &[bool]) -> [u8; 32]
     r
 }
 
-// Puts the record of the first n facts in its place among those in the part, where there is a state.
-pub fn insert_state(ok: bool, state: [bool; 256], n: usize, part: &mut [u8], gap: Gap) -> Gap
-    requires { ⌜ (0 < n) × (n ≤ maxAtoms) × RoomFor n (consIf ok (take n state) []) (gap .lo) (gap .hi) (now part) ⌝ }
-    ensures { λ r. ⌜ AddedFor n (consIf ok (take n state) []) (gap .lo) (gap .hi) (now (part .entry)) (r .lo) (r .hi) (now (part .exit)) ⌝ }
+// Puts the record of the first n facts in its place among those in the part.
+pub fn insert_state(state: [bool; 256], n: usize, part: &mut [u8], gap: Gap) -> Gap
+    requires { ⌜ (0 < n) × (n ≤ maxAtoms) × RoomFor n (take n state ∷ []) (gap .lo) (gap .hi) (now part) ⌝ }
+    ensures { λ r. ⌜ AddedFor n (take n state ∷ []) (gap .lo) (gap .hi) (now (part .entry)) (r .lo) (r .hi) (now (part .exit)) ⌝ }
 {
-    if ok {
-        let r = record_of(&state[0..n]);
-        let w = record_size(n);
-        return insert(part, gap, &r[0..w]);
-    }
-    gap
+    let r = record_of(&state[0..n]);
+    let w = record_size(n);
+    insert(part, gap, &r[0..w])
 }
 
 // Writes the listing's head: version, length of the whole listing, n and k.

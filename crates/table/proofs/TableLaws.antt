@@ -17,15 +17,15 @@ use Rattle.layers.specs.Masks.{bitOf}
 use Rattle.format.specs.Book.{Literal, Rule, ruleOf, records, bookOf}
 use Rattle.models.specs.Program.{Program, relevant, programAt}
 use Rattle.models.specs.StableModels.{complement, sameLiteral, overrides}
-use Rattle.base.proofs.Members.{_∈_, and-left, and-right, or-cases, or-left, or-right, same-test}
+use Rattle.base.proofs.Members.{_∈_, and-left, and-right, and-both, or-cases, or-left, or-right, same-test}
 use Rattle.layers.proofs.BitLaws as bits
-use Rattle.models.proofs.LeastLaws.{lit-same}
+use Rattle.models.proofs.LeastLaws.{lit-same, lit-refl}
 use Rattle.table.specs.Names.{literalNamed}
 use Rattle.table.specs.Rows.{rowCount, headName, rowLayer, rowAt, rowsOf, inMask, RowsBounded, RowsFit}
-use Rattle.table.specs.Overriding.{HeadAt, Overridden}
+use Rattle.table.specs.Overriding.{HeadAt, OpposedAt, Overridden}
 use Rattle.table.specs.Table.{programOf, Prepared, RowsMade, Tabulates, TableMade}
 use Rattle.table.proofs.NameLaws.{complement-twice}
-use Rattle.table.proofs.RowLaws.{row-of}
+use Rattle.table.proofs.RowLaws.{row-in, row-of}
 
 filter-same : (p q : Rule → Bool) (xs : List Rule) → ((x : Rule) → x ∈ xs → p x ≡ q x) → filter p xs ≡ filter q xs
 unfolding filter
@@ -86,6 +86,23 @@ module _ (book : List ℕ) (first : ℕ) (lower : List ℕ) (w : Prepared book f
         (record { row = x; before = k; name-is = refl; layer-is = refl })
         (w .lower-full (rowLayer rows x) (rowLayer rows j) (fits .bounded .layer-low x k) (fits .bounded .layer-low j b) (overrides-below (programOf book layer) (rowAt book rows j) (rowAt book rows x) o))
 
+    -- a set bit is the layer of a row that is overridden
+    row-exact : (j : ℕ) → j < rowCount rows → (i : ℕ) → bitOf (getD masks j 0) i ≡ 1
+        → (r : Rule) × r ∈ rowsOf book rows × (r .layer ≡ i) × T (overrides (programOf book layer) (rowAt book rows j) r)
+    unfolding rowAt programAt overrides
+    row-exact j b i z =
+        let o : OpposedAt rows (headName rows j) i = un .opposed j b i z in
+        let x : ℕ = o .head-at .row in
+        let e : literalNamed (headName rows j) ≡ complement (literalNamed (headName rows x)) =
+        sym (complement-twice (literalNamed (headName rows j))) ∙ ap complement (sym (o .opposite-is) ∙ ap literalNamed (sym (o .head-at .name-is))) in (
+          rowAt book rows x,
+          row-in book rows x (o .head-at .before),
+          o .head-at .layer-is,
+          and-both (below (bookOf book .arrows) (rowLayer rows x) (rowLayer rows j)) (sameLiteral (literalNamed (headName rows j)) (complement (literalNamed (headName rows x))))
+              (subst (λ (t : ℕ). T (below (bookOf book .arrows) t (rowLayer rows j))) (sym (o .head-at .layer-is)) (w .lower-sound i (rowLayer rows j) (fits .bounded .layer-low j b) (un .sound j b i z)))
+              (subst (λ (t : Literal). T (sameLiteral (literalNamed (headName rows j)) t)) e (lit-refl (literalNamed (headName rows j)))),
+        )
+
     pub tabulates : Tabulates (programOf book layer) book rows masks
     unfolding rowAt programAt
     tabulates = record {
@@ -96,12 +113,14 @@ module _ (book : List ℕ) (first : ℕ) (lower : List ℕ) (w : Prepared book f
       full = λ j b r k o.
           let v : (x : ℕ) × (x < rowCount rows) × (rowAt book rows x ≡ r) = row-of book rows r k in
           subst (λ (t : Rule). bitOf (getD masks j 0) (t .layer) ≡ 1) (v .2) (row-full j b (v .0) (v .1) (subst (λ (t : Rule). T (overrides (programOf book layer) (rowAt book rows j) t)) (sym (v .2)) o));
+      exact = row-exact;
     }
 
 -- as the code lends them: the first k rows, the first k masks
 overridden-take : (rows lower masks : List ℕ) (k : ℕ) → Overridden rows lower masks k → Overridden rows lower (take k masks) k
 overridden-take rows lower masks k w = record {
   sound = λ j h i z. w .sound j h i (subst (λ (x : ℕ). bitOf x i ≡ 1) (getD-take k masks j 0 h) z);
+  opposed = λ j h i z. w .opposed j h i (subst (λ (x : ℕ). bitOf x i ≡ 1) (getD-take k masks j 0 h) z);
   full = λ j h i g e p z. subst (λ (x : ℕ). bitOf x i ≡ 1) (sym (getD-take k masks j 0 h)) (w .full j h i g e p z);
 }
 

@@ -15,13 +15,21 @@ pub record HeadAt (rows : List ℕ) (n h i : ℕ) : Type 0 where
   pub name-is : headName rows row ≡ h
   pub layer-is : rowLayer rows row ≡ i
 
--- bit i of the mask at name h is set where a row before n has that head, in layer i
+-- bit i of the mask at name h is set exactly where a row before n has that head, in layer i
 pub record HeadLayers (rows masks : List ℕ) (n : ℕ) : Type 0 where
   pub size : length masks ≡ 512
+  pub sound : (h i : ℕ) → bitOf (getD masks h 0) i ≡ 1 → HeadAt rows n h i
   pub full : (h i : ℕ) → HeadAt rows n h i → bitOf (getD masks h 0) i ≡ 1
 
--- each row's mask: of the layers below its own, at least those in which a row has the opposite head
+-- a row with the opposite of the head of name h, in layer i
+pub record OpposedAt (rows : List ℕ) (h i : ℕ) : Type 0 where
+  pub name : ℕ
+  pub opposite-is : literalNamed name ≡ complement (literalNamed h)
+  pub head-at : HeadAt rows (rowCount rows) name i
+
+-- each row's mask: of the layers below its own, exactly those in which a row has the opposite head
 pub record Overridden (rows lower masks : List ℕ) (n : ℕ) : Type 0 where
   pub sound : (j : ℕ) → j < n → (i : ℕ) → bitOf (getD masks j 0) i ≡ 1 → bitOf (getD lower (rowLayer rows j) 0) i ≡ 1
+  pub opposed : (j : ℕ) → j < n → (i : ℕ) → bitOf (getD masks j 0) i ≡ 1 → OpposedAt rows (headName rows j) i
   pub full : (j : ℕ) → j < n → (i h : ℕ) → literalNamed h ≡ complement (literalNamed (headName rows j)) → HeadAt rows (rowCount rows) h i
       → bitOf (getD lower (rowLayer rows j) 0) i ≡ 1 → bitOf (getD masks j 0) i ≡ 1

@@ -47,8 +47,7 @@ pub record RowsMade (book : List ℕ) (first mask : ℕ) (rows : List ℕ) (coun
   pub fits : RowsFit book (take (4 * count) rows)
   pub rules : rowsOf book (take (4 * count) rows) ≡ filter (inMask mask) (map ruleOf (records (drop first book)))
 
--- The table of a program: its rules as rows, and for each row a mask of layers below its own that has every layer in which it
--- overrides a rule.
+-- The table of a program: its rules as rows, and for each row the mask of the layers in which it overrides a rule.
 pub record Tabulates (P : Program) (book rows overridden : List ℕ) : Type 0 where
   pub fits : RowsFit book rows
   pub rules : rowsOf book rows ≡ P .rules
@@ -56,6 +55,8 @@ pub record Tabulates (P : Program) (book rows overridden : List ℕ) : Type 0 wh
   pub sound : (j : ℕ) → j < rowCount rows → (i : ℕ) → bitOf (getD overridden j 0) i ≡ 1 → T (P .below i (rowAt book rows j .layer))
   pub full : (j : ℕ) → j < rowCount rows → (r : Rule) → List·Memᴰ r (rowsOf book rows) → T (overrides P (rowAt book rows j) r)
       → bitOf (getD overridden j 0) (r .layer) ≡ 1
+  pub exact : (j : ℕ) → j < rowCount rows → (i : ℕ) → bitOf (getD overridden j 0) i ≡ 1
+      → (r : Rule) × List·Memᴰ r (rowsOf book rows) × (r .layer ≡ i) × T (overrides P (rowAt book rows j) r)
 
 -- the first `count` rows and masks are the table
 pub record TableMade (P : Program) (book rows overridden : List ℕ) (count : ℕ) : Type 0 where

@@ -1,7 +1,6 @@
--- `insert_state` meets its contract: the bytes that it inserts are the state's record (`state-record`), and where there is no
--- state nothing is added and nothing written. Assumes nothing.
+-- `insert_state` meets its contract: the bytes that it inserts are the state's record (`state-record`). Assumes nothing.
 use lib.ListN.{take}
-use Rattle.records.proofs.RoomLaws.{state-record, room-one, added-one, added-not}
+use Rattle.records.proofs.RoomLaws.{state-record, room-one, added-one}
 use borrow.Author.Needs.{needs}
 use Rattle.records.proofs.insert_state.Statement.{statement}
 use Rattle.records.proofs.insert_state.Tie as tie
@@ -34,10 +33,10 @@ insert-requires : tie.Need-insert-requires
 insert-requires c κs =
     let w = c .before .before .before .record-size in
     let b = c .before .before .before .before in
-    let s = b .before .before .before .before .before in
+    let s = b .before .before .before .before in
     let a = s .args in
-    room-one (a .n) (take (a .n) (a .t2)) (a .ok) (b .before .before .before .if1 .taken) _
-    (state-record (a .t2) (a .n) (w .result) (b .record-of .result) (search needs) (s .pre .1) (w .ensures .0) (b .record-of .ensures)) (s .pre .0) (s .pre .2)
+    room-one (a .n) (take (a .n) (a .t1)) _
+    (state-record (a .t1) (a .n) (w .result) (b .record-of .result) (search needs) (s .pre .1) (w .ensures .0) (b .record-of .ensures)) (s .pre .0) (s .pre .2)
 
 same-length : tie.Need-same-length
 same-length c = search needs
@@ -46,15 +45,10 @@ returns : tie.Need-returns
 returns c =
     let w = c .before .before .before .before .before .before .record-size in
     let b = c .before .before .before .before .before .before .before in
-    let s = b .before .before .before .before .before in
+    let s = b .before .before .before .before in
     let a = s .args in
-    added-one (a .n) (take (a .n) (a .t2)) (a .ok) (b .before .before .before .if1 .taken) _
-    (state-record (a .t2) (a .n) (w .result) (b .record-of .result) (search needs) (s .pre .1) (w .ensures .0) (b .record-of .ensures)) (c .before .before .insert .ensures)
-
-returns-2 : tie.Need-returns-2
-returns-2 c =
-    let s = c .before .before in
-    added-not (s .args .n) (take (s .args .n) (s .args .t2)) (s .args .ok) (c .if1 .left) (s .pre .2)
+    added-one (a .n) (take (a .n) (a .t1)) _
+    (state-record (a .t1) (a .n) (w .result) (b .record-of .result) (search needs) (s .pre .1) (w .ensures .0) (b .record-of .ensures)) (c .before .before .insert .ensures)
 
 pub insert-state-spec : {M : Type 1} → statement M
 insert-state-spec =
@@ -70,5 +64,4 @@ insert-state-spec =
     part-insert-end
     insert-requires
     same-length
-    returns
-    returns-2)
+    returns)
