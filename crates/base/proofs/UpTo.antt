@@ -44,7 +44,7 @@ upTo-has (suc n) f h = go (λ u. upTo-has n f u) (eq-or-lt-of-le (le-of-suc-le-s
     go rec (inr u) = Memᴰ·append-left (n ∷ []) (rec u)
 
 -- a test over the numbers below n, as a loop makes it
-any-append : (p : ℕ → Bool) (xs ys : List ℕ) → any p (xs ++ ys) ≡ (any p xs || any p ys)
+pub any-append : (p : ℕ → Bool) (xs ys : List ℕ) → any p (xs ++ ys) ≡ (any p xs || any p ys)
 unfolding any
 any-append p [] ys = refl
 any-append p (x ∷ xs) ys = go (p x) (any-append p xs ys)

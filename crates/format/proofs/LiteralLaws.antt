@@ -10,7 +10,8 @@ use lib.Seq.{drop-cons}
 use Rattle.base.specs.Lists.{all}
 use Rattle.format.specs.Book.{Literal, literalOf, literalsOf}
 
-module _ (p : Literal → Bool) (s : List ℕ) (i : ℕ) (h : 2 ≤ length s - i) where
+-- the first literal, and those of what follows it
+module _ (s : List ℕ) (i : ℕ) (h : 2 ≤ length s - i) where
   two-more : drop i s ≡ getD s i 0 ∷ getD s (i + 1) 0 ∷ drop (i + 2) s
   two-more =
       drop-cons s i 0 (omega arith)
@@ -18,10 +19,15 @@ module _ (p : Literal → Bool) (s : List ℕ) (i : ℕ) (h : 2 ≤ length s - i
       ∙ ap (λ (k : ℕ). getD s i 0 ∷ getD s k 0 ∷ drop (suc k) s) {x = suc i} {y = i + 1} (omega arith)
       ∙ ap (λ (k : ℕ). getD s i 0 ∷ getD s (i + 1) 0 ∷ drop k s) {x = suc (i + 1)} {y = i + 2} (omega arith)
 
+  pub literals-next : literalsOf (drop i s) ≡ literalOf (getD s i 0) (getD s (i + 1) 0) ∷ literalsOf (drop (i + 2) s)
+  unfolding literalsOf
+  literals-next = ap literalsOf two-more
+
+module _ (p : Literal → Bool) (s : List ℕ) (i : ℕ) (h : 2 ≤ length s - i) where
   module _ (r : Bool) (e : r ≡ p (literalOf (getD s i 0) (getD s (i + 1) 0))) where
     literals-step : all p (literalsOf (drop i s)) ≡ (r && all p (literalsOf (drop (i + 2) s)))
-    unfolding all literalsOf
-    literals-step = ap (λ (t : List ℕ). all p (literalsOf t)) two-more ∙ ap (λ (c : Bool). c && all p (literalsOf (drop (i + 2) s))) (sym e)
+    unfolding all
+    literals-step = ap (all p) (literals-next s i h) ∙ ap (λ (c : Bool). c && all p (literalsOf (drop (i + 2) s))) (sym e)
 
     pub literals-fail : r ≡ false → all p (literalsOf (drop i s)) ≡ false
     literals-fail q = literals-step ∙ ap (λ (c : Bool). c && all p (literalsOf (drop (i + 2) s))) q
@@ -29,11 +35,15 @@ module _ (p : Literal → Bool) (s : List ℕ) (i : ℕ) (h : 2 ≤ length s - i
     pub literals-more : r ≡ true → all p (literalsOf (drop i s)) ≡ all p (literalsOf (drop (i + 2) s))
     literals-more q = literals-step ∙ ap (λ (c : Bool). c && all p (literalsOf (drop (i + 2) s))) q
 
-few : (p : Literal → Bool) (s : List ℕ) → length s < 2 → all p (literalsOf s) ≡ true
-unfolding all literalsOf
-few p [] h = refl
-few p (a ∷ []) h = refl
-few p (a ∷ (b ∷ s)) h = absurd (omega arith)
+few : (s : List ℕ) → length s < 2 → literalsOf s ≡ []
+unfolding literalsOf
+few [] h = refl
+few (a ∷ []) h = refl
+few (a ∷ (b ∷ s)) h = absurd (omega arith)
+
+pub literals-none : (s : List ℕ) (i : ℕ) → length s - i < 2 → literalsOf (drop i s) ≡ []
+literals-none s i h = few (drop i s) (simp length-drop (omega arith))
 
 pub literals-done : (p : Literal → Bool) (s : List ℕ) (i : ℕ) → length s - i < 2 → all p (literalsOf (drop i s)) ≡ true
-literals-done p s i h = few p (drop i s) (simp length-drop (omega arith))
+unfolding all
+literals-done p s i h = ap (all p) (literals-none s i h)

@@ -1,0 +1,3 @@
+pub mod MarkLaws
+pub mod RowMarkLaws
+pub mod ListLaws

@@ -1,0 +1,92 @@
+-- `mark_body` meets its contract. The invariant (`Marking`): what is marked, with what the literals left would mark, is what all of
+-- them mark. The bytes left fall. Assumes nothing.
+use mathlib.Core.Path.{_≡_, ap₂}
+use mathlib.Core.Logic.{⊎-elim}
+use Prim.Native.Nat.{ℕ, _+_, _*_, _-_}
+use lib.ListN.{length, length-set}
+use Rattle.branching.proofs.MarkLaws.{Marking, marking-start, small, marking-set, marking-pass, marking-end}
+use borrow.Author.Needs.{needs}
+use native.Mathlib.Omega.{arith}
+use Rattle.branching.proofs.mark_body.Statement.{statement}
+use Rattle.branching.proofs.mark_body.Tie as tie
+use Rattle.branching.proofs.mark_body.Reads as reads
+use Rattle.branching.proofs.mark_body.Lts as lts
+use Rattle.base.proofs.wide.Reads as wide-reads
+use Rattle.branching.proofs.branches.Reads as branches-reads
+
+abbrev Inv-loop : tie.InvT-loop
+Inv-loop body rejecting r₀ i₀ r i = (length r ≡ 256) × Marking body rejecting r₀ i r
+
+abbrev μ-loop : tie.MeasureT-loop
+μ-loop body rejecting r₀ i₀ r i = length body - i
+
+loop-holds : tie.Need-loop-holds Inv-loop μ-loop
+loop-holds c = (search needs, marking-start (c .before .args .body .now) (c .before .args .rejecting) _)
+
+sub-loop : tie.Need-sub-loop Inv-loop μ-loop
+sub-loop c = search needs
+
+shared-slice-read-wide : tie.Need-shared-slice-read-wide Inv-loop μ-loop
+shared-slice-read-wide c = search needs
+
+wide-requires : tie.Need-wide-requires Inv-loop μ-loop
+wide-requires c κs = search needs
+
+mul-v : tie.Need-mul-v Inv-loop μ-loop
+mul-v c = search needs
+
+add-wide : tie.Need-add-wide Inv-loop μ-loop
+add-wide c = search needs
+
+shared-slice-read-wide-2 : tie.Need-shared-slice-read-wide-2 Inv-loop μ-loop
+shared-slice-read-wide-2 c = search needs
+
+wide-requires-2 : tie.Need-wide-requires-2 Inv-loop μ-loop
+wide-requires-2 c κs = search needs
+
+add-v : tie.Need-add-v Inv-loop μ-loop
+add-v c = search needs
+
+branches-requires : tie.Need-branches-requires Inv-loop μ-loop
+branches-requires c κs = search needs
+
+array-write-r : tie.Need-array-write-r Inv-loop μ-loop
+array-write-r c = let a = c .before .before .before .before .before .before .before .before .before .args in let l = c .before .before .before .before .before .before .before .loop in let x = c .before .before .before .before .wide in let y = c .before .before .wide2 in let b = c .before .branches in let e = ap₂ (λ (m n : ℕ). m * 256 + n) (x .ensures .0) (y .ensures .0) in omega (arith, small (a .body .now) (a .rejecting) _ (l .i) (l .r) (l .inv .1) (search needs) (x .result * 256 + y .result) e (b .result) (b .ensures) (c .if1 .taken), l .inv .0)
+
+add-i : tie.Need-add-i Inv-loop μ-loop
+add-i c = search needs
+
+loop-less : tie.Need-loop-less Inv-loop μ-loop
+loop-less c = search needs
+
+loop-again : tie.Need-loop-again Inv-loop μ-loop
+loop-again c = let a = c .before .before .before .before .before .before .before .before .before .args in let l = c .before .before .before .before .before .before .before .loop in let x = c .before .before .before .before .wide in let y = c .before .before .wide2 in let b = c .before .branches in let e = ap₂ (λ (m n : ℕ). m * 256 + n) (x .ensures .0) (y .ensures .0) in
+    ⊎-elim
+    (λ w. (rw (w .1) (simp length-set (l .inv .0)), rw (w .1) (marking-set (a .body .now) (a .rejecting) _ (l .i) (l .r) (l .inv .1) (search needs) (x .result * 256 + y .result) e (b .result) (b .ensures) (w .0 .taken) (l .inv .0))))
+    (λ w. (rw (w .1) (l .inv .0), rw (w .1) (marking-pass (a .body .now) (a .rejecting) _ (l .i) (l .r) (l .inv .1) (search needs) (x .result * 256 + y .result) e (b .result) (b .ensures) (w .0 .left))))
+    (c .if1 .came)
+
+returns : tie.Need-returns Inv-loop μ-loop
+returns c = marking-end (c .before .before .before .args .body .now) (c .before .before .before .args .rejecting) _ (c .before .loop .i) (c .before .loop .r) (c .before .loop .inv .1) (c .loop-test .left)
+
+pub mark-body-spec : {M : Type 1} → statement M
+mark-body-spec =
+    tie.close
+    (tie.spec
+    Inv-loop
+    μ-loop
+    loop-holds
+    sub-loop
+    shared-slice-read-wide
+    wide-requires
+    mul-v
+    add-wide
+    shared-slice-read-wide-2
+    wide-requires-2
+    add-v
+    branches-requires
+    array-write-r
+    add-i
+    loop-less
+    loop-again
+    returns)

@@ -1,0 +1,89 @@
+// The branching facts of a program, from its table: by both grounds, each once, rising.
+ghost use mathlib.Core.Path.{_≡_};
+ghost use mathlib.Core.Bool.{_&&_, _||_};
+ghost use Prim.Native.Nat.{_%_, _<_, _≤_};
+ghost use lib.Dec.{leb, ltb};
+ghost use lib.ListN.{length};
+ghost use Rattle.models.specs.StableModels.{WellFormed};
+ghost use Rattle.table.specs.Table.{programOf, Tabulates};
+ghost use Rattle.branching.specs.Marks.{BodyMarked, BranchingMarks, Listed};
+use base::wide;
+use base::wide16;
+
+pub struct Atoms {
+    pub atoms: [u8; 256],
+    pub count: usize,
+}
+
+// Whether the literal of number v makes its fact branch: it is negated, or its rule can displace. No fact is 256 or more.
+fn branches(v: usize, rejecting: bool) -> bool
+    ensures { λ r. ⌜ r ≡ (ltb (v % 32768) 256 && (leb 32768 v || rejecting)) ⌝ }
+{
+    if 256 <= v % 32768 {
+        return false;
+    }
+    if 32768 <= v {
+        return true;
+    }
+    rejecting
+}
+
+// Marks the facts of a body that branch.
+fn mark_body(body: &[u8], rejecting: bool, marks: [bool; 256]) -> [bool; 256]
+    ensures { λ r. ⌜ BodyMarked (now (body .entry)) rejecting marks r ⌝ }
+{
+    let mut r = marks;
+    let mut i: usize = 0;
+    while 2 <= body.len() - i {
+        let v = wide(body[i]) * 256 + wide(body[i + 1]);
+        if branches(v, rejecting) {
+            r[v % 32768] = true;
+        }
+        i += 2;
+    }
+    r
+}
+
+// Marks the branching facts: a rule can displace exactly where its mask of overridden layers is not empty.
+pub fn mark_branching(book: &[u8], layer: usize, rows: &[u16], overridden: &[u32]) -> [bool; 256]
+    requires { ⌜ Tabulates (programOf (now book) layer) (now book) (now rows) (now overridden) ⌝ }
+    ensures { λ r. ⌜ BranchingMarks (programOf (now (book .entry)) layer) r ⌝ }
+{
+    let count = rows.len() / 4;
+    let mut marks: [bool; 256] = [false; 256];
+    let mut j = 0;
+    while j < count {
+        let from = wide16(rows[4 * j]);
+        let to = from + wide16(rows[4 * j + 1]);
+        let next = mark_body(&book[from..to], overridden[j] != 0, marks);
+        marks = next;
+        j += 1;
+    }
+    marks
+}
+
+// The branching facts, rising.
+pub fn branching_atoms(
+    book: &[u8],
+    layer: usize,
+    rows: &[u16],
+    overridden: &[u32],
+    n: usize,
+) -> Atoms
+    requires { ⌜ Tabulates (programOf (now book) layer) (now book) (now rows) (now overridden) ⌝ }
+    requires { ⌜ (n ≡ programOf (now book) layer .atoms) × (n ≤ 256) ⌝ }
+    ensures { λ r. ⌜ Listed (programOf (now (book .entry)) layer) (r .atoms) (r .count) ⌝ }
+{
+    let marks = mark_branching(book, layer, rows, overridden);
+    let mut atoms: [u8; 256] = [0; 256];
+    let mut count = 0;
+    let mut f = 0;
+    while f < n {
+        if marks[f] {
+            atoms[count] = f as u8;
+            count += 1;
+        }
+        f += 1;
+    }
+    Atoms { atoms, count }
+}
