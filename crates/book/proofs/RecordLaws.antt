@@ -1,22 +1,18 @@
 -- Laws for the tests on records' contents: arrows and rules as the code reads them.
 -- Assumes nothing.
-use mathlib.Core.Path.{_≡_, refl, sym, ap, subst, _∙_}
-use mathlib.Core.Bool.{Bool, true, false, not, _&&_, _||_, false≢true}
-use mathlib.Core.Logic.{_⊎_, inl, inr}
-use mathlib.Core.List.{List, [], _∷_, _++_, List·Memᴰ, List·Memᴰ·head, List·Memᴰ·tail}
-use Prim.Native.Nat.{ℕ, zero, suc, _+_, _*_, _-_, _/_, _%_, _<_, _≤_}
+use mathlib.Core.Path.{_≡_, refl, sym, subst, _∙_}
+use mathlib.Core.Bool.{Bool, true, false}
+use mathlib.Core.List.{List}
+use Prim.Native.Nat.{ℕ, _+_, _*_, _-_, _/_, _%_, _<_, _≤_}
 use native.Mathlib.Omega.{arith}
-use native.Mathlib.Numerals.{add-one}
-use native.Mathlib.Decide.{decLt}
 use borrow.Author.Tests.{lt-ltb, le-ltb, eq-eqb, ne-eqb}
 use lib.Dec.{T, ltb, eqb}
-use lib.ListN.{length, getD, drop, length-drop}
-use lib.Seq.{drop-cons}
+use lib.ListN.{length, getD, drop}
 use Rattle.base.specs.Lists.{all, any, upTo}
-use Rattle.format.specs.Book.{Literal, literalOf, literalsOf, arrowOf, ruleOf}
+use Rattle.format.specs.Book.{literalOf, literalsOf, arrowOf, ruleOf}
 use Rattle.book.specs.Causes.{arrowOk, ruleLength, atomBelow, ruleOk}
 use Rattle.base.proofs.UpTo.{passed, upTo-has}
-use Rattle.base.proofs.Members.{_∈_, any-of}
+use Rattle.base.proofs.Members.{any-of}
 
 module _ (l : ℕ) (r : List ℕ) where
   pub arrow-length : (length r ≡ 2 → ⊥) → false ≡ arrowOk l r

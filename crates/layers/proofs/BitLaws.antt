@@ -2,20 +2,20 @@
 -- Assumes nothing.
 use Rattle.layers.specs.Layers.{link}
 use mathlib.Core.Path.{_≡_, refl, sym, ap, subst, _∙_}
-use mathlib.Core.Bool.{Bool, true, false, not, _&&_, _||_, false≢true}
+use mathlib.Core.Bool.{Bool, true, false, _&&_, _||_, false≢true}
 use mathlib.Core.Logic.{_⊎_, inl, inr}
-use mathlib.Core.List.{List, [], _∷_, map}
-use Prim.Native.Nat.{ℕ, zero, suc, _+_, _*_, _-_, _/_, _%_, _^_, _<_, _≤_, min, max}
+use mathlib.Core.List.{List}
+use Prim.Native.Nat.{ℕ, zero, suc, _+_, _*_, _-_, _/_, _%_, _^_, _<_, min, max}
 use native.Mathlib.Omega.{arith}
 use native.Mathlib.Nat.{zero-div, div-eq-of-lt, div-self, mod-eq-of-lt, mul-div-cancel, pow-suc}
 use native.Mathlib.Decide.{decLt, ℕ-discrete}
-use borrow.Author.Tests.{eq-eqb, ne-eqb, eqb-true, ltb-true}
+use borrow.Author.Tests.{eq-eqb, ne-eqb}
 use lib.Pow.{pow-pos, pow-lt, pow-add}
 use lib.Bits.{bitOr, bitAnd, and-step, and-shr}
-use lib.Dec.{T, eqb, ltb}
-use lib.ListN.{length, getD, set, take, drop, length-take, length-drop, replicate}
-use lib.Seq.{getD-set-same, getD-set-other, getD-take, getD-drop}
-use Rattle.layers.specs.Layers.{Arrow, sameArrow}
+use lib.Dec.{eqb}
+use lib.ListN.{length, getD, set, replicate}
+use lib.Seq.{getD-set-same, getD-set-other}
+use Rattle.layers.specs.Layers.{sameArrow}
 use Rattle.layers.specs.Masks.{bitOf, marked}
 use Rattle.layers.proofs.WarshallLaws.{bit-or, bit-small}
 

@@ -1,6 +1,6 @@
 -- A literal of two bytes holds where its sign and its fact say. Assumes nothing.
-use mathlib.Core.Path.{_≡_, refl, sym, ap, _∙_}
-use mathlib.Core.Bool.{Bool, true, false, not}
+use mathlib.Core.Path.{_≡_, sym, ap, _∙_}
+use mathlib.Core.Bool.{Bool, not}
 use Prim.Native.Nat.{ℕ, _+_, _*_, _%_, _<_, _≤_}
 use borrow.Author.Tests.{le-leb, lt-leb}
 use Rattle.format.specs.Book.{literalOf}

@@ -1,5 +1,5 @@
 -- Names of literals: which literal a name stands for, the opposite's name, and the name of two bytes. Assumes nothing.
-use mathlib.Core.Path.{_≡_, refl, sym, ap, subst, _∙_}
+use mathlib.Core.Path.{_≡_, refl, sym, ap, _∙_}
 use mathlib.Core.Bool.{Bool, true, false, not, cond}
 use Prim.Native.Nat.{ℕ, _+_, _*_, _-_, _%_, _<_, _≤_}
 use native.Mathlib.Omega.{arith}

@@ -1,10 +1,10 @@
 -- The rows and masks that the code makes are the table of the program. Used by rule_table; `tabulates` needs of the masks only
 -- that they are those of the layers below. Assumes nothing.
 use mathlib.Core.Path.{_≡_, refl, sym, ap, ap₂, subst, _∙_}
-use mathlib.Core.Logic.{_⊎_, inl, inr, ⊎-elim}
-use mathlib.Core.Bool.{Bool, true, false, _&&_, _||_}
+use mathlib.Core.Logic.{⊎-elim}
+use mathlib.Core.Bool.{Bool, _||_}
 use mathlib.Core.List.{List, [], _∷_, map, List·Memᴰ·head, List·Memᴰ·tail, Memᴰ·of-map}
-use Prim.Native.Nat.{ℕ, _+_, _*_, _-_, _/_, _%_, _^_, _<_, _≤_}
+use Prim.Native.Nat.{ℕ, _*_, _-_, _/_, _%_, _^_, _<_, _≤_}
 use native.Mathlib.Decide.{ℕ-discrete}
 use native.Mathlib.Omega.{arith}
 use lib.Bits.{bitOr}
@@ -22,7 +22,7 @@ use Rattle.layers.proofs.BitLaws as bits
 use Rattle.models.proofs.LeastLaws.{lit-same, lit-refl}
 use Rattle.table.specs.Names.{literalNamed}
 use Rattle.table.specs.Rows.{rowCount, headName, rowLayer, rowAt, rowsOf, inMask, RowsBounded, RowsFit}
-use Rattle.table.specs.Overriding.{HeadAt, OpposedAt, Overridden}
+use Rattle.table.specs.Overriding.{OpposedAt, Overridden}
 use Rattle.table.specs.Table.{programOf, Prepared, RowsMade, Tabulates, TableMade}
 use Rattle.table.proofs.NameLaws.{complement-twice}
 use Rattle.table.proofs.RowLaws.{row-in, row-of}
@@ -154,3 +154,9 @@ module _ (book : List ℕ) (first mask : ℕ) (rows : List ℕ) (k : ℕ) (w : R
         (subst (λ (x : ℕ). Overridden (take (4 * k) rows) lower masks x) taken-count
         (subst (λ (x : ℕ). Overridden (take x rows) lower masks (length (take x rows) / 4)) (minus-zero (4 * k)) o))));
   }
+
+-- the table, as a caller cuts it out of what rule_table returns
+pub lent-table : {P : Program} {book rows masks : List ℕ} {k : ℕ} → TableMade P book rows masks k → Tabulates P book (take (4 * k - 0) rows) (take (k - 0) masks)
+lent-table {P} {book} {rows} {masks} {k} w =
+    subst (λ (x : ℕ). Tabulates P book (take x rows) (take (k - 0) masks)) (sym (minus-zero (4 * k)))
+    (subst (λ (x : ℕ). Tabulates P book (take (4 * k) rows) (take x masks)) (sym (minus-zero k)) (w .table))

@@ -9,7 +9,7 @@ use native.Mathlib.Numerals.{add-one}
 use native.Mathlib.Omega.{arith}
 use borrow.Author.Tests.{eq-eqb, ne-eqb}
 use lib.Bits.{bitAnd}
-use lib.ListN.{length, getD, set, length-set, take, drop, length-drop, length-take}
+use lib.ListN.{length, getD, set, length-set, take, drop, length-take}
 use lib.Seq.{getD-set-same, getD-set-other, getD-take, getD-drop, drop-drop, take-nil}
 use Rattle.base.specs.Lists.{consIf, filter, upTo}
 use Rattle.layers.specs.Masks.{bitOf}
@@ -18,7 +18,7 @@ use Rattle.base.proofs.Members.{_∈_}
 use Rattle.layers.proofs.WarshallLaws.{test-bit}
 use Rattle.format.proofs.Offsets.{records-cut, records-done, meets-fails, meets-more, count-more}
 use Rattle.table.specs.Names.{literalNamed}
-use Rattle.table.specs.Rows.{rowAt, rowsOf, inMask, RowsFit}
+use Rattle.table.specs.Rows.{rowAt, rowsOf, inMask}
 use Rattle.table.specs.Table.{RuleRecord, RuleRecords, RowsMade}
 use Rattle.table.proofs.RowLaws.{row-same, map-snoc, map-same}
 

@@ -1,6 +1,6 @@
 -- What the table of a program says, and what it is made from. Assumes nothing.
 use mathlib.Core.Path.{_≡_}
-use mathlib.Core.Bool.{Bool, true}
+use mathlib.Core.Bool.{true}
 use mathlib.Core.List.{List, map, List·Memᴰ}
 use Prim.Native.Nat.{ℕ, _*_, _<_, _≤_}
 use lib.Dec.{T}
@@ -9,7 +9,7 @@ use Rattle.base.specs.Bounds.{maxAtoms, maxLayers, maxRules}
 use Rattle.base.specs.Lists.{filter}
 use Rattle.layers.specs.Layers.{below}
 use Rattle.layers.specs.Masks.{bitOf}
-use Rattle.format.specs.Book.{Rule, Book, records, meetsEnd, ruleOf, bookOf}
+use Rattle.format.specs.Book.{Rule, records, meetsEnd, ruleOf, bookOf}
 use Rattle.models.specs.Program.{Program, programAt}
 use Rattle.models.specs.StableModels.{overrides}
 use Rattle.table.specs.Rows.{rowCount, rowAt, rowsOf, inMask, RowsFit}

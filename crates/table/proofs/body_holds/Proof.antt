@@ -8,7 +8,6 @@ use Rattle.format.specs.Book.{literalsOf}
 use Rattle.models.specs.StableModels.{holds}
 use Rattle.format.proofs.LiteralLaws.{literals-fail, literals-more, literals-done}
 use borrow.Author.Needs.{needs}
-use native.Mathlib.Omega.{arith}
 use Rattle.table.proofs.body_holds.Statement.{statement}
 use Rattle.table.proofs.body_holds.Tie as tie
 

@@ -1,7 +1,7 @@
 -- The invariant: the masks have the bit of every row passed. The rows left fall.
-use mathlib.Core.Path.{_≡_, refl, sym, subst, _∙_}
-use Prim.Native.Nat.{_+_, _-_, _/_, _<_, _≤_}
-use lib.ListN.{length, getD}
+use mathlib.Core.Path.{_≡_, refl, subst}
+use Prim.Native.Nat.{_-_, _/_, _≤_}
+use lib.ListN.{length}
 use Rattle.table.specs.Overriding.{HeadLayers}
 use Rattle.table.proofs.OverridingLaws.{heads-start, heads-more}
 use borrow.Author.Needs.{needs}

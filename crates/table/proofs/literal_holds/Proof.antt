@@ -1,8 +1,5 @@
 -- The sign is the top bit of the two bytes: set, the answer is turned round.
-use mathlib.Core.Path.{_≡_, sym, ap, _∙_}
-use mathlib.Core.Bool.{not}
 use Rattle.table.proofs.BodyLaws.{negated-holds, plain-holds}
-use native.Mathlib.Omega.{arith}
 use borrow.Author.Needs.{needs}
 use Rattle.table.proofs.literal_holds.Statement.{statement}
 use Rattle.table.proofs.literal_holds.Tie as tie

@@ -1,6 +1,5 @@
 -- The invariant: the rows so far are those of the records passed that the mask takes, and of the records left none passes the
 -- end. Each turn takes one record, so the bytes left fall.
-use mathlib.Core.Path.{_≡_, refl, sym, _∙_}
 use mathlib.Core.Logic.{⊎-elim}
 use Prim.Native.Nat.{_-_}
 use lib.ListN.{length}

@@ -1,7 +1,5 @@
 -- The head's fact is below 256, so the first byte is 0, or 128 where it is negated, and the second is the fact.
-use mathlib.Core.Path.{_≡_}
 use Rattle.table.proofs.NameLaws.{name-plain, name-negated}
-use native.Mathlib.Omega.{arith}
 use borrow.Author.Needs.{needs}
 use Rattle.table.proofs.name_of.Statement.{statement}
 use Rattle.table.proofs.name_of.Tie as tie

@@ -1,6 +1,5 @@
 -- A name and its opposite are 256 apart.
 use Rattle.table.proofs.NameLaws.{opposite-low, opposite-high}
-use native.Mathlib.Omega.{arith}
 use borrow.Author.Needs.{needs}
 use Rattle.table.proofs.opposite.Statement.{statement}
 use Rattle.table.proofs.opposite.Tie as tie

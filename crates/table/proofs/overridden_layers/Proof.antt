@@ -1,7 +1,7 @@
 -- The invariant: the masks of the rows passed have the lower layers in which the opposite head stands. The rows left fall.
-use mathlib.Core.Path.{_≡_, refl, sym, subst, _∙_}
-use Prim.Native.Nat.{_+_, _-_, _/_, _<_, _≤_}
-use lib.ListN.{length, getD}
+use mathlib.Core.Path.{_≡_, refl, subst}
+use Prim.Native.Nat.{_-_, _/_, _≤_}
+use lib.ListN.{length}
 use Rattle.table.specs.Overriding.{Overridden}
 use Rattle.table.proofs.OverridingLaws.{overridden-start, overridden-more}
 use borrow.Author.Needs.{needs}

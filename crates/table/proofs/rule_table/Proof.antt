@@ -1,7 +1,6 @@
 -- The rows are those of the relevant rules, since the mask has the driven layer and those below it; the masks are theirs.
-use mathlib.Core.Path.{_≡_, refl}
+use mathlib.Core.Path.{refl}
 use Rattle.table.proofs.TableLaws.{lent-bounded, lent-room, table-made}
-use native.Mathlib.Omega.{arith}
 use borrow.Author.Needs.{needs}
 use Rattle.table.proofs.rule_table.Statement.{statement}
 use Rattle.table.proofs.rule_table.Tie as tie

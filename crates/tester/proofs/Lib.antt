@@ -1,0 +1,6 @@
+pub mod MarkLaws
+pub mod FillingLaws
+pub mod MaskLaws
+pub mod AgreementLaws
+pub mod TestLaws
+pub mod SettingMarks

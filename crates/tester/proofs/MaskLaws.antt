@@ -1,0 +1,206 @@
+-- Rejection by masks, supported atoms, and the other atoms: what the loops keep, row by row and atom by atom. Used by row_mask,
+-- rejected_masks, supported and defaults_of. Assumes nothing.
+use mathlib.Core.Path.{_≡_, refl, sym, ap, subst, _∙_}
+use mathlib.Core.Logic.{⊎-elim}
+use mathlib.Core.Bool.{Bool, true, false, not, cond, true≢false}
+use mathlib.Core.List.{List}
+use Prim.Native.Nat.{ℕ, _+_, _<_, _≤_}
+use native.Mathlib.Decide.{decLt, ℕ-discrete}
+use native.Mathlib.Omega.{arith}
+use lib.Bits.{bitOr}
+use lib.Dec.{T}
+use lib.ListN.{getD, set, length-set, replicate, length-replicate}
+use lib.Seq.{getD-set-same, getD-set-other}
+use Rattle.layers.specs.Masks.{bitOf}
+use Rattle.format.specs.Book.{Literal}
+use Rattle.models.specs.StableModels.{Interpretation, atomHolds, positive, complement, bodyHolds}
+use Rattle.layers.proofs.WarshallLaws.{no-bit}
+use Rattle.layers.proofs.BitLaws.{no-bits, or-cases, or-left, or-right}
+use Rattle.table.specs.Names.{literalNamed}
+use Rattle.table.specs.Rows.{headName, rowAt}
+use Rattle.table.proofs.NameLaws.{name-low, name-high, one-name}
+use Rattle.tester.specs.Masks.{Rejection, RejectedMasks, Support, Supported, Others}
+use Rattle.tester.proofs.MarkLaws.{blank, set-only, set-keeps}
+
+-- the mask of a row, as its body decides
+pub mask-none : (c : Bool) (u : ℕ) → u ≡ 0 → 0 ≡ cond c u 0
+mask-none true u e = sym e
+mask-none false u e = refl
+
+pub mask-all : (c : Bool) (u : ℕ) (r : Bool) → r ≡ c → r ≡ true → u ≡ cond c u 0
+mask-all c u r e t = ap (λ (x : Bool). cond x u 0) (sym t ∙ e)
+
+pub mask-off : (c : Bool) (u : ℕ) (r : Bool) → r ≡ c → r ≡ false → 0 ≡ cond c u 0
+mask-off c u r e t = ap (λ (x : Bool). cond x u 0) (sym t ∙ e)
+
+-- rejection
+module _ {book rows overridden : List ℕ} {m : Interpretation} where
+  pub rejects-start : RejectedMasks book rows overridden m (replicate {A = ℕ} 512 0) 0
+  rejects-start = record {
+    size = length-replicate {A = ℕ} 512 0;
+    sound = λ h i e. absurd (no-bit (getD (replicate {A = ℕ} 512 0) h 0) i (no-bits 512 h) e);
+    full = λ h i x b. absurd (omega (arith, x .before));
+  }
+
+  later : {j h i : ℕ} → Rejection book rows overridden m j h i → Rejection book rows overridden m (j + 1) h i
+  later x = record { row = x .row; before = omega (arith, x .before); facing = x .facing; holds-in = x .holds-in; bit = x .bit }
+
+  -- one row on: at the name o opposite to the row's head h, the row's mask joins
+  module _ {rejects : List ℕ} {j : ℕ} (w : RejectedMasks book rows overridden m rejects j) (h o mask : ℕ) (eh : h ≡ headName rows j)
+      (eo : literalNamed o ≡ complement (literalNamed h)) (b : o < 512) (e : mask ≡ cond (bodyHolds m (rowAt book rows j)) (getD overridden j 0) 0) where
+    abbrev joined : ℕ
+    joined = bitOr (getD rejects o 0) mask
+
+    faces : literalNamed o ≡ complement (rowAt book rows j .head)
+    unfolding rowAt
+    faces = eo ∙ ap (λ (x : ℕ). complement (literalNamed x)) eh
+
+    from-mask : (i : ℕ) → bitOf mask i ≡ 1 → T (bodyHolds m (rowAt book rows j)) × (bitOf (getD overridden j 0) i ≡ 1)
+    from-mask i = go (bodyHolds m (rowAt book rows j)) e
+      where
+        go : (c : Bool) → mask ≡ cond c (getD overridden j 0) 0 → bitOf mask i ≡ 1 → T c × (bitOf (getD overridden j 0) i ≡ 1)
+        go true q z = (tt, rw q at z)
+        go false q z = absurd (no-bit mask i q z)
+
+    to-mask : (i : ℕ) → T (bodyHolds m (rowAt book rows j)) → bitOf (getD overridden j 0) i ≡ 1 → bitOf mask i ≡ 1
+    to-mask i = go (bodyHolds m (rowAt book rows j)) e
+      where
+        go : (c : Bool) → mask ≡ cond c (getD overridden j 0) 0 → T c → bitOf (getD overridden j 0) i ≡ 1 → bitOf mask i ≡ 1
+        go true q t z = rw q z
+        go false q t z = absurd t
+
+    at-o : (x : ℕ) → x ≡ o → getD (set rejects o joined) x 0 ≡ joined
+    at-o x q = ap (λ (y : ℕ). getD (set rejects o joined) y 0) q ∙ getD-set-same rejects o joined 0 (omega (arith, w .size))
+
+    pub rejects-more : RejectedMasks book rows overridden m (set rejects o joined) (j + 1)
+    rejects-more = record {
+      size = length-set rejects o joined ∙ w .size;
+      sound = λ x i z. sound-at x i (ℕ-discrete x o) z;
+      full = λ x i y k. full-at x i y k (decLt (y .row) j);
+    }
+      where
+        sound-at : (x i : ℕ) → Dec (x ≡ o) → bitOf (getD (set rejects o joined) x 0) i ≡ 1 → Rejection book rows overridden m (j + 1) x i
+        sound-at x i (no n) z = later (w .sound x i (subst (λ (y : ℕ). bitOf y i ≡ 1) (getD-set-other rejects o x joined 0 n) z))
+        sound-at x i (yes q) z =
+            ⊎-elim
+            (λ y. later (w .sound x i (subst (λ (k : ℕ). bitOf (getD rejects k 0) i ≡ 1) (sym q) y)))
+            (λ y. record { row = j; before = omega arith; facing = ap literalNamed q ∙ faces; holds-in = from-mask i y .0; bit = from-mask i y .1 })
+            (or-cases (getD rejects o 0) mask i (subst (λ (k : ℕ). bitOf k i ≡ 1) (at-o x q) z))
+
+        keeps : (x i : ℕ) → Dec (x ≡ o) → bitOf (getD rejects x 0) i ≡ 1 → bitOf (getD (set rejects o joined) x 0) i ≡ 1
+        keeps x i (no n) z = subst (λ (y : ℕ). bitOf y i ≡ 1) (sym (getD-set-other rejects o x joined 0 n)) z
+        keeps x i (yes q) z = subst (λ (y : ℕ). bitOf y i ≡ 1) (sym (at-o x q)) (or-left (getD rejects o 0) mask i (subst (λ (y : ℕ). bitOf (getD rejects y 0) i ≡ 1) q z))
+
+        full-at : (x i : ℕ) (y : Rejection book rows overridden m (j + 1) x i) → x < 512 → Dec (y .row < j) → bitOf (getD (set rejects o joined) x 0) i ≡ 1
+        full-at x i y k (yes a) = keeps x i (ℕ-discrete x o) (w .full x i (record { row = y .row; before = a; facing = y .facing; holds-in = y .holds-in; bit = y .bit }) k)
+        full-at x i y k (no n) =
+            let q : y .row ≡ j = omega (arith, y .before) in
+            let p : x ≡ o = one-name x o (y .facing ∙ ap (λ (z : ℕ). complement (rowAt book rows z .head)) q ∙ sym faces) in
+            subst (λ (z : ℕ). bitOf z i ≡ 1) (sym (at-o x p))
+            (or-right (getD rejects o 0) mask i
+            (to-mask i (subst (λ (z : ℕ). T (bodyHolds m (rowAt book rows z))) q (y .holds-in)) (subst (λ (z : ℕ). bitOf (getD overridden z 0) i ≡ 1) q (y .bit))))
+
+-- support
+module _ {book rows : List ℕ} {m : Interpretation} where
+  pub supported-start : Supported book rows m (replicate 256 false) 0
+  unfolding atomHolds
+  supported-start = record {
+    size = length-replicate 256 false;
+    sound = λ f t. absurd (subst T (blank 256 f) t);
+    full = λ f x b. absurd (omega (arith, x .before));
+  }
+
+  support-later : {j f : ℕ} → Support book rows m j f → Support book rows m (j + 1) f
+  support-later x = record { row = x .row; before = omega (arith, x .before); head-is = x .head-is; holds-in = x .holds-in }
+
+  -- one row on, where what row j supports is among the atoms
+  module _ {atoms : List Bool} {j : ℕ} (w : Supported book rows m atoms j) where
+    pub supported-same : ((f : ℕ) → rowAt book rows j .head ≡ positive f → T (bodyHolds m (rowAt book rows j)) → T (atomHolds atoms f)) → Supported book rows m atoms (j + 1)
+    supported-same n = record {
+      size = w .size;
+      sound = λ f t. support-later (w .sound f t);
+      full = λ f x b. go f x b (decLt (x .row) j);
+    }
+      where
+        go : (f : ℕ) (x : Support book rows m (j + 1) f) → f < 256 → Dec (x .row < j) → T (atomHolds atoms f)
+        go f x b (yes y) = w .full f (record { row = x .row; before = y; head-is = x .head-is; holds-in = x .holds-in }) b
+        go f x b (no y) =
+            let q : x .row ≡ j = omega (arith, x .before) in
+            n f (subst (λ (z : ℕ). rowAt book rows z .head ≡ positive f) q (x .head-is)) (subst (λ (z : ℕ). T (bodyHolds m (rowAt book rows z))) q (x .holds-in))
+
+    module _ (h : ℕ) (e : h ≡ headName rows j) where
+      named : h < 256 → rowAt book rows j .head ≡ positive h
+      unfolding rowAt
+      named b = ap literalNamed (sym e) ∙ name-low h b
+
+      head-of : h < 256 → (f : ℕ) → rowAt book rows j .head ≡ positive f → h ≡ f
+      head-of b f q = ap (λ (l : Literal). l .atom) (sym (named b) ∙ q)
+
+      -- a negated head
+      pub supported-negated : 256 ≤ h → Supported book rows m atoms (j + 1)
+      unfolding rowAt
+      supported-negated b = supported-same (λ f q t. absurd (true≢false (ap (λ (l : Literal). l .negated) (sym (name-high h b) ∙ ap literalNamed e ∙ q))))
+
+      -- an atom that is there already
+      pub supported-known : h < 256 → not (getD atoms h false) ≡ false → Supported book rows m atoms (j + 1)
+      unfolding atomHolds
+      supported-known b t = supported-same (λ f q u. subst (λ (z : ℕ). T (getD atoms z false)) (head-of b f q) (on (getD atoms h false) t))
+        where
+          on : (c : Bool) → not c ≡ false → T c
+          on true y = tt
+          on false y = absurd (true≢false y)
+
+      -- a body that does not hold
+      pub supported-not : (r : Bool) → r ≡ bodyHolds m (rowAt book rows j) → r ≡ false → Supported book rows m atoms (j + 1)
+      supported-not r q n = supported-same (λ f p t. absurd (subst T (sym q ∙ n) t))
+
+      pub supported-more : (r : Bool) → h < 256 → r ≡ bodyHolds m (rowAt book rows j) → r ≡ true → Supported book rows m (set atoms h true) (j + 1)
+      unfolding atomHolds
+      supported-more r b q n = record {
+        size = length-set atoms h true ∙ w .size;
+        sound = λ f u. ⊎-elim (λ v. support-later (w .sound f v)) (λ v. record { row = j; before = omega arith; head-is = named b ∙ ap positive (sym v); holds-in = holds }) (set-only atoms h f (omega (arith, w .size)) u);
+        full = λ f x k. go f x k (decLt (x .row) j);
+      }
+        where
+          holds : T (bodyHolds m (rowAt book rows j))
+          holds = subst T (sym (sym q ∙ n)) tt
+
+          here : T (atomHolds (set atoms h true) h)
+          here = subst T (sym (getD-set-same atoms h true false (omega (arith, w .size)))) tt
+
+          go : (f : ℕ) (x : Support book rows m (j + 1) f) → f < 256 → Dec (x .row < j) → T (atomHolds (set atoms h true) f)
+          go f x k (yes y) = set-keeps atoms h f (omega (arith, w .size)) (w .full f (record { row = x .row; before = y; head-is = x .head-is; holds-in = x .holds-in }) k)
+          go f x k (no y) =
+              let p : x .row ≡ j = omega (arith, x .before) in
+              subst (λ (z : ℕ). T (atomHolds (set atoms h true) z)) (head-of b f (subst (λ (z : ℕ). rowAt book rows z .head ≡ positive f) p (x .head-is))) here
+
+-- the other atoms
+module _ {atoms : List Bool} where
+  pub others-start : Others atoms (replicate 256 false) 0
+  unfolding atomHolds
+  others-start = record {
+    size = length-replicate 256 false;
+    sound = λ f t. absurd (subst T (blank 256 f) t);
+    full = λ f b. absurd (omega arith);
+  }
+
+  pub others-more : {others : List Bool} {f : ℕ} → Others atoms others f → f < 256 → Others atoms (set others f (not (getD atoms f false))) (f + 1)
+  unfolding atomHolds
+  others-more {others} {f} w b = record {
+    size = length-set others f (not (getD atoms f false)) ∙ w .size;
+    sound = λ g t. sound-at g (ℕ-discrete g f) t;
+    full = λ g k t. full-at g k (ℕ-discrete g f) t;
+  }
+    where
+      at-f : (g : ℕ) → g ≡ f → getD (set others f (not (getD atoms f false))) g false ≡ not (getD atoms g false)
+      at-f g q = ap (λ (x : ℕ). getD (set others f (not (getD atoms f false))) x false) q ∙ getD-set-same others f (not (getD atoms f false)) false (omega (arith, w .size)) ∙ ap (λ (x : ℕ). not (getD atoms x false)) (sym q)
+
+      sound-at : (g : ℕ) → Dec (g ≡ f) → T (getD (set others f (not (getD atoms f false))) g false) → (g < f + 1) × T (not (getD atoms g false))
+      sound-at g (yes q) t = (omega arith, subst T (at-f g q) t)
+      sound-at g (no n) t =
+          let v : (g < f) × T (not (getD atoms g false)) = w .sound g (subst T (getD-set-other others f g (not (getD atoms f false)) false n) t) in
+          (omega (arith, v .0), v .1)
+
+      full-at : (g : ℕ) → g < f + 1 → Dec (g ≡ f) → T (not (getD atoms g false)) → T (getD (set others f (not (getD atoms f false))) g false)
+      full-at g k (yes q) t = subst T (sym (at-f g q)) t
+      full-at g k (no n) t = subst T (sym (getD-set-other others f g (not (getD atoms f false)) false n)) (w .full g (omega arith) t)

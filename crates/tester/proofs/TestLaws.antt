@@ -1,0 +1,202 @@
+-- From the table to the definition: rows that are alive are the rules that are not rejected, the atoms that are not supported are
+-- the defaults, so what follows is what is derived; then the comparison of the marks with the interpretation decides stability.
+-- Used by is_stable; SettingMarks uses the first half. Assumes nothing.
+use mathlib.Core.Path.{_≡_, refl, sym, ap, subst, _∙_}
+use mathlib.Core.Bool.{Bool, true, false, not, _&&_, Bool·beq}
+use mathlib.Core.List.{List}
+use Prim.Native.Nat.{ℕ, _<_, _≤_}
+use native.Mathlib.Omega.{arith}
+use lib.Dec.{T, T-not, not-T, eqb, eqb→eq}
+use lib.ListN.{length, getD}
+use Rattle.base.specs.Lists.{all, any, upTo}
+use Rattle.layers.specs.Masks.{bitOf}
+use Rattle.format.specs.Book.{Literal, Rule}
+use Rattle.models.specs.Program.{Program}
+use Rattle.models.specs.StableModels.{Interpretation, atomHolds, positive, negative, complement, sameLiteral, signed, holds, bodyHolds, overrides, rejected, default, stable, Derived, by-default, by-rule, StableModel, WellFormed}
+use Rattle.base.proofs.Members.{_∈_, and-left, and-right, and-both, all-at, all-of, any-at, any-of, same-test}
+use Rattle.base.proofs.UpTo.{failed, upTo-lt, upTo-has}
+use Rattle.models.proofs.LeastLaws.{lit-same, lit-refl, stable-sound, stable-complete}
+use Rattle.table.specs.Names.{literalNamed, nameOf}
+use Rattle.table.specs.Rows.{rowCount, headName, rowAt, rowsOf}
+use Rattle.table.specs.Table.{Tabulates}
+use Rattle.table.proofs.NameLaws.{name-back, complement-twice}
+use Rattle.table.proofs.RowLaws.{row-in, row-of}
+use Rattle.table.proofs.TableLaws.{overrides-heads}
+use Rattle.tester.specs.Marks.{literalMarked, alive, FollowsFrom, from-start, by-row, Conflict, Fills, marksAgree}
+use Rattle.tester.specs.Masks.{Rejection, RejectedMasks, Support, Supported, Others}
+
+pub holds-one : (m : Interpretation) (f : ℕ) → T (holds m (positive f)) → T (holds m (negative f)) → ⊥
+unfolding holds signed
+holds-one m f p q = T-not (atomHolds m f) q p
+
+-- what is derived names an atom of the program
+pub derived-lt : (P : Program) → WellFormed P → (m : Interpretation) (l : Literal) → Derived P m l → l .atom < P .atoms
+derived-lt P w m l (by-default f h d) = h
+derived-lt P w m l (by-rule r k u below) = w .heads r k
+
+beq-same : (a b : Bool) → T (Bool·beq a b) → a ≡ b
+beq-same true true t = refl
+beq-same true false t = absurd t
+beq-same false true t = absurd t
+beq-same false false t = refl
+
+beq-of : (a b : Bool) → a ≡ b → T (Bool·beq a b)
+beq-of a b e = subst (λ (x : Bool). T (Bool·beq a x)) e (go a)
+  where
+    go : (c : Bool) → T (Bool·beq c c)
+    go true = tt
+    go false = tt
+
+module _ (p q : List Bool) (m : Interpretation) where
+  agree-sign : (f : ℕ) (c : Bool) → T (marksAgree p q m f) → literalMarked p q (record { atom = f; negated = c }) ≡ holds m (record { atom = f; negated = c })
+  unfolding marksAgree literalMarked holds signed
+  agree-sign f true t = beq-same (atomHolds q f) (not (atomHolds m f)) (and-right (Bool·beq (atomHolds p f) (atomHolds m f)) (Bool·beq (atomHolds q f) (not (atomHolds m f))) t)
+  agree-sign f false t = beq-same (atomHolds p f) (atomHolds m f) (and-left (Bool·beq (atomHolds p f) (atomHolds m f)) (Bool·beq (atomHolds q f) (not (atomHolds m f))) t)
+
+  agree-literal : (l : Literal) → T (marksAgree p q m (l .atom)) → literalMarked p q l ≡ holds m l
+  agree-literal l t = agree-sign (l .atom) (l .negated) t
+
+  literal-agree : (f : ℕ) → literalMarked p q (positive f) ≡ holds m (positive f) → literalMarked p q (negative f) ≡ holds m (negative f) → T (marksAgree p q m f)
+  unfolding marksAgree literalMarked holds signed
+  literal-agree f a c = and-both (Bool·beq (atomHolds p f) (atomHolds m f)) (Bool·beq (atomHolds q f) (not (atomHolds m f))) (beq-of (atomHolds p f) (atomHolds m f) a) (beq-of (atomHolds q f) (not (atomHolds m f)) c)
+
+module _ {P : Program} {book rows overridden : List ℕ} (w : Tabulates P book rows overridden) where
+  row-rule : (j : ℕ) → j < rowCount rows → rowAt book rows j ∈ P .rules
+  row-rule j h = subst (λ (rs : List Rule). rowAt book rows j ∈ rs) (w .rules) (row-in book rows j h)
+
+  pub rule-in : (r : Rule) → r ∈ P .rules → r ∈ rowsOf book rows
+  rule-in r k = subst (λ (rs : List Rule). r ∈ rs) (sym (w .rules)) k
+
+  pub in-rule : (r : Rule) → r ∈ rowsOf book rows → r ∈ P .rules
+  in-rule r k = subst (λ (rs : List Rule). r ∈ rs) (w .rules) k
+
+  rule-row : (r : Rule) → r ∈ P .rules → (j : ℕ) × (j < rowCount rows) × (rowAt book rows j ≡ r)
+  rule-row r k = row-of book rows r (rule-in r k)
+
+  -- the name of a rule's head
+  head-name : (r : Rule) → r ∈ P .rules → (literalNamed (nameOf (r .head)) ≡ r .head) × (nameOf (r .head) < 512)
+  unfolding rowAt
+  head-name r k =
+      let v : (j : ℕ) × (j < rowCount rows) × (rowAt book rows j ≡ r) = rule-row r k in
+      subst (λ (x : Rule). (literalNamed (nameOf (x .head)) ≡ x .head) × (nameOf (x .head) < 512)) (v .2)
+      (ap literalNamed (name-back (headName rows (v .0))), subst (λ (x : ℕ). x < 512) (sym (name-back (headName rows (v .0)))) (w .fits .bounded .name (v .0) (v .1)))
+
+  module _ {rejects : List ℕ} {m : Interpretation} (g : RejectedMasks book rows overridden m rejects (rowCount rows)) where
+    bit-rejected : (r : Rule) → r ∈ P .rules → bitOf (getD rejects (nameOf (r .head)) 0) (r .layer) ≡ 1 → T (rejected P m r)
+    unfolding rejected overrides
+    bit-rejected r k e =
+        let x : Rejection book rows overridden m (rowCount rows) (nameOf (r .head)) (r .layer) = g .sound (nameOf (r .head)) (r .layer) e in
+        let t : Rule = rowAt book rows (x .row) in
+        let q : t .head ≡ complement (r .head) = sym (complement-twice (t .head)) ∙ ap complement (sym (x .facing) ∙ head-name r k .0) in
+        any-of (λ t. (P .below (r .layer) (t .layer) && sameLiteral (t .head) (complement (r .head))) && bodyHolds m t) (row-rule (x .row) (x .before))
+        (and-both (P .below (r .layer) (t .layer) && sameLiteral (t .head) (complement (r .head))) (bodyHolds m t)
+        (and-both (P .below (r .layer) (t .layer)) (sameLiteral (t .head) (complement (r .head))) (w .sound (x .row) (x .before) (r .layer) (x .bit)) (subst (λ (l : Literal). T (sameLiteral (t .head) l)) q (lit-refl (t .head))))
+        (x .holds-in))
+
+    rejected-bit : (r : Rule) → r ∈ P .rules → T (rejected P m r) → bitOf (getD rejects (nameOf (r .head)) 0) (r .layer) ≡ 1
+    unfolding rejected
+    rejected-bit r k d =
+        let v : (t : Rule) × t ∈ P .rules × T (overrides P t r && bodyHolds m t) = any-at (λ t. overrides P t r && bodyHolds m t) (P .rules) d in
+        let u : (j : ℕ) × (j < rowCount rows) × (rowAt book rows j ≡ v .0) = rule-row (v .0) (v .1) in
+        let t : Rule = rowAt book rows (u .0) in
+        let o : T (overrides P t r && bodyHolds m t) = subst (λ (t : Rule). T (overrides P t r && bodyHolds m t)) (sym (u .2)) (v .2) in
+        let over : T (overrides P t r) = and-left (overrides P t r) (bodyHolds m t) o in
+        g .full (nameOf (r .head)) (r .layer)
+        (record {
+          row = u .0;
+          before = u .1;
+          facing = head-name r k .0 ∙ sym (complement-twice (r .head)) ∙ ap complement (sym (overrides-heads P t r over));
+          holds-in = and-right (overrides P t r) (bodyHolds m t) o;
+          bit = w .full (u .0) (u .1) r (rule-in r k) over;
+        })
+        (head-name r k .1)
+
+    pub unrejected-alive : (r : Rule) → r ∈ P .rules → T (not (rejected P m r)) → T (alive rejects r)
+    unfolding alive
+    unrejected-alive r k u =
+        not-T (eqb (bitOf (getD rejects (nameOf (r .head)) 0) (r .layer)) 1)
+        (λ t. T-not (rejected P m r) u (bit-rejected r k (eqb→eq (bitOf (getD rejects (nameOf (r .head)) 0) (r .layer)) 1 t)))
+
+    pub alive-unrejected : (r : Rule) → r ∈ P .rules → T (alive rejects r) → T (not (rejected P m r))
+    unfolding alive
+    alive-unrejected r k u =
+        not-T (rejected P m r)
+        (λ t. T-not (eqb (bitOf (getD rejects (nameOf (r .head)) 0) (r .layer)) 1) u (subst (λ (x : ℕ). T (eqb x 1)) (sym (rejected-bit r k t)) tt))
+
+    module _ {atoms start : List Bool} {n : ℕ} (lw : WellFormed P) (en : n ≡ P .atoms) (bn : n ≤ 256) (s : Supported book rows m atoms (rowCount rows)) (d : Others atoms start n) where
+      start-default : (f : ℕ) → T (atomHolds start f) → T (default P m f)
+      unfolding default
+      start-default f t =
+          not-T (any (λ r. sameLiteral (r .head) (positive f) && bodyHolds m r) (P .rules))
+          (λ a.
+          let v : (r : Rule) × r ∈ P .rules × T (sameLiteral (r .head) (positive f) && bodyHolds m r) = any-at (λ r. sameLiteral (r .head) (positive f) && bodyHolds m r) (P .rules) a in
+          let u : (j : ℕ) × (j < rowCount rows) × (rowAt book rows j ≡ v .0) = rule-row (v .0) (v .1) in
+          let r : Rule = rowAt book rows (u .0) in
+          let o : T (sameLiteral (r .head) (positive f) && bodyHolds m r) = subst (λ (r : Rule). T (sameLiteral (r .head) (positive f) && bodyHolds m r)) (sym (u .2)) (v .2) in
+          T-not (atomHolds atoms f) (d .sound f t .1)
+          (s .full f
+          (record {
+            row = u .0;
+            before = u .1;
+            head-is = lit-same (r .head) (positive f) (and-left (sameLiteral (r .head) (positive f)) (bodyHolds m r) o);
+            holds-in = and-right (sameLiteral (r .head) (positive f)) (bodyHolds m r) o;
+          })
+          (omega (arith, d .sound f t .0))))
+
+      default-start : (f : ℕ) → f < P .atoms → T (default P m f) → T (atomHolds start f)
+      unfolding default
+      default-start f h u =
+          d .full f (omega arith)
+          (not-T (atomHolds atoms f)
+          (λ t.
+          let x : Support book rows m (rowCount rows) f = s .sound f t in
+          let r : Rule = rowAt book rows (x .row) in
+          T-not (any (λ r. sameLiteral (r .head) (positive f) && bodyHolds m r) (P .rules)) u
+          (any-of (λ r. sameLiteral (r .head) (positive f) && bodyHolds m r) (row-rule (x .row) (x .before))
+          (and-both (sameLiteral (r .head) (positive f)) (bodyHolds m r) (subst (λ (l : Literal). T (sameLiteral (r .head) l)) (x .head-is) (lit-refl (r .head))) (x .holds-in)))))
+
+      follows-derived : (l : Literal) → FollowsFrom book rows rejects start l → Derived P m l
+      follows-derived l (from-start f t) = by-default f (let u : f < n = d .sound f t .0 in omega arith) (start-default f t)
+      follows-derived l (by-row r k a below) = by-rule r (in-rule r k) (alive-unrejected r (in-rule r k) a) (λ x i. follows-derived x (below x i))
+
+      derived-follows : (l : Literal) → Derived P m l → FollowsFrom book rows rejects start l
+      derived-follows l (by-default f h u) = from-start f (default-start f h u)
+      derived-follows l (by-rule r k u below) = by-row r (rule-in r k) (unrejected-alive r k u) (λ x i. derived-follows x (below x i))
+
+      module _ {p q : List Bool} {c : Bool} (filled : Fills book rows rejects start p q c) (sz : length m ≡ n) where
+        -- a fact reached both ways: the interpretation is not stable
+        pub conflict-unstable : c ≡ true → false ≡ stable P m
+        conflict-unstable e =
+            sym (failed (stable P m) (λ t.
+            let x : Conflict book rows rejects start = filled .clash e in
+            let z : StableModel P m = stable-sound P m (sz ∙ en) t in
+            let f : ℕ = x .atom in
+            let y : Derived P m (positive f) = follows-derived (positive f) (x .as-positive) in
+            let h : f < P .atoms = derived-lt P lw m (positive f) y in
+            holds-one m f (z .exact (positive f) h .0 y) (z .exact (negative f) h .0 (follows-derived (negative f) (x .as-negative)))))
+
+        -- the marks are exactly what is derived: the comparison decides
+        module _ (quiet : c ≡ false) where
+          derived-marked : (l : Literal) → Derived P m l → T (literalMarked p q l)
+          derived-marked l r = filled .full quiet l (derived-follows l r)
+
+          marked-derived : (l : Literal) → T (literalMarked p q l) → Derived P m l
+          marked-derived l t = follows-derived l (filled .sound l t)
+
+          marks-hold : T (stable P m) → (l : Literal) → l .atom < P .atoms → literalMarked p q l ≡ holds m l
+          marks-hold t l h =
+              let z : StableModel P m = stable-sound P m (sz ∙ en) t in
+              same-test (literalMarked p q l) (holds m l) (λ u. z .exact l h .0 (marked-derived l u)) (λ u. derived-marked l (z .exact l h .1 u))
+
+          hold-stable : ((l : Literal) → l .atom < P .atoms → literalMarked p q l ≡ holds m l) → T (stable P m)
+          hold-stable f =
+              stable-complete P m
+              (record { size = sz ∙ en; exact = λ l h. (λ r. subst T (f l h) (derived-marked l r), λ u. marked-derived l (subst T (sym (f l h)) u)) })
+
+          pub agree-stable : (r : Bool) → r ≡ all (marksAgree p q m) (upTo n) → r ≡ stable P m
+          agree-stable r e =
+              e ∙ same-test (all (marksAgree p q m) (upTo n)) (stable P m)
+              (λ t. hold-stable (λ l h. agree-literal p q m l (all-at (marksAgree p q m) t (upTo-has n (l .atom) (omega arith)))))
+              (λ t. all-of (marksAgree p q m) (upTo n) (λ f k.
+              let h : f < n = upTo-lt n f k in
+              literal-agree p q m f (marks-hold t (positive f) (omega arith)) (marks-hold t (negative f) (omega arith))))

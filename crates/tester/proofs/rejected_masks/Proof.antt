@@ -1,0 +1,76 @@
+-- The invariant: the masks have exactly what the rows passed reject. The rows left fall.
+use mathlib.Core.Path.{_≡_, refl, subst}
+use Prim.Native.Nat.{_-_, _/_, _≤_}
+use lib.ListN.{length}
+use Rattle.tester.specs.Masks.{RejectedMasks}
+use Rattle.tester.proofs.MaskLaws.{rejects-start, rejects-more}
+use borrow.Author.Needs.{needs}
+use native.Mathlib.Omega.{arith}
+use Rattle.tester.proofs.rejected_masks.Statement.{statement}
+use Rattle.tester.proofs.rejected_masks.Tie as tie
+
+abbrev Inv-loop : tie.InvT-loop
+Inv-loop book rows overridden m count rejects₀ j₀ rejects j = (count ≡ length rows / 4) × (j ≤ count) × RejectedMasks book rows overridden m rejects j
+
+abbrev μ-loop : tie.MeasureT-loop
+μ-loop book rows overridden m count rejects₀ j₀ rejects j = count - j
+
+loop-holds : tie.Need-loop-holds Inv-loop μ-loop
+loop-holds c = (refl, omega arith, rejects-start)
+
+row-head-requires : tie.Need-row-head-requires Inv-loop μ-loop
+row-head-requires c κs = search needs
+
+opposite-requires : tie.Need-opposite-requires Inv-loop μ-loop
+opposite-requires c κs = search needs
+
+mul-rejects : tie.Need-mul-rejects Inv-loop μ-loop
+mul-rejects c = search needs
+
+array-read-rejects : tie.Need-array-read-rejects Inv-loop μ-loop
+array-read-rejects c = search needs
+
+row-mask-requires : tie.Need-row-mask-requires Inv-loop μ-loop
+row-mask-requires c κs = search needs
+
+mul-rejects-2 : tie.Need-mul-rejects-2 Inv-loop μ-loop
+mul-rejects-2 c = search needs
+
+array-write-rejects : tie.Need-array-write-rejects Inv-loop μ-loop
+array-write-rejects c = search needs
+
+add-j : tie.Need-add-j Inv-loop μ-loop
+add-j c = search needs
+
+loop-less : tie.Need-loop-less Inv-loop μ-loop
+loop-less c = search needs
+
+loop-again : tie.Need-loop-again Inv-loop μ-loop
+loop-again c =
+    let l = c .before .before .before .before .loop in
+    (refl, omega arith, rejects-more (l .inv .2) (c .before .before .row-head .result) (c .before .opposite .result) (c .row-mask .result) (c .before .before .row-head .ensures .0) (c .before .opposite .ensures .0) (c .before .opposite .ensures .1) (c .row-mask .ensures))
+
+returns : tie.Need-returns Inv-loop μ-loop
+returns c =
+    let e = c .before .before .before .before .before .before .args in
+    let l = c .before .loop in
+    subst (RejectedMasks (e .book .now) (e .rows .now) (e .overridden .now) (e .m .now) (l .rejects)) {x = l .j} {y = length (e .rows .now) / 4} (omega (arith, c .loop-test .left, l .inv .1)) (l .inv .2)
+
+pub rejected-masks-spec : {M : Type 1} → statement M
+rejected-masks-spec =
+    tie.close
+    (tie.spec
+    Inv-loop
+    μ-loop
+    loop-holds
+    row-head-requires
+    opposite-requires
+    mul-rejects
+    array-read-rejects
+    row-mask-requires
+    mul-rejects-2
+    array-write-rejects
+    add-j
+    loop-less
+    loop-again
+    returns)

@@ -1,0 +1,46 @@
+-- What an interpretation does to the rows: which are rejected, as masks of layers at each name, and which atoms are supported.
+-- Assumes nothing.
+use mathlib.Core.Path.{_≡_}
+use mathlib.Core.Bool.{Bool, not}
+use mathlib.Core.List.{List}
+use Prim.Native.Nat.{ℕ, _<_}
+use lib.Dec.{T}
+use lib.ListN.{length, getD}
+use Rattle.base.specs.Bounds.{maxAtoms}
+use Rattle.layers.specs.Masks.{bitOf}
+use Rattle.models.specs.StableModels.{Interpretation, atomHolds, positive, complement, bodyHolds}
+use Rattle.table.specs.Names.{literalNamed}
+use Rattle.table.specs.Rows.{rowAt}
+
+-- a row before n whose body holds, whose head is opposite to name h, and which overrides rules of layer i
+pub record Rejection (book rows overridden : List ℕ) (m : Interpretation) (n h i : ℕ) : Type 0 where
+  pub row : ℕ
+  pub before : row < n
+  pub facing : literalNamed h ≡ complement (rowAt book rows row .head)
+  pub holds-in : T (bodyHolds m (rowAt book rows row))
+  pub bit : bitOf (getD overridden row 0) i ≡ 1
+
+-- bit i at name h: a row before n rejects the rules of layer i with that head
+pub record RejectedMasks (book rows overridden : List ℕ) (m : Interpretation) (rejects : List ℕ) (n : ℕ) : Type 0 where
+  pub size : length rejects ≡ 512
+  pub sound : (h i : ℕ) → bitOf (getD rejects h 0) i ≡ 1 → Rejection book rows overridden m n h i
+  pub full : (h i : ℕ) → Rejection book rows overridden m n h i → h < 512 → bitOf (getD rejects h 0) i ≡ 1
+
+-- a row before n whose body holds, with atom f as its plain head
+pub record Support (book rows : List ℕ) (m : Interpretation) (n f : ℕ) : Type 0 where
+  pub row : ℕ
+  pub before : row < n
+  pub head-is : rowAt book rows row .head ≡ positive f
+  pub holds-in : T (bodyHolds m (rowAt book rows row))
+
+-- the atoms that a row before n supports; rejected rows count
+pub record Supported (book rows : List ℕ) (m : Interpretation) (atoms : List Bool) (n : ℕ) : Type 0 where
+  pub size : length atoms ≡ maxAtoms
+  pub sound : (f : ℕ) → T (atomHolds atoms f) → Support book rows m n f
+  pub full : (f : ℕ) → Support book rows m n f → f < maxAtoms → T (atomHolds atoms f)
+
+-- the atoms below n that are not among these
+pub record Others (atoms others : List Bool) (n : ℕ) : Type 0 where
+  pub size : length others ≡ maxAtoms
+  pub sound : (f : ℕ) → T (atomHolds others f) → (f < n) × T (not (atomHolds atoms f))
+  pub full : (f : ℕ) → f < n → T (not (atomHolds atoms f)) → T (atomHolds others f)
