@@ -1,17 +1,16 @@
--- What a setting's end adds to the list and to the count.
+-- The states that pass a test which only one can pass. Used by the search for the model of a setting.
 -- Assumes nothing.
 use mathlib.Core.Path.{_≡_, refl, sym, ap, subst, _∙_}
-use mathlib.Core.Logic.{_⊎_, inl, inr}
-use mathlib.Core.Bool.{Bool, true, false, not, _&&_}
-use mathlib.Core.List.{List, [], _∷_, List·Memᴰ, List·Memᴰ·head, List·Memᴰ·tail, List·Memᴰ·cases-cons, List·Memᴰ·not-nil, Memᴰ·cast}
-use Prim.Native.Nat.{ℕ, zero, suc, _+_, _*_, _^_, _<_, _≤_}
-use native.Mathlib.Omega.{arith}
+use mathlib.Core.Logic.{inl, inr}
+use mathlib.Core.Bool.{Bool, true, false}
+use mathlib.Core.List.{[], List·Memᴰ·head, List·Memᴰ·cases-cons, List·Memᴰ·not-nil}
+use Prim.Native.Nat.{ℕ}
 use lib.Dec.{T}
 use lib.ListN.{length}
 use Rattle.base.specs.Lists.{consIf, filter}
 use Rattle.models.specs.StableModels.{Interpretation}
 use Rattle.models.specs.Listing.{interpretations}
-use Rattle.base.proofs.Members.{_∈_, filter-from, filter-into}
+use Rattle.base.proofs.Members.{_∈_}
 use Rattle.base.proofs.Rising.{Rising}
 use Rattle.models.proofs.InterpretationLaws.{_⊏_, listed}
 
@@ -32,15 +31,3 @@ alone n p c l h =
     into : (m : Interpretation) (d : Bool) → m ≡ c → T d → m ∈ consIf d c []
     into m true e t = List·Memᴰ·head e
     into m false e t = absurd t
-
--- a count is split by any further test
-pub split : (p a : Interpretation → Bool) (xs : List Interpretation) → length (filter p xs) ≡ length (filter (λ m. p m && a m) xs) + length (filter (λ m. p m && not (a m)) xs)
-unfolding filter consIf
-split p a [] = omega arith
-split p a (x ∷ xs) = go (p x) (a x) (split p a xs)
-  where
-    go : (c d : Bool) → length (filter p xs) ≡ length (filter (λ m. p m && a m) xs) + length (filter (λ m. p m && not (a m)) xs)
-        → length (consIf c x (filter p xs)) ≡ length (consIf (c && d) x (filter (λ m. p m && a m) xs)) + length (consIf (c && not d) x (filter (λ m. p m && not (a m)) xs))
-    go true true e = omega arith
-    go true false e = omega arith
-    go false d e = e

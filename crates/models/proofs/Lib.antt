@@ -1,8 +1,6 @@
 pub mod InterpretationLaws
 pub mod LeastLaws
 pub mod BranchingLaws
-pub mod CandidateLaws
-pub mod SettingLaws
 pub mod RecordLaws
 pub mod RecordBits
 pub mod RecordOrder

@@ -1,7 +1,6 @@
 pub mod Program
 pub mod StableModels
 pub mod Branching
-pub mod Candidate
 pub mod Listing
 pub mod Condition3
 pub mod Examples

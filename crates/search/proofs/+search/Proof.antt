@@ -1,0 +1,360 @@
+-- `search` meets its contract. The measure is the number of undecided facts. A call that need not go on, a leaf, and two halves
+-- with the first undecided fact decided each way: each is one law of StepLaws. Assumes nothing.
+use mathlib.Core.Path.{sym, _∙_}
+use lib.ListN.{length}
+use Rattle.search.proofs.StepLaws as laws
+use Rattle.search.proofs.VisitLaws as visits
+use borrow.Author.Needs.{needs}
+use native.Mathlib.Omega.{arith}
+use Prim.Native.Nat.{ℕ, _<_}
+use borrow.Fn.Kinds.{In}
+use borrow.Fn.PlainCycle.{Measures, is, falls, and}
+use Rattle.search.proofs.search.Reads as search′
+use Rattle.search.proofs.search.Kinds as search-kinds
+use Rattle.search.proofs.+search.Lts-search as search-lts
+use Rattle.base.proofs.wide.Reads as wide-reads
+use Rattle.search.proofs.meet.Reads as meet-reads
+use Rattle.search.proofs.model_at.Reads as model-at-reads
+use Rattle.search.proofs.stops.Reads as stops-reads
+use Rattle.search.proofs.+search.{statement}
+use Rattle.search.proofs.+search.Tie.{close}
+
+abbrev μ-search : Measures 6 search-kinds.ps ℕ
+μ-search κs a = length (a .1 .1 .1 .1 .1 .0 .now)
+
+abbrev search-at : ℕ → In 6 search-kinds.ps
+search-at t = and 6 search-kinds.ps (is 6 search-kinds.ps μ-search t) search′.Pre
+
+abbrev search-below : ℕ → In 6 search-kinds.ps
+search-below t = and 6 search-kinds.ps (falls 6 search-kinds.ps _<_ μ-search t) search′.Pre
+
+search-stops-requires : (t : ℕ) → search-lts.Need-stops-requires (
+  stops-reads.Asked,
+  stops-reads.Learnt,
+  model-at-reads.Asked,
+  model-at-reads.Learnt,
+  meet-reads.Asked,
+  meet-reads.Learnt,
+  wide-reads.Asked,
+  wide-reads.Learnt,
+  search-below t,
+  search′.Post,
+) (search-at t) search′.Post
+search-stops-requires t c κs = search needs
+
+search-returns : (t : ℕ) → search-lts.Need-returns (
+  stops-reads.Asked,
+  stops-reads.Learnt,
+  model-at-reads.Asked,
+  model-at-reads.Learnt,
+  meet-reads.Asked,
+  meet-reads.Learnt,
+  wide-reads.Asked,
+  wide-reads.Learnt,
+  search-below t,
+  search′.Post,
+) (search-at t) search′.Post
+search-returns t c = let s = c .before .before .before .before .before .before .before .before in let a = s .args in let q = s .pre .1 in visits.searched-stopped (a .n) _ (a .v) (a .part .now) (sym (c .before .stops .ensures) ∙ c .if1 .taken)
+
+search-model-at-requires : (t : ℕ) → search-lts.Need-model-at-requires (
+  stops-reads.Asked,
+  stops-reads.Learnt,
+  model-at-reads.Asked,
+  model-at-reads.Learnt,
+  meet-reads.Asked,
+  meet-reads.Learnt,
+  wide-reads.Asked,
+  wide-reads.Learnt,
+  search-below t,
+  search′.Post,
+) (search-at t) search′.Post
+search-model-at-requires t c κs = c .before .before .before .before .before .before .before .before .before .pre .1 .0
+
+search-meet-requires : (t : ℕ) → search-lts.Need-meet-requires (
+  stops-reads.Asked,
+  stops-reads.Learnt,
+  model-at-reads.Asked,
+  model-at-reads.Learnt,
+  meet-reads.Asked,
+  meet-reads.Learnt,
+  wide-reads.Asked,
+  wide-reads.Learnt,
+  search-below t,
+  search′.Post,
+) (search-at t) search′.Post
+search-meet-requires t c κs = let s = c .before .before .before .before .before .before .before .before .before .before .before .before .before in let a = s .args in let q = s .pre .1 in (q .0 .some, q .0 .few, q .1, laws.count-fits (a .v .count) (length (a .undecided .now)) (q .2), sym (c .before .before .before .before .before .before .stops .ensures) ∙ c .before .before .before .before .before .if1 .left)
+
+search-same-length : (t : ℕ) → search-lts.Need-same-length (
+  stops-reads.Asked,
+  stops-reads.Learnt,
+  model-at-reads.Asked,
+  model-at-reads.Learnt,
+  meet-reads.Asked,
+  meet-reads.Learnt,
+  wide-reads.Asked,
+  wide-reads.Learnt,
+  search-below t,
+  search′.Post,
+) (search-at t) search′.Post
+search-same-length t c = search needs
+
+search-returns-2 : (t : ℕ) → search-lts.Need-returns-2 (
+  stops-reads.Asked,
+  stops-reads.Learnt,
+  model-at-reads.Asked,
+  model-at-reads.Learnt,
+  meet-reads.Asked,
+  meet-reads.Learnt,
+  wide-reads.Asked,
+  wide-reads.Learnt,
+  search-below t,
+  search′.Post,
+) (search-at t) search′.Post
+search-returns-2 t c = let s = c .before .before .before .before .before .before .before .before .before .before .before .before .before .before .before .before in let a = s .args in let q = s .pre .1 in laws.leaf-met (a .n) (laws.leafOf (a .book .now) (a .atoms .now) (a .layer)) (a .undecided .now) (a .setting) (c .before .before .before .before .before .before .before .if2 .taken) (c .before .before .before .before .before .before .model-at .result .ok) _ (c .before .before .before .before .before .before .model-at .ensures) (c .before .before .before .before .if3 .taken) (a .v) (a .part .now) _ _ (c .before .before .meet .ensures)
+
+search-returns-3 : (t : ℕ) → search-lts.Need-returns-3 (
+  stops-reads.Asked,
+  stops-reads.Learnt,
+  model-at-reads.Asked,
+  model-at-reads.Learnt,
+  meet-reads.Asked,
+  meet-reads.Learnt,
+  wide-reads.Asked,
+  wide-reads.Learnt,
+  search-below t,
+  search′.Post,
+) (search-at t) search′.Post
+search-returns-3 t c = let s = c .before .before .before .before .before .before .before .before .before .before .before .before in let a = s .args in let q = s .pre .1 in laws.leaf-empty (a .n) (laws.leafOf (a .book .now) (a .atoms .now) (a .layer)) (a .undecided .now) (a .setting) (c .before .before .before .if2 .taken) (c .before .before .model-at .result .ok) _ (c .before .before .model-at .ensures) (c .if3 .left) (a .v) (a .part .now)
+
+search-shared-slice-read-wide : (t : ℕ) → search-lts.Need-shared-slice-read-wide (
+  stops-reads.Asked,
+  stops-reads.Learnt,
+  model-at-reads.Asked,
+  model-at-reads.Learnt,
+  meet-reads.Asked,
+  meet-reads.Learnt,
+  wide-reads.Asked,
+  wide-reads.Learnt,
+  search-below t,
+  search′.Post,
+) (search-at t) search′.Post
+search-shared-slice-read-wide t c = search needs
+
+search-wide-requires : (t : ℕ) → search-lts.Need-wide-requires (
+  stops-reads.Asked,
+  stops-reads.Learnt,
+  model-at-reads.Asked,
+  model-at-reads.Learnt,
+  meet-reads.Asked,
+  meet-reads.Learnt,
+  wide-reads.Asked,
+  wide-reads.Learnt,
+  search-below t,
+  search′.Post,
+) (search-at t) search′.Post
+search-wide-requires t c κs = search needs
+
+search-array-write-decided : (t : ℕ) → search-lts.Need-array-write-decided (
+  stops-reads.Asked,
+  stops-reads.Learnt,
+  model-at-reads.Asked,
+  model-at-reads.Learnt,
+  meet-reads.Asked,
+  meet-reads.Learnt,
+  wide-reads.Asked,
+  wide-reads.Learnt,
+  search-below t,
+  search′.Post,
+) (search-at t) search′.Post
+search-array-write-decided t c = omega (arith, c .wide .ensures .1)
+
+search-sub-search : (t : ℕ) → search-lts.Need-sub-search (
+  stops-reads.Asked,
+  stops-reads.Learnt,
+  model-at-reads.Asked,
+  model-at-reads.Learnt,
+  meet-reads.Asked,
+  meet-reads.Learnt,
+  wide-reads.Asked,
+  wide-reads.Learnt,
+  search-below t,
+  search′.Post,
+) (search-at t) search′.Post
+search-sub-search t c = search needs
+
+search-part-search-start : (t : ℕ) → search-lts.Need-part-search-start (
+  stops-reads.Asked,
+  stops-reads.Learnt,
+  model-at-reads.Asked,
+  model-at-reads.Learnt,
+  meet-reads.Asked,
+  meet-reads.Learnt,
+  wide-reads.Asked,
+  wide-reads.Learnt,
+  search-below t,
+  search′.Post,
+) (search-at t) search′.Post
+search-part-search-start t c = search needs
+
+search-part-search-end : (t : ℕ) → search-lts.Need-part-search-end (
+  stops-reads.Asked,
+  stops-reads.Learnt,
+  model-at-reads.Asked,
+  model-at-reads.Learnt,
+  meet-reads.Asked,
+  meet-reads.Learnt,
+  wide-reads.Asked,
+  wide-reads.Learnt,
+  search-below t,
+  search′.Post,
+) (search-at t) search′.Post
+search-part-search-end t c = search needs
+
+search-search-requires : (t : ℕ) → search-lts.Need-search-requires (
+  stops-reads.Asked,
+  stops-reads.Learnt,
+  model-at-reads.Asked,
+  model-at-reads.Learnt,
+  meet-reads.Asked,
+  meet-reads.Learnt,
+  wide-reads.Asked,
+  wide-reads.Learnt,
+  search-below t,
+  search′.Post,
+) (search-at t) search′.Post
+search-search-requires t c κs = let s = c .before .before .before .before .before .before .before .before .before .before .before .before .before in let a = s .args in let q = s .pre .1 in (omega (arith, laws.later-length (a .n) (laws.leafOf (a .book .now) (a .atoms .now) (a .layer)) (a .undecided .now) (a .setting) (c .before .before .before .before .if2 .left)), (q .0, q .1, laws.first-fits (a .n) (laws.leafOf (a .book .now) (a .atoms .now) (a .layer)) (a .undecided .now) (a .setting) (c .before .before .before .before .if2 .left) (a .v .count) (q .2)))
+
+search-array-write-decided-2 : (t : ℕ) → search-lts.Need-array-write-decided-2 (
+  stops-reads.Asked,
+  stops-reads.Learnt,
+  model-at-reads.Asked,
+  model-at-reads.Learnt,
+  meet-reads.Asked,
+  meet-reads.Learnt,
+  wide-reads.Asked,
+  wide-reads.Learnt,
+  search-below t,
+  search′.Post,
+) (search-at t) search′.Post
+search-array-write-decided-2 t c = omega (arith, c .before .before .before .before .before .wide .ensures .1)
+
+search-sub-search-2 : (t : ℕ) → search-lts.Need-sub-search-2 (
+  stops-reads.Asked,
+  stops-reads.Learnt,
+  model-at-reads.Asked,
+  model-at-reads.Learnt,
+  meet-reads.Asked,
+  meet-reads.Learnt,
+  wide-reads.Asked,
+  wide-reads.Learnt,
+  search-below t,
+  search′.Post,
+) (search-at t) search′.Post
+search-sub-search-2 t c = search needs
+
+search-part-search-start-2 : (t : ℕ) → search-lts.Need-part-search-start-2 (
+  stops-reads.Asked,
+  stops-reads.Learnt,
+  model-at-reads.Asked,
+  model-at-reads.Learnt,
+  meet-reads.Asked,
+  meet-reads.Learnt,
+  wide-reads.Asked,
+  wide-reads.Learnt,
+  search-below t,
+  search′.Post,
+) (search-at t) search′.Post
+search-part-search-start-2 t c = search needs
+
+search-part-search-end-2 : (t : ℕ) → search-lts.Need-part-search-end-2 (
+  stops-reads.Asked,
+  stops-reads.Learnt,
+  model-at-reads.Asked,
+  model-at-reads.Learnt,
+  meet-reads.Asked,
+  meet-reads.Learnt,
+  wide-reads.Asked,
+  wide-reads.Learnt,
+  search-below t,
+  search′.Post,
+) (search-at t) search′.Post
+search-part-search-end-2 t c = search needs
+
+search-search-requires-2 : (t : ℕ) → search-lts.Need-search-requires-2 (
+  stops-reads.Asked,
+  stops-reads.Learnt,
+  model-at-reads.Asked,
+  model-at-reads.Learnt,
+  meet-reads.Asked,
+  meet-reads.Learnt,
+  wide-reads.Asked,
+  wide-reads.Learnt,
+  search-below t,
+  search′.Post,
+) (search-at t) search′.Post
+search-search-requires-2 t c κs = let s = c .before .before .before .before .before .before .before .before .before .before .before .before .before .before .before .before .before .before in let a = s .args in let q = s .pre .1 in let one = laws.leaf-one (a .book .now) (a .rows .now) (a .overridden .now) (a .atoms .now) (a .layer) (a .n) (q .0) in (omega (arith, laws.later-length (a .n) (laws.leafOf (a .book .now) (a .atoms .now) (a .layer)) (a .undecided .now) (a .setting) (c .before .before .before .before .before .before .before .before .before .if2 .left)), (q .0, laws.second-kept (a .n) (laws.leafOf (a .book .now) (a .atoms .now) (a .layer)) (a .undecided .now) (a .setting) (c .before .before .before .before .before .before .before .before .before .if2 .left) one _ (a .v) (a .part .now) _ _ (c .before .before .before .before .search .ensures) (q .1), laws.second-fits (a .n) (laws.leafOf (a .book .now) (a .atoms .now) (a .layer)) (a .undecided .now) (a .setting) (c .before .before .before .before .before .before .before .before .before .if2 .left) one _ (a .v) (a .part .now) _ _ (c .before .before .before .before .search .ensures) (q .2)))
+
+search-same-length-2 : (t : ℕ) → search-lts.Need-same-length-2 (
+  stops-reads.Asked,
+  stops-reads.Learnt,
+  model-at-reads.Asked,
+  model-at-reads.Learnt,
+  meet-reads.Asked,
+  meet-reads.Learnt,
+  wide-reads.Asked,
+  wide-reads.Learnt,
+  search-below t,
+  search′.Post,
+) (search-at t) search′.Post
+search-same-length-2 t c = search needs
+
+search-returns-4 : (t : ℕ) → search-lts.Need-returns-4 (
+  stops-reads.Asked,
+  stops-reads.Learnt,
+  model-at-reads.Asked,
+  model-at-reads.Learnt,
+  meet-reads.Asked,
+  meet-reads.Learnt,
+  wide-reads.Asked,
+  wide-reads.Learnt,
+  search-below t,
+  search′.Post,
+) (search-at t) search′.Post
+search-returns-4 t c = let s = c .before .before .before .before .before .before .before .before .before .before .before .before .before .before .before .before .before .before .before .before .before in let a = s .args in let q = s .pre .1 in laws.both-halves (a .n) (laws.leafOf (a .book .now) (a .atoms .now) (a .layer)) (a .undecided .now) (a .setting) (c .before .before .before .before .before .before .before .before .before .before .before .before .if2 .left) (c .before .before .before .before .before .before .before .before .before .before .wide .result) (c .before .before .before .before .before .before .before .before .before .before .wide .ensures .0) (a .v) (a .part .now) _ _ _ _ (c .before .before .before .before .before .before .before .search .ensures) (c .before .before .search2 .ensures)
+
+pub +search-spec : {M : Type 1} → statement M
++search-spec = close μ-search λ t. search-lts.spec (
+  stops-reads.Asked,
+  stops-reads.Learnt,
+  model-at-reads.Asked,
+  model-at-reads.Learnt,
+  meet-reads.Asked,
+  meet-reads.Learnt,
+  wide-reads.Asked,
+  wide-reads.Learnt,
+  search-below t,
+  search′.Post,
+)
+    (search-at t)
+    search′.Post
+    (search-stops-requires t)
+    (search-returns t)
+    (search-model-at-requires t)
+    (search-meet-requires t)
+    (search-same-length t)
+    (search-returns-2 t)
+    (search-returns-3 t)
+    (search-shared-slice-read-wide t)
+    (search-wide-requires t)
+    (search-array-write-decided t)
+    (search-sub-search t)
+    (search-part-search-start t)
+    (search-part-search-end t)
+    (search-search-requires t)
+    (search-array-write-decided-2 t)
+    (search-sub-search-2 t)
+    (search-part-search-start-2 t)
+    (search-part-search-end-2 t)
+    (search-search-requires-2 t)
+    (search-same-length-2 t)
+    (search-returns-4 t)

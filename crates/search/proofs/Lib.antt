@@ -1,0 +1,4 @@
+pub mod FoundLaws
+pub mod VisitLaws
+pub mod StepLaws
+pub mod ModelLaws

@@ -1,0 +1,213 @@
+-- The stable model of a setting, as the code finds it: the start that the setting gives, agreement with it, and that what is
+-- filled is the only state that can be stable there. Used by denied, agrees and model_at. Assumes nothing.
+use mathlib.Core.Path.{_≡_, refl, sym, ap, subst, _∙_}
+use mathlib.Core.Logic.{_⊎_, inl, inr}
+use mathlib.Core.Bool.{Bool, true, false, not, _&&_, Bool·beq, false≢true}
+use mathlib.Core.List.{List, [], _∷_, List·Memᴰ·cases-cons, List·Memᴰ·not-nil}
+use Prim.Native.Nat.{ℕ, zero, suc, _+_, _-_, _<_, _≤_}
+use native.Mathlib.Decide.{decLt, ℕ-discrete}
+use native.Mathlib.Numerals.{add-one}
+use native.Mathlib.Omega.{arith}
+use lib.Dec.{T}
+use lib.ListN.{length, getD, set, take, drop, length-set, replicate, length-replicate, drop-of-length-le}
+use lib.Seq.{drop-cons, ext-getD, getD-set-same, getD-set-other, getD-take, length-take-le}
+use Rattle.base.specs.Lists.{consIf, all, upTo}
+use Rattle.base.proofs.Members.{_∈_, filter-from}
+use Rattle.base.proofs.UpTo.{upTo-lt}
+use Rattle.models.specs.Program.{Program}
+use Rattle.models.specs.StableModels.{Interpretation, atomHolds, stable, StableModel}
+use Rattle.models.specs.Branching.{branching, branchingAtoms}
+use Rattle.table.specs.Rows.{rowCount}
+use Rattle.table.specs.Table.{programOf}
+use Rattle.tester.specs.Marks.{Fills}
+use Rattle.tester.specs.Masks.{RejectedMasks}
+use Rattle.tester.proofs.SettingMarks.{SettingStart, no-conflict, marks-found}
+use Rattle.insertion.proofs.SortedLaws.{getD-member}
+use Rattle.search.specs.Found.{agreeOn, fits, atSetting}
+use Rattle.search.specs.Searchable.{Searchable, Denied}
+use Rattle.search.proofs.FoundLaws.{branching-listed, setting-is, setting-none}
+
+-- ---- the start
+-- of the first i atoms, those that the setting denies
+pub record DeniedTo (atoms : List ℕ) (setting : Interpretation) (i : ℕ) (start : List Bool) : Type 0 where
+  pub inside : i ≤ length atoms
+  pub size : length start ≡ 256
+  pub sound : (f : ℕ) → T (atomHolds start f) → (k : ℕ) × (k < i) × (getD atoms k 0 ≡ f) × T (not (atomHolds setting f))
+  pub full : (k : ℕ) → k < i → T (not (atomHolds setting (getD atoms k 0))) → T (atomHolds start (getD atoms k 0))
+
+none : (n f : ℕ) → getD {A = Bool} (replicate n false) f false ≡ false
+none zero f = refl
+none (suc n) zero = refl
+none (suc n) (suc f) = none n f
+
+pub denied-start : (atoms : List ℕ) (setting : Interpretation) → DeniedTo atoms setting 0 (replicate {A = Bool} 256 false)
+unfolding atomHolds
+denied-start atoms setting = record {
+  inside = omega arith;
+  size = length-replicate {A = Bool} 256 false;
+  sound = λ f t. absurd (subst T (none 256 f) t);
+  full = λ k h. absurd (omega arith);
+}
+
+pub denied-more : (atoms : List ℕ) (setting : Interpretation) (i : ℕ) (start : List Bool) (f : ℕ) → DeniedTo atoms setting i start → i < length atoms → f ≡ getD atoms i 0 → f < 256
+    → DeniedTo atoms setting (i + 1) (set start f (not (getD setting f false)))
+unfolding atomHolds
+denied-more atoms setting i start f w h e b = record {
+  inside = omega arith;
+  size = length-set start f (not (getD setting f false)) ∙ w .size;
+  sound = λ g t. from g t (ℕ-discrete g f);
+  full = λ k q t. into k q t (ℕ-discrete (getD atoms k 0) f) (decLt k i);
+}
+  where
+    new : List Bool
+    new = set start f (not (getD setting f false))
+
+    here : getD (set start f (not (getD setting f false))) f false ≡ not (getD setting f false)
+    here = getD-set-same start f (not (getD setting f false)) false (omega (arith, w .size))
+
+    from : (g : ℕ) → T (getD (set start f (not (getD setting f false))) g false) → Dec (g ≡ f) → (k : ℕ) × (k < i + 1) × (getD atoms k 0 ≡ g) × T (not (getD setting g false))
+    from g t (yes q) = (
+      i,
+      omega arith,
+      sym e ∙ sym q,
+      subst (λ (x : ℕ). T (not (getD setting x false))) (sym q) (subst T here (subst (λ (x : ℕ). T (getD (set start f (not (getD setting f false))) x false)) q t)),
+    )
+    from g t (no n) =
+        let r = w .sound g (subst T (getD-set-other start f g (not (getD setting f false)) false n) t) in
+        (r .0, omega (arith, r .1), r .2, r .3)
+
+    into : (k : ℕ) → k < i + 1 → T (not (getD setting (getD atoms k 0) false)) → Dec (getD atoms k 0 ≡ f) → Dec (k < i) → T (getD (set start f (not (getD setting f false))) (getD atoms k 0) false)
+    into k q t (yes u) d =
+        subst (λ (x : ℕ). T (getD (set start f (not (getD setting f false))) x false)) (sym u) (subst T (sym here) (subst (λ (x : ℕ). T (not (getD setting x false))) u t))
+    into k q t (no n) (yes p) = subst T (sym (getD-set-other start f (getD atoms k 0) (not (getD setting f false)) false n)) (w .full k p t)
+    into k q t (no n) (no p) = let z : k ≡ i = omega arith in absurd (n (ap (λ (x : ℕ). getD atoms x 0) z ∙ sym e))
+
+index-of : (l : List ℕ) (f : ℕ) → f ∈ l → (k : ℕ) × (k < length l) × (getD l k 0 ≡ f)
+index-of [] f m = absurd (List·Memᴰ·not-nil m)
+index-of (x ∷ l) f m = go (λ k. index-of l f k) (List·Memᴰ·cases-cons m)
+  where
+    go : (f ∈ l → (k : ℕ) × (k < length l) × (getD l k 0 ≡ f)) → (f ≡ x) ⊎ f ∈ l → (k : ℕ) × (k < suc (length l)) × (getD (x ∷ l) k 0 ≡ f)
+    go r (inl e) = (0, omega arith, sym e)
+    go r (inr k) = let q = r k in (suc (q .0), omega (arith, q .1), q .2)
+
+pub denied-end : (atoms : List ℕ) (setting : Interpretation) (i : ℕ) (start : List Bool) → DeniedTo atoms setting i start → length atoms ≤ i → Denied atoms setting start
+denied-end atoms setting i start w h = record {
+  sound = λ f t. let r = w .sound f t in (subst (λ (x : ℕ). x ∈ atoms) (r .2) (getD-member atoms (r .0) 0 (omega (arith, r .1, w .inside))), r .3);
+  full = λ f k t.
+      let q = index-of atoms f k in
+      subst (λ (x : ℕ). T (atomHolds start x)) (q .2) (w .full (q .0) (omega (arith, q .1)) (subst (λ (x : ℕ). T (not (atomHolds setting x))) (sym (q .2)) t));
+}
+
+-- ---- agreement
+module _ (atoms : List ℕ) (m o : Interpretation) where
+  abbrev same : ℕ → Bool
+  same f = Bool·beq (atomHolds m f) (atomHolds o f)
+
+  -- the atoms from i on decide
+  abbrev pub AgreeFrom : ℕ → Type 0
+  AgreeFrom i = agreeOn atoms m o ≡ agreeOn (drop i atoms) m o
+
+  pub agree-start : AgreeFrom 0
+  agree-start = refl
+
+  module _ (i : ℕ) (h : i < length atoms) (f : ℕ) (e : f ≡ getD atoms i 0) (a b : Bool) (ea : a ≡ atomHolds m f) (eb : b ≡ atomHolds o f) where
+    opened : agreeOn (drop i atoms) m o ≡ (Bool·beq a b && agreeOn (drop (i + 1) atoms) m o)
+    unfolding agreeOn all
+    opened = rw (add-one i, drop-cons atoms i 0 h, ← e, ← ea, ← eb) refl
+
+    pub agree-fails : AgreeFrom i → not (Bool·beq a b) ≡ true → false ≡ agreeOn atoms m o
+    agree-fails w q = sym (w ∙ opened ∙ ap (λ (c : Bool). c && agreeOn (drop (i + 1) atoms) m o) (off (Bool·beq a b) q))
+      where
+        off : (c : Bool) → not c ≡ true → c ≡ false
+        off true p = absurd (false≢true p)
+        off false p = refl
+
+    pub agree-more : AgreeFrom i → not (Bool·beq a b) ≡ false → AgreeFrom (i + 1)
+    agree-more w q = w ∙ opened ∙ ap (λ (c : Bool). c && agreeOn (drop (i + 1) atoms) m o) (on (Bool·beq a b) q)
+      where
+        on : (c : Bool) → not c ≡ false → c ≡ true
+        on true p = refl
+        on false p = absurd (false≢true (sym p))
+
+  pub agree-end : (i : ℕ) → length atoms ≤ i → AgreeFrom i → true ≡ agreeOn atoms m o
+  unfolding agreeOn all
+  agree-end i h w = sym (w ∙ ap (λ (l : List ℕ). agreeOn l m o) (drop-of-length-le atoms {i = i} h))
+
+-- ---- the model
+module _ {book rows overridden atoms : List ℕ} {layer n : ℕ} (w : Searchable book rows overridden atoms layer n) (o : Interpretation)
+    (rejects : List ℕ) (g : RejectedMasks book rows overridden o rejects (rowCount rows)) (start : List Bool) (d : Denied atoms o start)
+    (p q : List Bool) (c : Bool) (filled : Fills book rows rejects start p q c) where
+  abbrev P : Program
+  P = programOf book layer
+
+  at-listed : atSetting P atoms o ≡ atSetting P (branchingAtoms P) o
+  at-listed = ap (λ (l : List ℕ). atSetting P l o) (w .listed)
+
+  setting-start : SettingStart P o start
+  unfolding branchingAtoms
+  setting-start = record {
+    sound = λ f t.
+        let r = d .sound f t in
+        let k = filter-from (branching P) (upTo (P .atoms)) (subst (λ (l : List ℕ). f ∈ l) (w .listed) (r .0)) in
+        (upTo-lt (P .atoms) f (k .0), k .1, r .1);
+    full = λ f h t u. d .full f (subst (λ (l : List ℕ). f ∈ l) (sym (w .listed)) (branching-listed P (w .formed) f t)) u;
+  }
+
+  pub model-conflict : (state : List Bool) → c ≡ true → atSetting P atoms o ≡ consIf false (take n state) []
+  unfolding consIf
+  model-conflict state e =
+      at-listed ∙ setting-none P (w .formed) o (λ m sm same. no-conflict (w .formed) (w .table) g setting-start sm same (filled .clash e))
+
+  module _ (l : length p ≡ 256) (e : c ≡ false) where
+    size : length (take n p) ≡ P .atoms
+    size = length-take-le n p (omega (arith, w .few)) ∙ w .size
+
+    only : (m : Interpretation) → StableModel P m → ((f : ℕ) → T (branching P f) → atomHolds m f ≡ atomHolds o f) → m ≡ take n p
+    unfolding atomHolds
+    only m sm same =
+        ext-getD false m (take n p) (sm .size ∙ sym size)
+        (λ f h.
+        let b : f < P .atoms = subst (λ (k : ℕ). f < k) (sm .size) h in
+        sym (getD-take n p f false (subst (λ (k : ℕ). f < k) (sym (w .size)) b) ∙ marks-found (w .formed) (w .table) g setting-start sm same filled e f b))
+
+    model-is : atSetting P atoms o ≡ consIf (stable P (take n p) && agreeOn atoms (take n p) o) (take n p) []
+    unfolding fits
+    model-is =
+        at-listed ∙ setting-is P (w .formed) o (take n p) size only
+        ∙ ap (λ (l : List ℕ). consIf (stable P (take n p) && agreeOn l (take n p) o) (take n p) []) (sym (w .listed))
+
+    and-false : (a : Bool) → (a && false) ≡ false
+    and-false true = refl
+    and-false false = refl
+
+    and-true : (a : Bool) → (a && true) ≡ a
+    and-true true = refl
+    and-true false = refl
+
+    cut : take (n - 0) (drop 0 p) ≡ take n p
+    cut = let z : n - 0 ≡ n = omega arith in ap (λ (k : ℕ). take k p) z
+
+    module _ (a : Bool) (ea : a ≡ agreeOn atoms (take (n - 0) (drop 0 p)) o) where
+      agreed : agreeOn atoms (take n p) o ≡ a
+      agreed = ap (λ (s : List Bool). agreeOn atoms s o) (sym cut) ∙ sym ea
+
+      pub model-apart : not a ≡ true → atSetting P atoms o ≡ consIf false (take n p) []
+      model-apart t =
+          model-is ∙ ap (λ (x : Bool). consIf (stable P (take n p) && x) (take n p) []) (agreed ∙ off a t)
+          ∙ ap (λ (x : Bool). consIf x (take n p) []) (and-false (stable P (take n p)))
+        where
+          off : (x : Bool) → not x ≡ true → x ≡ false
+          off true u = absurd (false≢true u)
+          off false u = refl
+
+      pub model-tested : not a ≡ false → (s : Bool) → s ≡ stable P (take (n - 0) (drop 0 p)) → atSetting P atoms o ≡ consIf s (take n p) []
+      model-tested t s es =
+          model-is ∙ ap (λ (x : Bool). consIf (stable P (take n p) && x) (take n p) []) (agreed ∙ on a t)
+          ∙ ap (λ (x : Bool). consIf x (take n p) []) (and-true (stable P (take n p)) ∙ ap (stable P) (sym cut) ∙ sym es)
+        where
+          on : (x : Bool) → not x ≡ false → x ≡ true
+          on true u = refl
+          on false u = absurd (false≢true (sym u))
+
+    pub state-size : length (take (n - 0) (drop 0 p)) ≡ n
+    state-size = ap length cut ∙ length-take-le n p (omega (arith, w .few))

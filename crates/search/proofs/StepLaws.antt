@@ -1,0 +1,106 @@
+-- One call of the search: a leaf, or two halves with one fact decided each way. Used by the proof of `search`. Assumes nothing.
+use mathlib.Core.Path.{_≡_, refl, sym, ap, subst, _∙_}
+use mathlib.Core.Bool.{Bool, true, false}
+use mathlib.Core.List.{List, [], _∷_, _++_}
+use Prim.Native.Nat.{ℕ, suc, _+_, _-_, _^_, _<_, _≤_}
+use native.Mathlib.Nat.{pow-suc}
+use native.Mathlib.Omega.{arith}
+use lib.Pow.{pow-pos}
+use lib.ListN.{length, getD, take, drop, set, length-append}
+use lib.Seq.{take-all, set-set}
+use Rattle.base.specs.Lists.{consIf}
+use Rattle.models.specs.StableModels.{Interpretation}
+use Rattle.search.specs.declared.Visit.{Visit}
+use Rattle.search.specs.Found.{atSetting, foundBy}
+use Rattle.search.specs.Visits.{Kept, Met, Searched}
+use Rattle.table.specs.Table.{programOf}
+use Rattle.search.specs.Searchable.{Searchable}
+use Rattle.search.proofs.FoundLaws.{setting-one, found-le}
+use Rattle.search.proofs.VisitLaws.{searched-none, searched-one, searched-append, visits-kept, visits-count}
+
+-- no more than so many models, so that the count fits
+abbrev pub limit : ℕ
+limit = 4294967296
+
+abbrev pub leafOf : List ℕ → List ℕ → ℕ → Interpretation → List Interpretation
+leafOf book atoms layer = atSetting (programOf book layer) atoms
+
+kept-yes : (ok : Bool) (m : Interpretation) → ok ≡ true → consIf ok m [] ≡ m ∷ []
+unfolding consIf
+kept-yes ok m e = rw e refl
+
+kept-no : (ok : Bool) (m : Interpretation) → ok ≡ false → consIf ok m [] ≡ []
+unfolding consIf
+kept-no ok m e = rw e refl
+
+at-leaf : (leaf : Interpretation → List Interpretation) (undecided : List ℕ) (o : Interpretation) → length undecided ≡ 0 → foundBy leaf undecided o ≡ leaf o
+unfolding foundBy
+at-leaf leaf [] o e = refl
+at-leaf leaf (f ∷ fs) o e = absurd (omega arith)
+
+module _ (n : ℕ) (leaf : Interpretation → List Interpretation) (undecided : List ℕ) (o : Interpretation) where
+  module _ (empty : length undecided ≡ 0) (ok : Bool) (m : Interpretation) (is : leaf o ≡ consIf ok m []) where
+    pub leaf-met : ok ≡ true → (v : Visit) (p : List ℕ) (v′ : Visit) (p′ : List ℕ) → Met n m v p v′ p′ → Searched n (foundBy leaf undecided o) v p v′ p′
+    leaf-met y v p v′ p′ a =
+        subst (λ (ms : List Interpretation). Searched n ms v p v′ p′) (sym (at-leaf leaf undecided o empty ∙ is ∙ kept-yes ok m y)) (searched-one n m v p v′ p′ a)
+
+    pub leaf-empty : ok ≡ false → (v : Visit) (p : List ℕ) → Searched n (foundBy leaf undecided o) v p v p
+    leaf-empty y v p =
+        subst (λ (ms : List Interpretation). Searched n ms v p v p) (sym (at-leaf leaf undecided o empty ∙ is ∙ kept-no ok m y)) (searched-none n v p)
+
+  module _ (some : length undecided ≡ 0 → ⊥) where
+    -- the undecided facts after the first, as the code cuts them
+    abbrev pub later : List ℕ
+    later = take (length undecided - 1) (drop 1 undecided)
+
+    pub later-length : length undecided ≡ suc (length later)
+    later-length = go undecided some
+      where
+        go : (fs : List ℕ) → (length fs ≡ 0 → ⊥) → length fs ≡ suc (length (take (length fs - 1) (drop 1 fs)))
+        go [] h = absurd (h refl)
+        go (f ∷ fs) h = ap (λ (l : List ℕ). suc (length l)) (sym (take-all (length (f ∷ fs) - 1) fs (omega arith)))
+
+    halves : (f : ℕ) → f ≡ getD undecided 0 0 → foundBy leaf undecided o ≡ foundBy leaf later (set o f false) ++ foundBy leaf later (set (set o f false) f true)
+    unfolding foundBy
+    halves f e = go undecided some e
+      where
+        go : (fs : List ℕ) → (length fs ≡ 0 → ⊥) → f ≡ getD fs 0 0
+            → foundBy leaf fs o ≡ foundBy leaf (take (length fs - 1) (drop 1 fs)) (set o f false) ++ foundBy leaf (take (length fs - 1) (drop 1 fs)) (set (set o f false) f true)
+        go [] h q = absurd (h refl)
+        go (g ∷ fs) h q =
+            let t : take (length (g ∷ fs) - 1) fs ≡ fs = take-all (length (g ∷ fs) - 1) fs (omega arith) in
+            rw (t, q, set-set o g false true) refl
+
+    pub both-halves : (f : ℕ) → f ≡ getD undecided 0 0 → (v : Visit) (p : List ℕ) (v₁ : Visit) (p₁ : List ℕ) (v₂ : Visit) (p₂ : List ℕ)
+        → Searched n (foundBy leaf later (set o f false)) v p v₁ p₁ → Searched n (foundBy leaf later (set (set o f false) f true)) v₁ p₁ v₂ p₂
+        → Searched n (foundBy leaf undecided o) v p v₂ p₂
+    both-halves f e v p v₁ p₁ v₂ p₂ a b =
+        subst (λ (ms : List Interpretation). Searched n ms v p v₂ p₂) (sym (halves f e))
+        (searched-append n (foundBy leaf later (set o f false)) (foundBy leaf later (set (set o f false) f true)) v p v₁ p₁ v₂ p₂ a b)
+
+    pub first-fits : (c : ℕ) → c + 2 ^ length undecided ≤ limit → c + 2 ^ length later ≤ limit
+    first-fits c h = omega (arith, ap (λ (k : ℕ). 2 ^ k) later-length, pow-suc 2 (length later))
+
+    module _ (one : (x : Interpretation) → length (leaf x) ≤ 1) (f : ℕ) (v : Visit) (p : List ℕ) (v₁ : Visit) (p₁ : List ℕ)
+        (a : Searched n (foundBy leaf later (set o f false)) v p v₁ p₁) where
+      pub second-kept : Kept n v p → Kept n v₁ p₁
+      second-kept k = visits-kept n (a .seen) v p v₁ p₁ (a .visits) k
+
+      pub second-fits : v .count + 2 ^ length undecided ≤ limit → v₁ .count + 2 ^ length later ≤ limit
+      second-fits h =
+          omega (
+            arith,
+            ap (λ (k : ℕ). 2 ^ k) later-length,
+            pow-suc 2 (length later),
+            visits-count n (a .seen) v p v₁ p₁ (a .visits),
+            ap length (a .split) ∙ length-append (a .seen) (a .rest),
+            found-le leaf one later (set o f false),
+          )
+
+-- at most one model for each setting, in the code's words
+pub leaf-one : (book rows overridden atoms : List ℕ) (layer n : ℕ) → Searchable book rows overridden atoms layer n → (o : Interpretation) → length (leafOf book atoms layer o) ≤ 1
+leaf-one book rows overridden atoms layer n w o =
+    subst (λ (fs : List ℕ). length (atSetting (programOf book layer) fs o) ≤ 1) (sym (w .listed)) (setting-one (programOf book layer) (w .formed) o)
+
+pub count-fits : (c k : ℕ) → c + 2 ^ k ≤ limit → c < limit
+count-fits c k h = omega (arith, pow-pos k)

@@ -1,0 +1,65 @@
+-- `agrees` meets its contract. The invariant: the atoms left decide. They fall. Assumes nothing.
+use Prim.Native.Nat.{_-_, _≤_}
+use lib.ListN.{length}
+use Rattle.search.proofs.ModelLaws.{AgreeFrom, agree-start, agree-fails, agree-more, agree-end}
+use borrow.Author.Needs.{needs}
+use native.Mathlib.Omega.{arith}
+use Rattle.search.proofs.agrees.Statement.{statement}
+use Rattle.search.proofs.agrees.Tie as tie
+use Rattle.search.proofs.agrees.Reads as reads
+use Rattle.search.proofs.agrees.Lts as lts
+use Rattle.base.proofs.wide.Reads as wide-reads
+use Rattle.table.proofs.atom_holds.Reads as atom-holds-reads
+
+abbrev Inv-loop : tie.InvT-loop
+Inv-loop atoms state setting i₀ i = (i ≤ length atoms) × AgreeFrom atoms state setting i
+
+abbrev μ-loop : tie.MeasureT-loop
+μ-loop atoms state setting i₀ i = length atoms - i
+
+loop-holds : tie.Need-loop-holds Inv-loop μ-loop
+loop-holds c = let a = c .before .before .before .args in (omega arith, agree-start (a .atoms .now) (a .state .now) (a .setting .now))
+
+shared-slice-read-wide : tie.Need-shared-slice-read-wide Inv-loop μ-loop
+shared-slice-read-wide c = search needs
+
+wide-requires : tie.Need-wide-requires Inv-loop μ-loop
+wide-requires c κs = search needs
+
+atom-holds-requires : tie.Need-atom-holds-requires Inv-loop μ-loop
+atom-holds-requires c κs = search needs
+
+atom-holds-requires-2 : tie.Need-atom-holds-requires-2 Inv-loop μ-loop
+atom-holds-requires-2 c κs = search needs
+
+returns : tie.Need-returns Inv-loop μ-loop
+returns c = let a = c .before .before .before .before .before .before .before .before .before .before .args in agree-fails (a .atoms .now) (a .state .now) (a .setting .now) (c .before .before .before .before .before .before .loop .i) (c .before .before .before .before .before .loop-test .taken) (c .before .before .before .wide .result) (c .before .before .before .wide .ensures .0) (c .before .before .atom-holds .result) (c .before .atom-holds2 .result) (c .before .before .atom-holds .ensures) (c .before .atom-holds2 .ensures) (c .before .before .before .before .before .before .loop .inv .1) (c .if1 .taken)
+
+add-i : tie.Need-add-i Inv-loop μ-loop
+add-i c = search needs
+
+loop-less : tie.Need-loop-less Inv-loop μ-loop
+loop-less c = search needs
+
+loop-again : tie.Need-loop-again Inv-loop μ-loop
+loop-again c = let a = c .before .before .before .before .before .before .before .before .before .before .args in (omega arith, agree-more (a .atoms .now) (a .state .now) (a .setting .now) (c .before .before .before .before .before .before .loop .i) (c .before .before .before .before .before .loop-test .taken) (c .before .before .before .wide .result) (c .before .before .before .wide .ensures .0) (c .before .before .atom-holds .result) (c .before .atom-holds2 .result) (c .before .before .atom-holds .ensures) (c .before .atom-holds2 .ensures) (c .before .before .before .before .before .before .loop .inv .1) (c .if1 .left))
+
+returns-2 : tie.Need-returns-2 Inv-loop μ-loop
+returns-2 c = let a = c .before .before .before .before .before .args in agree-end (a .atoms .now) (a .state .now) (a .setting .now) (c .before .loop .i) (c .loop-test .left) (c .before .loop .inv .1)
+
+pub agrees-spec : {M : Type 1} → statement M
+agrees-spec =
+    tie.close
+    (tie.spec
+    Inv-loop
+    μ-loop
+    loop-holds
+    shared-slice-read-wide
+    wide-requires
+    atom-holds-requires
+    atom-holds-requires-2
+    returns
+    add-i
+    loop-less
+    loop-again
+    returns-2)

@@ -1,0 +1,61 @@
+-- `denied` meets its contract. The invariant (`DeniedTo`): of the atoms passed, those that the setting denies are marked. The atoms
+-- left fall. Assumes nothing.
+use Prim.Native.Nat.{_-_}
+use lib.ListN.{length}
+use Rattle.search.proofs.ModelLaws.{DeniedTo, denied-start, denied-more, denied-end}
+use borrow.Author.Needs.{needs}
+use native.Mathlib.Omega.{arith}
+use Rattle.search.proofs.denied.Statement.{statement}
+use Rattle.search.proofs.denied.Tie as tie
+use Rattle.search.proofs.denied.Reads as reads
+use Rattle.search.proofs.denied.Lts as lts
+use Rattle.base.proofs.wide.Reads as wide-reads
+
+abbrev Inv-loop : tie.InvT-loop
+Inv-loop atoms setting start₀ i₀ start i = DeniedTo atoms setting i start
+
+abbrev μ-loop : tie.MeasureT-loop
+μ-loop atoms setting start₀ i₀ start i = length atoms - i
+
+loop-holds : tie.Need-loop-holds Inv-loop μ-loop
+loop-holds c = denied-start (c .before .args .atoms .now) _
+
+shared-slice-read-wide : tie.Need-shared-slice-read-wide Inv-loop μ-loop
+shared-slice-read-wide c = search needs
+
+wide-requires : tie.Need-wide-requires Inv-loop μ-loop
+wide-requires c κs = search needs
+
+array-read-start : tie.Need-array-read-start Inv-loop μ-loop
+array-read-start c = omega (arith, c .wide .ensures .1)
+
+array-write-start : tie.Need-array-write-start Inv-loop μ-loop
+array-write-start c = omega (arith, c .wide .ensures .1, c .before .before .before .loop .inv .size)
+
+add-i : tie.Need-add-i Inv-loop μ-loop
+add-i c = search needs
+
+loop-less : tie.Need-loop-less Inv-loop μ-loop
+loop-less c = search needs
+
+loop-again : tie.Need-loop-again Inv-loop μ-loop
+loop-again c = denied-more (c .before .before .before .before .before .args .atoms .now) _ (c .before .before .before .loop .i) (c .before .before .before .loop .start) (c .wide .result) (c .before .before .before .loop .inv) (c .before .before .loop-test .taken) (c .wide .ensures .0) (c .wide .ensures .1)
+
+returns : tie.Need-returns Inv-loop μ-loop
+returns c = denied-end (c .before .before .before .args .atoms .now) _ (c .before .loop .i) (c .before .loop .start) (c .before .loop .inv) (c .loop-test .left)
+
+pub denied-spec : {M : Type 1} → statement M
+denied-spec =
+    tie.close
+    (tie.spec
+    Inv-loop
+    μ-loop
+    loop-holds
+    shared-slice-read-wide
+    wide-requires
+    array-read-start
+    array-write-start
+    add-i
+    loop-less
+    loop-again
+    returns)

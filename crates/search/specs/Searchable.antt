@@ -1,0 +1,23 @@
+-- What is worked out once a call, before the search: the table of the rules and the branching facts. Assumes nothing.
+use mathlib.Core.Path.{_≡_}
+use mathlib.Core.Bool.{Bool, not}
+use mathlib.Core.List.{List, List·Memᴰ}
+use Prim.Native.Nat.{ℕ, _<_, _≤_}
+use lib.Dec.{T}
+use Rattle.base.specs.Bounds.{maxAtoms}
+use Rattle.models.specs.StableModels.{Interpretation, atomHolds, WellFormed}
+use Rattle.models.specs.Branching.{branchingAtoms}
+use Rattle.table.specs.Table.{programOf, Tabulates}
+
+pub record Searchable (book rows overridden atoms : List ℕ) (layer n : ℕ) : Type 0 where
+  pub formed : WellFormed (programOf book layer)
+  pub table : Tabulates (programOf book layer) book rows overridden
+  pub listed : atoms ≡ branchingAtoms (programOf book layer)
+  pub size : n ≡ programOf book layer .atoms
+  pub some : 0 < n
+  pub few : n ≤ maxAtoms
+
+-- of these atoms, those that the setting denies
+pub record Denied (atoms : List ℕ) (setting : Interpretation) (start : List Bool) : Type 0 where
+  pub sound : (f : ℕ) → T (atomHolds start f) → List·Memᴰ f atoms × T (not (atomHolds setting f))
+  pub full : (f : ℕ) → List·Memᴰ f atoms → T (not (atomHolds setting f)) → T (atomHolds start f)

@@ -1,0 +1,207 @@
+// The search through the settings of the branching facts: one recursion, which the listing, the one state and a fact's place share.
+ghost use mathlib.Core.Path.{_≡_};
+ghost use mathlib.Core.Bool.{true, false};
+ghost use mathlib.Core.List.{[]};
+ghost use Prim.Native.Nat.{_+_, _^_, _<_, _≤_};
+ghost use lib.ListN.{length, take};
+ghost use Rattle.base.specs.Lists.{consIf};
+ghost use Rattle.search.specs.Found.{agreeOn, atSetting, foundBy};
+ghost use Rattle.search.specs.Visits.{stopped, Kept, Met, Searched};
+ghost use Rattle.table.specs.Table.{programOf};
+ghost use Rattle.search.specs.Searchable.{Searchable, Denied};
+use base::wide;
+use insertion::Gap;
+use records::atom_bit;
+use records::insert_state;
+use records::record_size;
+use table::atom_holds;
+use tester::fill;
+use tester::is_stable;
+use tester::rejected_masks;
+
+// What the search is for: every model, one model, or whether the asked fact stands in some but not in all.
+pub enum Goal {
+    All,
+    First,
+    Settle,
+}
+
+// What the search keeps: the models met, those of them in which the asked fact stands, and the gap of the part.
+pub struct Visit {
+    pub goal: Goal,
+    pub atom: usize,
+    pub count: usize,
+    pub standing: usize,
+    pub lo: usize,
+    pub hi: usize,
+}
+
+// What a setting comes to: a stable model, or none.
+pub struct Found {
+    pub ok: bool,
+    pub state: [bool; 256],
+}
+
+// Whether the goal is reached, so that no further model is wanted.
+pub fn stops(v: Visit) -> bool
+    ensures { λ r. ⌜ r ≡ stopped v ⌝ }
+{
+    let goal = v.goal;
+    match goal {
+        Goal::All => false,
+        Goal::First => 0 < v.count,
+        Goal::Settle => {
+            if 0 < v.standing {
+                v.standing < v.count
+            } else {
+                false
+            }
+        }
+    }
+}
+
+// The branching facts that the setting denies.
+fn denied(atoms: &[u8], setting: [bool; 256]) -> [bool; 256]
+    ensures { λ r. ⌜ Denied (now (atoms .entry)) setting r ⌝ }
+{
+    let mut start = [false; 256];
+    let mut i = 0;
+    while i < atoms.len() {
+        let f = wide(atoms[i]);
+        start[f] = !setting[f];
+        i += 1;
+    }
+    start
+}
+
+// Whether a state gives the branching facts as the setting does.
+fn agrees(atoms: &[u8], state: &[bool], setting: &[bool]) -> bool
+    ensures { λ r. ⌜ r ≡ agreeOn (now (atoms .entry)) (now (state .entry)) (now (setting .entry)) ⌝ }
+{
+    let mut i = 0;
+    while i < atoms.len() {
+        let f = wide(atoms[i]);
+        if atom_holds(state, f) != atom_holds(setting, f) {
+            return false;
+        }
+        i += 1;
+    }
+    true
+}
+
+// The stable model of a setting, if there is one. What follows from the setting is the only state that can be; it has to
+// agree with the setting, or it would be found under two settings, and to pass the test.
+pub fn model_at(
+    book: &[u8],
+    layer: usize,
+    rows: &[u16],
+    overridden: &[u32],
+    atoms: &[u8],
+    n: usize,
+    setting: [bool; 256],
+) -> Found
+    requires { ⌜ Searchable (now book) (now rows) (now overridden) (now atoms) layer n ⌝ }
+    ensures { λ r. ⌜ atSetting (programOf (now (book .entry)) layer) (now (atoms .entry)) setting ≡ consIf (r .ok) (take n (r .state)) [] ⌝ }
+{
+    let rejects = rejected_masks(book, rows, overridden, &setting);
+    let marks = fill(book, rows, &rejects, denied(atoms, setting));
+    let state = marks.positive;
+    if marks.conflict {
+        return Found { ok: false, state };
+    }
+    if !agrees(atoms, &state[0..n], &setting) {
+        return Found { ok: false, state };
+    }
+    Found {
+        ok: is_stable(book, rows, overridden, layer, &state[0..n], n),
+        state,
+    }
+}
+
+// A stable model is met: it is counted, and its record goes into the gap where there is room.
+pub fn meet(state: [bool; 256], n: usize, part: &mut [u8], v: Visit) -> Visit
+    requires { ⌜ (0 < n) × (n ≤ 256) × Kept n v (now part) × (v .count < 4294967296) × (stopped v ≡ false) ⌝ }
+    ensures { λ r. ⌜ Met n (take n state) v (now (part .entry)) r (now (part .exit)) ⌝ }
+{
+    let goal = v.goal;
+    let count = v.count + 1;
+    let standing = v.standing + wide(atom_bit(&state[0..n], v.atom));
+    if v.hi - v.lo < record_size(n) {
+        return Visit {
+            goal,
+            atom: v.atom,
+            count,
+            standing,
+            lo: v.lo,
+            hi: v.hi,
+        };
+    }
+    let gap = insert_state(state, n, part, Gap { lo: v.lo, hi: v.hi });
+    Visit {
+        goal,
+        atom: v.atom,
+        count,
+        standing,
+        lo: gap.lo,
+        hi: gap.hi,
+    }
+}
+
+// Goes through the settings of the undecided branching facts, each once, and visits the stable model of each setting, if there
+// is one. The facts decided so far are in `setting`; `atoms` has all branching facts.
+pub fn search(
+    book: &[u8],
+    layer: usize,
+    rows: &[u16],
+    overridden: &[u32],
+    atoms: &[u8],
+    undecided: &[u8],
+    n: usize,
+    setting: [bool; 256],
+    part: &mut [u8],
+    v: Visit,
+) -> Visit
+    requires { ⌜ Searchable (now book) (now rows) (now overridden) (now atoms) layer n × Kept n v (now part) × (v .count + 2 ^ length (now undecided) ≤ 4294967296) ⌝ }
+    ensures { λ r. ⌜ Searched n (foundBy (atSetting (programOf (now (book .entry)) layer) (now (atoms .entry))) (now (undecided .entry)) setting) v (now (part .entry)) r (now (part .exit)) ⌝ }
+{
+    if stops(v) {
+        return v;
+    }
+    if undecided.len() == 0 {
+        let found = model_at(book, layer, rows, overridden, atoms, n, setting);
+        let state = found.state;
+        if found.ok {
+            return meet(state, n, part, v);
+        }
+        return v;
+    }
+    let f = wide(undecided[0]);
+    let rest = undecided.len();
+    let mut decided = setting;
+    decided[f] = false;
+    let half = search(
+        book,
+        layer,
+        rows,
+        overridden,
+        atoms,
+        &undecided[1..rest],
+        n,
+        decided,
+        part,
+        v,
+    );
+    decided[f] = true;
+    search(
+        book,
+        layer,
+        rows,
+        overridden,
+        atoms,
+        &undecided[1..rest],
+        n,
+        decided,
+        part,
+        half,
+    )
+}
