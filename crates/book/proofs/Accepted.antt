@@ -1,15 +1,16 @@
 -- What acceptance says: none of causes 1 to 8 applies, and each section is its records, one after the other.
 -- Assumes nothing.
-use mathlib.Core.Path.{_≡_, refl, sym, ap, subst, _∙_}
-use mathlib.Core.Bool.{Bool, true, false, not, _&&_, _||_, false≢true}
-use mathlib.Core.List.{List, [], _∷_, _++_, map}
-use Prim.Native.Nat.{ℕ, zero, suc, _+_, _-_, _<_, _≤_, min}
+use mathlib.Core.Path.{_≡_, refl, ap}
+use mathlib.Core.Bool.{Bool, true, false, _&&_, false≢true}
+use mathlib.Core.List.{List, [], _∷_, map, List·Memᴰ·head, List·Memᴰ·tail}
+use Prim.Native.Nat.{ℕ, zero, suc, _*_, _≤_}
 use native.Mathlib.Omega.{arith}
 use borrow.Author.Tests.{leb-true}
 use lib.Dec.{leb}
-use lib.ListN.{length, take, drop, length-drop, length-take, take-append-drop}
+use lib.ListN.{length, drop, length-append, length-drop, take-append-drop}
 use lib.Seq.{length-take-le}
 use Rattle.base.specs.Lists.{flat}
+use Rattle.base.proofs.Members.{_∈_}
 use Rattle.format.specs.Book.{recordsIn, records, meetsEndIn, meetsEnd}
 use Rattle.format.specs.Sections.{hasBrokenSection}
 use Rattle.book.specs.Causes.{isTooShort, hasWrongVersion, hasWrongLength, isOutOfRange, hasBadRecord, repeatsArrow, hasCycle, tests, verdictIf, firstOf, verdict}
@@ -75,3 +76,15 @@ frames-in (suc k) (x ∷ s) h e =
 pub meets-frames : (s : List ℕ) → meetsEnd s ≡ true → flat (map framed (records s)) ≡ s
 unfolding meetsEnd records
 meets-frames s e = frames-in (length s) s (omega arith) e
+
+frames-short : (k : ℕ) (rs : List (List ℕ)) → ((r : List ℕ) → r ∈ rs → length r ≤ k) → length (flat (map framed rs)) ≤ length rs * suc k
+unfolding flat framed
+frames-short k [] h = omega arith
+frames-short k (r ∷ rs) h =
+    let a : length r ≤ k = h r (List·Memᴰ·head refl) in
+    let b : length (flat (map framed rs)) ≤ length rs * suc k = frames-short k rs (λ x m. h x (List·Memᴰ·tail m)) in
+    simp length-append (omega arith)
+
+-- records of at most k bytes, each behind its length byte
+pub meets-short : (s : List ℕ) (k : ℕ) → meetsEnd s ≡ true → ((r : List ℕ) → r ∈ records s → length r ≤ k) → length s ≤ length (records s) * suc k
+meets-short s k e h = let b : length (flat (map framed (records s))) ≤ length (records s) * suc k = frames-short k (records s) h in omega (arith, ap length (meets-frames s e))

@@ -57,15 +57,15 @@ module _ (links : List Arrow) (n : ℕ) (start m : List ℕ) (few : n ≤ 32)
       eqb-true (bitOf (getD start (a .earlier) 0) (a .later)) 1
       (reads (a .earlier) (a .later) ∙ passed (linked links (a .earlier) (a .later)) (any-of (λ b. sameArrow b (link (a .earlier) (a .later))) k (same-self a)))
 
-  way-path : (i j : ℕ) → Way start i j → Path links j i
+  pub way-path : (i j : ℕ) → Way start i j → Path links j i
   way-path x y (edge i j e) = single (link i j) (linked-in i j e) refl
   way-path x y (join i k j b p q) = path-join links k j i (way-path i k p) (way-path k j q)
 
-  path-way : (i j : ℕ) → Path links j i → Way start i j
+  pub path-way : (i j : ℕ) → Path links j i → Way start i j
   path-way i j (single a k e) = subst (Way start (a .earlier)) e (edge (a .earlier) (a .later) (in-linked a k))
   path-way i j (longer a k p) = join (a .earlier) (a .later) j (let h : a .later < n = low a k .1 in omega arith) (edge (a .earlier) (a .later) (in-linked a k)) (path-way (a .later) j p)
 
-  path-low : (i j : ℕ) → Path links j i → i < n
+  pub path-low : (i j : ℕ) → Path links j i → i < n
   path-low i j (single a k e) = low a k .0
   path-low i j (longer a k p) = low a k .0
 
@@ -88,7 +88,7 @@ module _ (links : List Arrow) (n : ℕ) (start m : List ℕ) (few : n ≤ 32)
   pub ring-is : any (λ i. marked m i i) (upTo 32) ≡ any (λ i. below links i i) (upTo n)
   ring-is = same-test (any (λ i. marked m i i) (upTo 32)) (any (λ i. below links i i) (upTo n)) to-below to-marked
 
-arrows-are : (s : List ℕ) (b : ℕ) → b ≡ u32At s 8 → map arrowOf (records (take (14 + b - 14) (drop 14 s))) ≡ arrowsOf s
+pub arrows-are : (s : List ℕ) (b : ℕ) → b ≡ u32At s 8 → map arrowOf (records (take (14 + b - 14) (drop 14 s))) ≡ arrowsOf s
 unfolding arrowsOf
 arrows-are s b eb = ap (map arrowOf) (arrow-part s b eb)
 
@@ -112,7 +112,7 @@ both-low l r t =
     )
 
 module _ (s : List ℕ) (five : isOutOfRange s ≡ false) (six : hasBadRecord s ≡ false) where
-  layers-few : layerCount s ≤ 32
+  pub layers-few : layerCount s ≤ 32
   unfolding isOutOfRange within
   layers-few =
       let f : not (leb 1 (layerCount s) && leb (layerCount s) 32) ≡ false =
@@ -125,7 +125,7 @@ module _ (s : List ℕ) (five : isOutOfRange s ≡ false) (six : hasBadRecord s 
   unfolding hasBadRecord
   arrows-good = true-of (all (arrowOk (layerCount s)) (arrowRecords s)) (not-out (all (arrowOk (layerCount s)) (arrowRecords s)) (or-first (not (all (arrowOk (layerCount s)) (arrowRecords s))) (not (all (ruleOk (layerCount s) (atomCount s)) (ruleRecords s))) six))
 
-  arrows-low : (a : Arrow) → a ∈ arrowsOf s → (a .earlier < layerCount s) × (a .later < layerCount s)
+  pub arrows-low : (a : Arrow) → a ∈ arrowsOf s → (a .earlier < layerCount s) × (a .later < layerCount s)
   unfolding arrowsOf
   arrows-low a k =
       let w : (r : List ℕ) × r ∈ arrowRecords s × (arrowOf r ≡ a) = Memᴰ·of-map arrowOf (arrowRecords s) k in

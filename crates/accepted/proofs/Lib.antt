@@ -1,0 +1,4 @@
+pub mod RangeFacts
+pub mod RecordFacts
+pub mod PreparedLaws
+pub mod ColumnLaws

@@ -1,0 +1,107 @@
+-- What acceptance says of the records: each rule's record has a layer, a head and a body within the bounds, so the program at any
+-- layer is well formed, and the book is short. PreparedLaws and the calls above cite it. Assumes nothing.
+use mathlib.Core.Path.{_≡_, sym, subst}
+use mathlib.Core.Bool.{Bool, false, not, _&&_, _||_}
+use mathlib.Core.List.{List, Memᴰ·of-map}
+use Prim.Native.Nat.{ℕ, _+_, _*_, _<_, _≤_}
+use native.Mathlib.Omega.{arith}
+use borrow.Author.Tests.{ltb-true, eqb-true, not-false}
+use lib.Dec.{T, eqb, ltb, eqb→eq}
+use lib.ListN.{length}
+use Rattle.base.specs.Lists.{all, upTo}
+use Rattle.base.proofs.Members.{_∈_, and-left, and-right, filter-from, all-at, any-at}
+use Rattle.base.proofs.UpTo.{passed, upTo-lt}
+use Rattle.format.specs.Book.{Literal, Rule, records, sectionRecords, arrowOf, ruleOf, atomCount, layerCount, ruleSection, arrowRecords, ruleRecords, rulesOf, bookOf}
+use Rattle.format.proofs.SectionLaws.{or-first, or-second}
+use Rattle.models.specs.Program.{relevant, programAt}
+use Rattle.models.specs.StableModels.{WellFormed}
+use Rattle.table.specs.Table.{programOf}
+use Rattle.book.specs.Causes.{arrowOk, ruleLength, atomBelow, ruleOk, hasBadRecord}
+use Rattle.book.proofs.Accepted.{accepted-lawful, meets-short}
+use Rattle.book.proofs.RingLaws.{true-of}
+use Rattle.accepted.specs.Accepted.{IsAccepted}
+use Rattle.accepted.proofs.RangeFacts.{Ranges, ranges, Sections, sections, section-length}
+
+pub record RuleGood (l n : ℕ) (r : List ℕ) : Type 0 where
+  pub long : 3 ≤ length r
+  pub short : length r ≤ 35
+  pub layer-low : ruleOf r .layer < l
+  pub head-low : ruleOf r .head .atom < n
+  pub body-low : (x : Literal) → x ∈ ruleOf r .body → x .atom < n
+
+length-in : (k : ℕ) → T (ruleLength k) → (3 ≤ k) × (k ≤ 35)
+unfolding ruleLength
+length-in k t =
+    let w : (b : ℕ) × b ∈ upTo 17 × T (eqb k (3 + 2 * b)) = any-at (λ b. eqb k (3 + 2 * b)) (upTo 17) t in
+    let h : w .0 < 17 = upTo-lt 17 (w .0) (w .1) in
+    let q : k ≡ 3 + 2 * w .0 = eqb→eq k (3 + 2 * w .0) (w .2) in
+    (omega arith, omega arith)
+
+atom-low : (n : ℕ) (x : Literal) → T (atomBelow n x) → x .atom < n
+unfolding atomBelow
+atom-low n x t = ltb-true (x .atom) n (passed (ltb (x .atom) n) t)
+
+rule-good : (l n : ℕ) (r : List ℕ) → T (ruleOk l n r) → RuleGood l n r
+unfolding ruleOk
+rule-good l n r t =
+    let a : Bool = ruleLength (length r) in
+    let b : Bool = ltb (ruleOf r .layer) l in
+    let c : Bool = atomBelow n (ruleOf r .head) in
+    let d : Bool = all (atomBelow n) (ruleOf r .body) in
+    let abc : T (a && b && c) = and-left (a && b && c) d t in
+    let ab : T (a && b) = and-left (a && b) c abc in
+    record {
+      long = length-in (length r) (and-left a b ab) .0;
+      short = length-in (length r) (and-left a b ab) .1;
+      layer-low = ltb-true (ruleOf r .layer) l (passed b (and-right a b ab));
+      head-low = atom-low n (ruleOf r .head) (and-right (a && b) c abc);
+      body-low = λ x k. atom-low n x (all-at (atomBelow n) (and-right (a && b && c) d t) k);
+    }
+
+arrow-size : (l : ℕ) (r : List ℕ) → T (arrowOk l r) → length r ≤ 2
+unfolding arrowOk
+arrow-size l r t =
+    let a : Bool = eqb (length r) 2 in
+    let b : Bool = ltb (arrowOf r .earlier) l in
+    omega (arith, eqb-true (length r) 2 (passed a (and-left a b (and-left (a && b) (ltb (arrowOf r .later) l) t))))
+
+module _ (s : List ℕ) (e : IsAccepted s) where
+  records-good : (T (all (arrowOk (layerCount s)) (arrowRecords s))) × (T (all (ruleOk (layerCount s) (atomCount s)) (ruleRecords s)))
+  unfolding hasBadRecord
+  records-good =
+      let a : Bool = all (arrowOk (layerCount s)) (arrowRecords s) in
+      let b : Bool = all (ruleOk (layerCount s) (atomCount s)) (ruleRecords s) in
+      let z : (not a || not b) ≡ false = accepted-lawful s e .not6 in
+      (true-of a (not-false a (or-first (not a) (not b) z)), true-of b (not-false b (or-second (not a) (not b) z)))
+
+  pub good-rule : (r : List ℕ) → r ∈ ruleRecords s → RuleGood (layerCount s) (atomCount s) r
+  good-rule r k = rule-good (layerCount s) (atomCount s) r (all-at (ruleOk (layerCount s) (atomCount s)) (records-good .1) k)
+
+  -- at most 496 arrow records of 3 bytes and 1,024 rule records of at most 36
+  pub book-short : length s < 65536
+  unfolding arrowRecords ruleRecords
+  book-short =
+      let w : Sections s = sections s (accepted-lawful s e .not4) in
+      let g : Ranges s = ranges s (accepted-lawful s e .not5) in
+      let a : length (sectionRecords s 8) ≤ length (records (sectionRecords s 8)) * 3 =
+      meets-short (sectionRecords s 8) 2 (w .arrows .meets) (λ r k. arrow-size (layerCount s) r (all-at (arrowOk (layerCount s)) (records-good .0) k)) in
+      let b : length (sectionRecords s (ruleSection s)) ≤ length (records (sectionRecords s (ruleSection s))) * 36 =
+      meets-short (sectionRecords s (ruleSection s)) 35 (w .rules .meets) (λ r k. good-rule r k .short) in
+      omega (arith, section-length s 8 (w .arrows), section-length s (ruleSection s) (w .rules), w .arrows .count, w .rules .count, g .arrows-few, g .rules-few, w .second, w .ends)
+
+  -- a rule of the program at a layer stands for a record of the book
+  rule-from : (layer : ℕ) (r : Rule) → r ∈ programOf s layer .rules → (x : List ℕ) × x ∈ ruleRecords s × (ruleOf x ≡ r)
+  unfolding programAt bookOf rulesOf
+  rule-from layer r k = Memᴰ·of-map ruleOf (ruleRecords s) (filter-from (relevant (bookOf s) layer) (rulesOf s) k .0)
+
+  -- every literal of the program at a layer names a fact of the book
+  pub accepted-formed : (layer : ℕ) → WellFormed (programOf s layer)
+  unfolding programAt bookOf
+  accepted-formed layer = record {
+    heads = λ r k.
+        let v : (x : List ℕ) × x ∈ ruleRecords s × (ruleOf x ≡ r) = rule-from layer r k in
+        subst (λ (t : Rule). t .head .atom < atomCount s) (v .2) (good-rule (v .0) (v .1) .head-low);
+    bodies = λ r k l i.
+        let v : (x : List ℕ) × x ∈ ruleRecords s × (ruleOf x ≡ r) = rule-from layer r k in
+        good-rule (v .0) (v .1) .body-low l (subst (λ (t : Rule). l ∈ t .body) (sym (v .2)) i);
+  }

@@ -1,0 +1,63 @@
+-- The invariant: the mask has the bits of the masks passed. The masks left fall.
+use mathlib.Core.Path.{subst}
+use mathlib.Core.Logic.{⊎-elim}
+use Prim.Native.Nat.{_-_, _≤_}
+use Rattle.accepted.specs.Accepted.{Column}
+use Rattle.accepted.proofs.ColumnLaws.{column-start, column-skip, column-more}
+use borrow.Author.Needs.{needs}
+use native.Mathlib.Omega.{arith}
+use Rattle.accepted.proofs.column.Statement.{statement}
+use Rattle.accepted.proofs.column.Tie as tie
+
+abbrev Inv-loop : tie.InvT-loop
+Inv-loop m j mask₀ i₀ mask i = (i ≤ 32) × Column m j mask i
+
+abbrev μ-loop : tie.MeasureT-loop
+μ-loop m j mask₀ i₀ mask i = 32 - i
+
+loop-holds : tie.Need-loop-holds Inv-loop μ-loop
+loop-holds c = (omega arith, column-start _ _)
+
+bit-of-requires : tie.Need-bit-of-requires Inv-loop μ-loop
+bit-of-requires c κs = search needs
+
+cast-mask : tie.Need-cast-mask Inv-loop μ-loop
+cast-mask c = search needs
+
+shl-mask : tie.Need-shl-mask Inv-loop μ-loop
+shl-mask c = search needs
+
+add-i : tie.Need-add-i Inv-loop μ-loop
+add-i c = search needs
+
+loop-less : tie.Need-loop-less Inv-loop μ-loop
+loop-less c = search needs
+
+loop-again : tie.Need-loop-again Inv-loop μ-loop
+loop-again c =
+    let w = c .before .before .before .loop .inv .1 in
+    let b = c .before .bit-of in
+    ⊎-elim
+    (λ v. (omega arith, rw (v .1) (column-more w (b .result) (b .ensures) (c .before .before .loop-test .taken) (v .0 .taken))))
+    (λ v. (omega arith, rw (v .1) (column-skip w (b .result) (b .ensures) (v .0 .left))))
+    (c .if1 .came)
+
+returns : tie.Need-returns Inv-loop μ-loop
+returns c =
+    let l = c .before .loop in
+    subst (Column (c .before .before .args .m) (c .before .before .args .j) (l .mask)) {x = l .i} {y = 32} (omega (arith, c .loop-test .left, l .inv .0)) (l .inv .1)
+
+pub column-spec : {M : Type 1} → statement M
+column-spec =
+    tie.close
+    (tie.spec
+    Inv-loop
+    μ-loop
+    loop-holds
+    bit-of-requires
+    cast-mask
+    shl-mask
+    add-i
+    loop-less
+    loop-again
+    returns)
