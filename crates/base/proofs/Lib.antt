@@ -2,3 +2,4 @@ pub mod Members
 pub mod ClosureLaws
 pub mod UpTo
 pub mod Rising
+pub mod MapLaws

@@ -1,7 +1,7 @@
 -- Rows and the rules that they stand for: membership, and when two rows are the same. Assumes nothing.
-use mathlib.Core.Path.{_≡_, refl, sym, ap, ap₂, _∙_}
-use mathlib.Core.List.{List, [], _∷_, _++_, map, Memᴰ·map, Memᴰ·of-map}
-use Prim.Native.Nat.{ℕ, zero, suc, _+_, _*_, _-_, _<_}
+use mathlib.Core.Path.{_≡_, ap, _∙_}
+use mathlib.Core.List.{List, Memᴰ·map, Memᴰ·of-map}
+use Prim.Native.Nat.{ℕ, _+_, _*_, _-_, _<_}
 use native.Mathlib.Omega.{arith}
 use lib.ListN.{getD, take, drop}
 use Rattle.base.specs.Lists.{upTo}
@@ -38,12 +38,3 @@ row-same book rows other j h =
     ∙ ap (λ (x : ℕ). record { layer = getD other (4 * j + 3) 0; head = literalNamed (getD other (4 * j + 2) 0); body = literalsOf (take x (drop (getD rows (4 * j) 0) book)) }) (h 1 (omega arith))
     ∙ ap (λ (x : ℕ). record { layer = getD other (4 * j + 3) 0; head = literalNamed (getD other (4 * j + 2) 0); body = literalsOf (take (getD other (4 * j + 1) 0) (drop x book)) })
     (ap (λ (i : ℕ). getD rows i 0) {x = 4 * j} {y = 4 * j + 0} (omega arith) ∙ h 0 (omega arith) ∙ ap (λ (i : ℕ). getD other i 0) {x = 4 * j + 0} {y = 4 * j} (omega arith))
-
-pub map-snoc : {A B : Type 0} (f : A → B) (xs : List A) (y : A) → map f (xs ++ (y ∷ [])) ≡ map f xs ++ (f y ∷ [])
-map-snoc f [] y = refl
-map-snoc f (x ∷ xs) y = ap (λ (l : List _). f x ∷ l) (map-snoc f xs y)
-
-pub map-same : {B : Type 0} (f g : ℕ → B) (n : ℕ) → ((j : ℕ) → j < n → f j ≡ g j) → map f (upTo n) ≡ map g (upTo n)
-unfolding upTo
-map-same f g zero h = refl
-map-same f g (suc n) h = map-snoc f (upTo n) n ∙ ap₂ (λ (xs : List _) (y : _). xs ++ (y ∷ [])) (map-same f g n (λ j k. h j (omega arith))) (h n (omega arith)) ∙ sym (map-snoc g (upTo n) n)

@@ -15,12 +15,13 @@ use Rattle.base.specs.Lists.{consIf, filter, upTo}
 use Rattle.layers.specs.Masks.{bitOf}
 use Rattle.format.specs.Book.{Literal, Rule, literalOf, literalsOf, ruleOf, records, meetsEnd, recordEnd}
 use Rattle.base.proofs.Members.{_∈_}
+use Rattle.base.proofs.MapLaws.{map-snoc, map-same}
 use Rattle.layers.proofs.WarshallLaws.{test-bit}
 use Rattle.format.proofs.Offsets.{records-cut, records-done, meets-fails, meets-more, count-more}
 use Rattle.table.specs.Names.{literalNamed}
 use Rattle.table.specs.Rows.{rowAt, rowsOf, inMask}
 use Rattle.table.specs.Table.{RuleRecord, RuleRecords, RowsMade}
-use Rattle.table.proofs.RowLaws.{row-same, map-snoc, map-same}
+use Rattle.table.proofs.RowLaws.{row-same}
 
 drop-take : (i n : ℕ) (s : List ℕ) → drop i (take n s) ≡ take (n - i) (drop i s)
 drop-take zero n s = ap (λ (k : ℕ). take k s) {x = n} {y = n - 0} (omega arith)
