@@ -5,9 +5,14 @@ ghost use Prim.Native.Nat.{_<_, _≤_};
 ghost use Rattle.base.specs.Bounds.{maxAtoms, maxLayers};
 ghost use Rattle.format.specs.Book.{bookOf};
 ghost use Rattle.table.specs.Table.{programOf, Prepared, TableMade};
+ghost use Rattle.book.specs.Causes.{firstOf};
 ghost use Rattle.accepted.specs.Accepted.{IsAccepted, rulesStart, Column, Transposed};
+ghost use Rattle.accepted.specs.Driven.{layerTests};
 use base::wide;
+use book::Cause;
+use book::Verdict;
 use book::arrow_masks;
+use book::check;
 use format::be16;
 use format::be32;
 use layers::bit_of;
@@ -84,4 +89,20 @@ pub fn prepare(book: &[u8], layer: usize) -> RuleTable
     ensures { λ r. ⌜ TableMade (programOf (now (book .entry)) layer) (now (book .entry)) (r .rows) (r .overridden) (r .count) ⌝ }
 {
     rule_table(book, rules_start(book), layer, lower_masks(book))
+}
+
+// Accepted, or refused for the first of causes 1 to 9 that applies: what every call that drives a layer asks first.
+pub fn check_layer(book: &[u8], layer: u32) -> Verdict
+    ensures { λ r. ⌜ r ≡ firstOf (layerTests (now (book .entry)) layer) ⌝ }
+{
+    let v = check(book);
+    match v {
+        Verdict::Refused(c) => Verdict::Refused(c),
+        Verdict::Accepted => {
+            if layer_count(book) <= layer as usize {
+                return Verdict::Refused(Cause::NoSuchLayer);
+            }
+            Verdict::Accepted
+        }
+    }
 }
