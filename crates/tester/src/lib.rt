@@ -10,7 +10,7 @@ ghost use Rattle.format.specs.Book.{literalOf, literalsOf};
 ghost use Rattle.models.specs.StableModels.{bodyHolds, stable, WellFormed};
 ghost use Rattle.table.specs.Names.{literalNamed};
 ghost use Rattle.table.specs.Rows.{rowCount, rowAt, RowsFit};
-ghost use Rattle.table.specs.Table.{programOf, Prepared, Tabulates};
+ghost use Rattle.table.specs.Table.{programOf, Tabulates};
 ghost use Rattle.tester.specs.Marks.{literalMarked, alive, adds, Fills, marksAgree};
 ghost use Rattle.tester.specs.Masks.{RejectedMasks, Supported, Others};
 use base::wide;
@@ -20,7 +20,6 @@ use table::opposite;
 use table::row_head;
 use table::row_holds;
 use table::row_layer;
-use table::rule_table;
 
 // The mark of a name.
 fn name_marked(positive: &[bool], negative: &[bool], h: usize) -> bool
@@ -272,36 +271,4 @@ pub fn is_stable(
         return false;
     }
     marks_agree(&marks.positive, &marks.negative, m, n)
-}
-
-// Whether an interpretation is a stable model of a book at a layer, from the offset of the rules' records and each layer's mask
-// of the layers below it.
-pub fn stable_at(
-    book: &[u8],
-    first: usize,
-    layer: usize,
-    lower: [u32; 32],
-    m: &[bool],
-    n: usize,
-) -> bool
-    requires { ⌜ WellFormed (programOf (now book) layer) ⌝ }
-    requires { ⌜ Prepared (now book) first lower ⌝ }
-    requires { ⌜ layer < 32 ⌝ }
-    requires { ⌜ n ≡ programOf (now book) layer .atoms ⌝ }
-    requires { ⌜ n ≤ 256 ⌝ }
-    requires { ⌜ length (now m) ≡ n ⌝ }
-    ensures { λ r. ⌜ r ≡ stable (programOf (now (book .entry)) layer) (now (m .entry)) ⌝ }
-{
-    let table = rule_table(book, first, layer, lower);
-    let rows = table.rows;
-    let overridden = table.overridden;
-    let count = table.count;
-    is_stable(
-        book,
-        &rows[0..4 * count],
-        &overridden[0..count],
-        layer,
-        m,
-        n,
-    )
 }

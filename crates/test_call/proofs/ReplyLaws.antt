@@ -1,0 +1,124 @@
+-- The answer from the tests made so far, and what "yes" says: no cause applies, and the candidate's state is a stable model by the
+-- inductive definition. Used by `test` and `candidate_stable`. Assumes nothing.
+use mathlib.Core.Path.{_≡_, refl, sym, ap, ap₂, subst, _∙_}
+use mathlib.Core.Bool.{Bool, true, false}
+use mathlib.Core.List.{List, [], _∷_}
+use Prim.Native.Nat.{ℕ, _-_}
+use native.Mathlib.Omega.{arith}
+use lib.Dec.{T}
+use lib.ListN.{length, take}
+use Rattle.base.proofs.UpTo.{passed, failed}
+use Rattle.format.specs.Book.{bookOf}
+use Rattle.models.specs.Program.{programAt}
+use Rattle.models.specs.StableModels.{Interpretation, stable, StableModel}
+use Rattle.models.specs.Listing.{interpretationOf}
+use Rattle.models.proofs.LeastLaws.{stable-sound, stable-complete}
+use Rattle.table.specs.Table.{programOf}
+use Rattle.book.specs.Causes.{verdictIf, firstOf}
+use Rattle.book.specs.declared.Cause.{Cause}
+use Rattle.book.specs.declared.Cause.the-variants.{BadCandidate}
+use Rattle.book.specs.declared.Verdict.{Verdict}
+use Rattle.book.specs.declared.Verdict.the-variants.{Accepted, Refused}
+use Rattle.accepted.specs.Driven.{layerTests}
+use Rattle.accepted.proofs.FirstLaws.{first-append, first-refused, accepted-none}
+use Rattle.candidate.specs.Candidate.{isBadCandidate}
+use Rattle.candidate.proofs.CandidateLaws.{read-length}
+use Rattle.test_call.specs.Reply.{testTests, replyOf, testReply, NoCause, YesExactly, NoExactly}
+use Rattle.test_call.specs.declared.TestReply.{TestReply}
+use Rattle.test_call.specs.declared.TestReply.the-variants as reply
+
+-- the first n places of what was read, as the code lends them
+module _ (n : ℕ) (s : List ℕ) (m : List Bool) (e : take n m ≡ interpretationOf n s) where
+  pub lent-state : take (n - 0) m ≡ interpretationOf n s
+  lent-state = ap (λ (k : ℕ). take k m) {x = n - 0} {y = n} (omega arith) ∙ e
+
+  pub lent-size : length (take (n - 0) m) ≡ n
+  lent-size = ap (length {A = Bool}) lent-state ∙ read-length n s
+
+pub program-atoms : (book : List ℕ) (layer n : ℕ) → n ≡ bookOf book .atoms → n ≡ programOf book layer .atoms
+unfolding programAt
+program-atoms book layer n e = e
+
+module _ (book : List ℕ) (layer : ℕ) (candidate : List ℕ) where
+  -- the verdict on the book and the layer, as the code holds it
+  module _ (v : Verdict) (e : v ≡ firstOf (layerTests book layer)) where
+    pub layer-refused : (c : Cause) → v ≡ Refused c → reply.Refused c ≡ testReply book layer candidate
+    unfolding testReply testTests replyOf
+    layer-refused c q =
+        sym (ap (λ (w : Verdict). replyOf w (stable (programOf book layer) (interpretationOf (bookOf book .atoms) candidate)))
+        (first-refused (layerTests book layer) (record { cause = BadCandidate; applies = isBadCandidate (bookOf book .atoms) candidate } ∷ []) c (sym e ∙ q)))
+
+    module _ (q : v ≡ Accepted) (n : ℕ) (en : n ≡ bookOf book .atoms) (t : Bool) (et : t ≡ isBadCandidate n candidate) where
+      ten : firstOf (testTests book layer candidate) ≡ verdictIf t (Refused BadCandidate) Accepted
+      unfolding testTests firstOf
+      ten =
+          first-append (layerTests book layer) (record { cause = BadCandidate; applies = isBadCandidate (bookOf book .atoms) candidate } ∷ []) (sym e ∙ q)
+          ∙ ap (λ (b : Bool). verdictIf b (Refused BadCandidate) Accepted) (ap (λ (k : ℕ). isBadCandidate k candidate) (sym en) ∙ sym et)
+
+      answer : (r : Bool) → r ≡ stable (programOf book layer) (interpretationOf n candidate) → testReply book layer candidate ≡ replyOf (verdictIf t (Refused BadCandidate) Accepted) r
+      unfolding testReply
+      answer r er = ap₂ replyOf ten (ap (λ (k : ℕ). stable (programOf book layer) (interpretationOf k candidate)) (sym en) ∙ sym er)
+
+      pub candidate-refused : t ≡ true → reply.Refused BadCandidate ≡ testReply book layer candidate
+      unfolding replyOf verdictIf
+      candidate-refused f = sym (answer (stable (programOf book layer) (interpretationOf n candidate)) refl ∙ rw f refl)
+
+      module _ (f : t ≡ false) (r : Bool) (er : r ≡ stable (programOf book layer) (interpretationOf n candidate)) where
+        pub answered-yes : r ≡ true → reply.Stable ≡ testReply book layer candidate
+        unfolding replyOf verdictIf
+        answered-yes g = sym (answer r er ∙ rw (f, g) refl)
+
+        pub answered-no : r ≡ false → reply.NotStable ≡ testReply book layer candidate
+        unfolding replyOf verdictIf
+        answered-no g = sym (answer r er ∙ rw (f, g) refl)
+
+  -- the state that the candidate gives
+  abbrev state : Interpretation
+  state = interpretationOf (bookOf book .atoms) candidate
+
+  state-size : length state ≡ programOf book layer .atoms
+  state-size = program-atoms book layer (length state) (read-length (bookOf book .atoms) candidate)
+
+  state-stable : T (stable (programOf book layer) state) → StableModel (programOf book layer) state
+  state-stable t = stable-sound (programOf book layer) state state-size t
+
+  answer-from : (v : Verdict) (b : Bool) (r : TestReply) → replyOf v b ≡ r → ((c : Cause) → r ≡ reply.Refused c → ⊥) → v ≡ Accepted
+  unfolding replyOf
+  answer-from Accepted b r e n = refl
+  answer-from (Refused c) b r e n = absurd (n c (sym e))
+
+  yes-from : (b : Bool) → replyOf Accepted b ≡ reply.Stable → b ≡ true
+  unfolding replyOf
+  yes-from true e = refl
+  yes-from false e = let z : _≡_ {A = ℕ} 0 1 = cc in absurd (omega arith)
+
+  no-from : (b : Bool) → replyOf Accepted b ≡ reply.NotStable → b ≡ false
+  unfolding replyOf
+  no-from true e = let z : _≡_ {A = ℕ} 0 1 = cc in absurd (omega arith)
+  no-from false e = refl
+
+  -- "yes" or "no" with no cause, and the test's answer
+  answered : (r : TestReply) (b : Bool) → ((c : Cause) → r ≡ reply.Refused c → ⊥) → ((x : Bool) → replyOf Accepted x ≡ r → x ≡ b)
+      → testReply book layer candidate ≡ r → NoCause book layer candidate × (stable (programOf book layer) state ≡ b)
+  unfolding testReply
+  answered r b n f e =
+      let a : firstOf (testTests book layer candidate) ≡ Accepted = answer-from (firstOf (testTests book layer candidate)) (stable (programOf book layer) state) r e n in
+      (accepted-none (testTests book layer candidate) .0 a, f (stable (programOf book layer) state) (ap (λ (v : Verdict). replyOf v (stable (programOf book layer) state)) (sym a) ∙ e))
+
+  answers : (b : Bool) → NoCause book layer candidate → stable (programOf book layer) state ≡ b → testReply book layer candidate ≡ replyOf Accepted b
+  unfolding testReply
+  answers b n e = ap₂ replyOf (accepted-none (testTests book layer candidate) .1 n) e
+
+  pub yes-exactly : YesExactly book layer candidate
+  unfolding replyOf
+  yes-exactly = (
+    λ e. let w = answered reply.Stable true (λ c q. let z : _≡_ {A = ℕ} 0 1 = cc in omega arith) yes-from e in (w .0, state-stable (subst T (sym (w .1)) tt)),
+    λ w. answers true (w .0) (passed (stable (programOf book layer) state) (stable-complete (programOf book layer) state (w .1))),
+  )
+
+  pub no-exactly : NoExactly book layer candidate
+  unfolding replyOf
+  no-exactly = (
+    λ e. let w = answered reply.NotStable false (λ c q. let z : _≡_ {A = ℕ} 0 1 = cc in omega arith) no-from e in (w .0, λ m. subst T (w .1) (stable-complete (programOf book layer) state m)),
+    λ w. answers false (w .0) (failed (stable (programOf book layer) state) (λ t. w .1 (state-stable t))),
+  )

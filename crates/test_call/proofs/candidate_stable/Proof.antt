@@ -1,0 +1,85 @@
+-- The candidate's state is what is read from it, and the table is the program's, so the test of the table is the test of the state.
+use mathlib.Core.Path.{ap, _∙_}
+use Rattle.models.specs.StableModels.{Interpretation, stable}
+use Rattle.table.specs.Table.{programOf}
+use Rattle.table.proofs.TableLaws.{lent-table}
+use Rattle.accepted.proofs.RecordFacts.{accepted-formed}
+use Rattle.candidate.proofs.CandidateLaws.{ok-length}
+use Rattle.test_call.proofs.ReplyLaws.{lent-state, lent-size, program-atoms}
+use native.Mathlib.Omega.{arith}
+use borrow.Author.Needs.{needs}
+use Rattle.test_call.proofs.candidate_stable.Statement.{statement}
+use Rattle.test_call.proofs.candidate_stable.Tie as tie
+
+read-candidate-requires : tie.Need-read-candidate-requires
+read-candidate-requires c κs =
+    (c .before .before .pre .1 .1 .0 .1, ok-length (c .before .before .args .n) (c .before .before .args .candidate .now) (c .before .before .pre .1 .1 .1))
+
+prepare-requires : tie.Need-prepare-requires
+prepare-requires c κs = search needs
+
+mul-is-stable : tie.Need-mul-is-stable
+mul-is-stable c = search needs
+
+sub-is-stable : tie.Need-sub-is-stable
+sub-is-stable c = search needs
+
+part-is-stable-start : tie.Need-part-is-stable-start
+part-is-stable-start c = search needs
+
+part-is-stable-end : tie.Need-part-is-stable-end
+part-is-stable-end c = search needs
+
+sub-is-stable-2 : tie.Need-sub-is-stable-2
+sub-is-stable-2 c = search needs
+
+part-is-stable-start-2 : tie.Need-part-is-stable-start-2
+part-is-stable-start-2 c = search needs
+
+part-is-stable-end-2 : tie.Need-part-is-stable-end-2
+part-is-stable-end-2 c = search needs
+
+sub-is-stable-3 : tie.Need-sub-is-stable-3
+sub-is-stable-3 c = search needs
+
+part-is-stable-start-3 : tie.Need-part-is-stable-start-3
+part-is-stable-start-3 c = search needs
+
+part-is-stable-end-3 : tie.Need-part-is-stable-end-3
+part-is-stable-end-3 c =
+    omega (arith, c .before .before .before .before .before .before .before .before .before .before .before .pre .1 .1 .0 .1)
+
+is-stable-requires : tie.Need-is-stable-requires
+is-stable-requires c κs =
+    let e = c .before .before .before .before .before .before .before .before .before .before .before .before .args in
+    let h = c .before .before .before .before .before .before .before .before .before .before .before .before .pre in (
+      accepted-formed (e .book .now) (h .0) (e .layer),
+      (
+        lent-table (c .before .before .before .before .before .before .before .before .prepare .ensures),
+        (program-atoms (e .book .now) (e .layer) (e .n) (h .1 .1 .0 .0), (h .1 .1 .0 .1, lent-size (e .n) (e .candidate .now) (c .before .before .before .before .before .before .before .before .before .read-candidate .result) (c .before .before .before .before .before .before .before .before .before .read-candidate .ensures))),
+      ),
+    )
+
+returns : tie.Need-returns
+returns c =
+    let e = c .before .before .before .before .before .before .before .before .before .before .before .before .before .args in
+    c .is-stable .ensures ∙ ap (λ (m : Interpretation). stable (programOf (e .book .now) (e .layer)) m) (lent-state (e .n) (e .candidate .now) (c .before .before .before .before .before .before .before .before .before .before .read-candidate .result) (c .before .before .before .before .before .before .before .before .before .before .read-candidate .ensures))
+
+pub candidate-stable-spec : {M : Type 1} → statement M
+candidate-stable-spec =
+    tie.close
+    (tie.spec
+    read-candidate-requires
+    prepare-requires
+    mul-is-stable
+    sub-is-stable
+    part-is-stable-start
+    part-is-stable-end
+    sub-is-stable-2
+    part-is-stable-start-2
+    part-is-stable-end-2
+    sub-is-stable-3
+    part-is-stable-start-3
+    part-is-stable-end-3
+    is-stable-requires
+    returns)

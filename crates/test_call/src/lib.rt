@@ -1,0 +1,70 @@
+// The call that tests a candidate: the first of causes 1 to 10 that applies, or whether the candidate's state is stable at the
+// driven layer. It writes nothing.
+ghost use mathlib.Core.Path.{_≡_};
+ghost use mathlib.Core.Bool.{false};
+ghost use Prim.Native.Nat.{_<_, _≤_};
+ghost use Rattle.base.specs.Bounds.{maxAtoms};
+ghost use Rattle.format.specs.Book.{bookOf};
+ghost use Rattle.models.specs.StableModels.{stable};
+ghost use Rattle.models.specs.Listing.{interpretationOf};
+ghost use Rattle.table.specs.Table.{programOf};
+ghost use Rattle.accepted.specs.Accepted.{IsAccepted};
+ghost use Rattle.candidate.specs.Candidate.{isBadCandidate};
+ghost use Rattle.test_call.specs.Reply.{testReply};
+use accepted::atom_count;
+use accepted::check_layer;
+use accepted::prepare;
+use book::Cause;
+use book::Verdict;
+use candidate::bad_candidate;
+use candidate::read_candidate;
+use tester::is_stable;
+
+pub enum TestReply {
+    Stable,
+    NotStable,
+    Refused(Cause),
+}
+
+// Whether a candidate's state is stable, once no cause applies: the table is made once, then the test fills from it.
+fn candidate_stable(book: &[u8], layer: usize, candidate: &[u8], n: usize) -> bool
+    requires { ⌜ IsAccepted (now book) ⌝ }
+    requires { ⌜ layer < bookOf (now book) .layers ⌝ }
+    requires { ⌜ (n ≡ bookOf (now book) .atoms) × (n ≤ maxAtoms) ⌝ }
+    requires { ⌜ isBadCandidate n (now candidate) ≡ false ⌝ }
+    ensures { λ r. ⌜ r ≡ stable (programOf (now (book .entry)) layer) (interpretationOf n (now (candidate .entry))) ⌝ }
+{
+    let m = read_candidate(candidate, n);
+    let table = prepare(book, layer);
+    let rows = table.rows;
+    let overridden = table.overridden;
+    let count = table.count;
+    is_stable(
+        book,
+        &rows[0..4 * count],
+        &overridden[0..count],
+        layer,
+        &m[0..n],
+        n,
+    )
+}
+
+// Tests a candidate.
+pub fn test(book: &[u8], layer: u32, candidate: &[u8]) -> TestReply
+    ensures { λ r. ⌜ r ≡ testReply (now (book .entry)) layer (now (candidate .entry)) ⌝ }
+{
+    let v = check_layer(book, layer);
+    match v {
+        Verdict::Refused(c) => TestReply::Refused(c),
+        Verdict::Accepted => {
+            let n = atom_count(book);
+            if bad_candidate(candidate, n) {
+                return TestReply::Refused(Cause::BadCandidate);
+            }
+            if candidate_stable(book, layer as usize, candidate, n) {
+                return TestReply::Stable;
+            }
+            TestReply::NotStable
+        }
+    }
+}
