@@ -4,8 +4,16 @@ use Prim.Native.Nat.{ℕ}
 use Rattle.book.specs.declared.Verdict.{Verdict}
 use Rattle.book.specs.declared.Verdict.the-variants.{Accepted, Refused}
 use Rattle.book.specs.Numbers.{numberOf}
+use Rattle.test_call.specs.declared.TestReply.{TestReply}
+use Rattle.test_call.specs.declared.TestReply.the-variants as reply
 
 -- lesson_check: accepted carries nothing
 abbrev pub checkAnswer : Verdict → ℕ
 checkAnswer Accepted = 0
 checkAnswer (Refused c) = numberOf c
+
+-- lesson_test: bit 16 is 1 for yes and 0 for no
+abbrev pub testAnswer : TestReply → ℕ
+testAnswer reply.Stable = 65536
+testAnswer reply.NotStable = 0
+testAnswer (reply.Refused c) = numberOf c

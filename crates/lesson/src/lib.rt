@@ -2,10 +2,13 @@
 // None has a `requires`: every input has an outcome.
 ghost use mathlib.Core.Path.{_≡_};
 ghost use Rattle.book.specs.Causes.{verdict};
-ghost use Rattle.lesson.specs.Answers.{checkAnswer};
+ghost use Rattle.test_call.specs.Reply.{testReply};
+ghost use Rattle.lesson.specs.Answers.{checkAnswer, testAnswer};
 use book::Verdict;
 use book::cause_number;
 use book::check;
+use test_call::TestReply;
+use test_call::test;
 
 fn verdict_number(v: Verdict) -> u64
     ensures { λ r. ⌜ r ≡ checkAnswer v ⌝ }
@@ -22,4 +25,22 @@ pub extern "C" fn lesson_check(book: &[u8]) -> u64
     ensures { λ r. ⌜ r ≡ checkAnswer (verdict (now (book .entry))) ⌝ }
 {
     verdict_number(check(book))
+}
+
+fn test_number(r: TestReply) -> u64
+    ensures { λ n. ⌜ n ≡ testAnswer r ⌝ }
+{
+    match r {
+        TestReply::Stable => 65536,
+        TestReply::NotStable => 0,
+        TestReply::Refused(c) => cause_number(c),
+    }
+}
+
+// Whether a candidate is a stable state of a book at a layer, or the first of causes 1 to 10 that applies.
+#[no_mangle]
+pub extern "C" fn lesson_test(book: &[u8], layer: u32, candidate: &[u8]) -> u64
+    ensures { λ r. ⌜ r ≡ testAnswer (testReply (now (book .entry)) layer (now (candidate .entry))) ⌝ }
+{
+    test_number(test(book, layer, candidate))
 }
