@@ -23,6 +23,11 @@
  *   needs no checking before it is handed to any call.
  * - A refusal leaves every byte of every buffer as it was.
  *
+ * A state says of each of a book's n facts whether it stands. It goes in and out
+ * as a record of n / 8 bytes, rounded up: fact f is bit 7 - f % 8 of byte f / 8,
+ * bit 0 being the lowest, and it is 1 where the fact stands. The bits that are
+ * left over in the last byte are 0.
+ *
  * Every call answers with one 64-bit number. Its low byte is 0 where the call
  * is granted, and the bits above it carry what the answer carries. Where the
  * call is refused, the low byte is the number of the cause, and all other bits
@@ -69,6 +74,12 @@ static inline bool lesson_granted(uint64_t answer)
     return (answer & 0xFF) == 0;
 }
 
+/* lesson_test: whether the candidate is a stable state; false after a refusal. */
+static inline bool lesson_is_stable(uint64_t answer)
+{
+    return (answer >> 16 & 1) != 0;
+}
+
 #ifdef __cplusplus
 extern "C" {
 #endif
@@ -83,6 +94,20 @@ extern "C" {
  * and else the first of LESSON_TOO_SHORT to LESSON_CYCLE that applies.
  */
 uint64_t lesson_check(const uint8_t *book, size_t book_len);
+
+/*
+ * Tests whether a candidate is a stable state of a book at the driven layer.
+ * Writes nothing. The book may have any number of branching facts.
+ *
+ * book, book_len: the book, any bytes.
+ * layer: the driven layer, counted from 0, any number.
+ * candidate, candidate_len: the candidate as one record, any bytes.
+ *
+ * Answers yes or no in bit 16 (lesson_is_stable), or the first of
+ * LESSON_TOO_SHORT to LESSON_BAD_CANDIDATE that applies.
+ */
+uint64_t lesson_test(const uint8_t *book, size_t book_len, uint32_t layer, const uint8_t *candidate,
+                     size_t candidate_len);
 
 #ifdef __cplusplus
 }

@@ -2,7 +2,8 @@
 //! Run it with `cargo run --release`.
 
 use lesson_tests::rng::{seed, Rng};
-use lesson_tests::{ffi, reader, shapes};
+use lesson_tests::shapes::{self, Planted};
+use lesson_tests::{ffi, oracle, plain, reader};
 use std::hint::black_box;
 use std::time::{Duration, Instant};
 
@@ -37,7 +38,7 @@ fn row(name: &str, bytes: usize, engine: &mut dyn FnMut(), plain: &mut dyn FnMut
     }
     let [engine, plain] = best;
     let ratio = engine / plain;
-    println!("{name:<28} {bytes:>6} {engine:>12.3} {plain:>12.3} {ratio:>6.2}");
+    println!("{name:<44} {bytes:>6} {engine:>12.3} {plain:>12.3} {ratio:>6.2}");
 }
 
 fn check_row(name: &str, book: &[u8]) {
@@ -55,14 +56,48 @@ fn check_row(name: &str, book: &[u8]) {
     );
 }
 
+/// A row for the test of the stable state of `planted`: a yes, which no early no shortens.
+fn test_row(name: &str, planted: &Planted) {
+    let book = planted.book.bytes();
+    let layer = planted.layer.into();
+    let candidate = oracle::record(&planted.state);
+    assert_eq!(ffi::test_in_place(&book, layer, &candidate), 1 << 16);
+    assert_eq!(plain::test(&book, layer, &candidate), 1 << 16);
+    row(
+        name,
+        book.len(),
+        &mut || {
+            black_box(ffi::test_in_place(black_box(&book), layer, &candidate));
+        },
+        &mut || {
+            black_box(plain::test(black_box(&book), layer, &candidate));
+        },
+    );
+}
+
 fn main() {
     let seed = seed();
-    let largest = shapes::largest(&mut Rng::named(seed, "largest")).bytes();
+    let rng = |name| Rng::named(seed, name);
+    let largest = shapes::largest(&mut rng("largest")).bytes();
+    let b = Planted {
+        book: shapes::book_b(),
+        layer: 3,
+        state: vec![false, false, true],
+    };
     println!("microseconds a call, best of {REPEATS} repeats, seed {seed}");
     println!(
-        "{:<28} {:>6} {:>12} {:>12} {:>6}",
+        "{:<44} {:>6} {:>12} {:>12} {:>6}",
         "call and book", "bytes", "engine", "plain Rust", "ratio"
     );
     check_row("check, largest lawful book", &largest);
     check_row("check, B", &shapes::B);
+    test_row(
+        "test, largest lawful book",
+        &shapes::planted_largest(&mut rng("planted largest")),
+    );
+    test_row(
+        "test, 1,024 rules, worst order for filling",
+        &shapes::worst_order(),
+    );
+    test_row("test, B", &b);
 }

@@ -1,39 +1,9 @@
 /* Checks lesson_check from C, through the header: accepted books, each refusal and NULL. */
-#include "lesson.h"
-
-#include <stdio.h>
-#include <string.h>
-
-/* Book B of document 01. */
-static const uint8_t B[48] = {
-    0x01, 0x00, 0x00, 0x00, 0x30, 0x00, 0x03, 0x04,             /* head: 3 facts, 4 layers */
-    0x00, 0x00, 0x00, 0x0C, 0x00, 0x04,                         /* at 8: arrow section */
-    0x02, 0x00, 0x01, 0x02, 0x00, 0x02,                         /* at 14 */
-    0x02, 0x01, 0x03, 0x02, 0x02, 0x03,                         /* at 20 */
-    0x00, 0x00, 0x00, 0x10, 0x00, 0x03,                         /* at 26: rule section */
-    0x05, 0x00, 0x00, 0x00, 0x80, 0x01, 0x03, 0x01, 0x00, 0x02, /* at 32 */
-    0x05, 0x02, 0x80, 0x00, 0x00, 0x02                          /* at 42 */
-};
-
-/* One fact, one layer, no records. */
-static const uint8_t smallest[20] = {1, 0, 0, 0, 20, 0, 1, 1};
-
-static unsigned passed, failed;
+#include "host.h"
 
 static void expect(const char *what, const uint8_t *book, size_t length, uint64_t expected)
 {
-    uint64_t answer = lesson_check(book, length);
-    bool helpers_agree =
-        lesson_granted(answer) == (expected == 0) && lesson_cause(answer) == expected;
-
-    if (answer == expected && helpers_agree) {
-        passed++;
-        printf("ok: %s\n", what);
-    } else {
-        failed++;
-        printf("FAILED: %s: expected %llu, answer %llu\n", what, (unsigned long long)expected,
-               (unsigned long long)answer);
-    }
+    expect_answer(what, lesson_check(book, length), expected);
 }
 
 /* B with other bytes from `at` on. */
@@ -68,7 +38,5 @@ int main(void)
     expect_edited("two equal arrows", 18, "\x00\x01", 2, LESSON_REPEATED_ARROW);
     expect_edited("an arrow from a layer to itself", 24, "\x02\x02", 2, LESSON_CYCLE);
     expect_edited("arrows in a circle", 24, "\x03\x00", 2, LESSON_CYCLE);
-
-    printf("%u passed, %u failed\n", passed, failed);
-    return failed != 0;
+    return report();
 }

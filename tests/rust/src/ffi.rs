@@ -1,10 +1,20 @@
 //! The calls of the archive, made safe. The only file with `unsafe`.
+//!
+//! Each call has a form that lends fenced copies of its slices, in two surroundings, and one that
+//! lends the slices themselves: for timing, for sharing, and for what is too large to copy.
 
 use crate::book::hex;
 use std::ptr;
 
 extern "C" {
     fn lesson_check(book: *const u8, book_len: usize) -> u64;
+    fn lesson_test(
+        book: *const u8,
+        book_len: usize,
+        layer: u32,
+        candidate: *const u8,
+        candidate_len: usize,
+    ) -> u64;
 }
 
 /// Odd, so that the slices are misaligned.
@@ -30,6 +40,14 @@ impl Lent {
         &self.whole[FENCE..self.whole.len() - FENCE]
     }
 
+    /// The two arguments of a call. Among zeros an empty slice is NULL, which the header allows.
+    fn slice(&self) -> (*const u8, usize) {
+        match self.contents() {
+            [] if self.canary == 0 => (ptr::null(), 0),
+            contents => (contents.as_ptr(), contents.len()),
+        }
+    }
+
     fn fences_stand(&self) -> bool {
         let after = self.whole.len() - FENCE;
         let mut fences = self.whole[..FENCE].iter().chain(&self.whole[after..]);
@@ -37,28 +55,40 @@ impl Lent {
     }
 }
 
-/// `lesson_check` on a fenced copy of `book`. Asserts that nothing was written and that the
-/// surroundings do not matter.
-pub fn check(book: &[u8]) -> u64 {
+/// The answer of `call` on fenced copies of `slices`. Asserts that nothing was written and that
+/// the surroundings do not matter.
+fn fenced<const N: usize>(slices: [&[u8]; N], call: impl Fn(&[Lent; N]) -> u64) -> u64 {
+    let told = || slices.map(hex).join(", ");
     let answers = CANARIES.map(|canary| {
-        let lent = Lent::new(book, canary);
-        let answer = check_in_place(lent.contents());
-        assert!(
-            lent.fences_stand() && lent.contents() == book,
-            "a byte was written: book {}",
-            hex(book)
-        );
+        let lent = slices.map(|slice| Lent::new(slice, canary));
+        let answer = call(&lent);
+        for (lent, slice) in lent.iter().zip(slices) {
+            assert!(
+                lent.fences_stand() && lent.contents() == slice,
+                "a byte was written: slices {}",
+                told()
+            );
+        }
         answer
     });
     assert!(
         answers[0] == answers[1],
-        "bytes outside the book change the answer, {answers:?}: book {}",
-        hex(book)
+        "bytes outside the slices change the answer, {answers:?}: slices {}",
+        told()
     );
     answers[0]
 }
 
-/// `lesson_check` on `book` itself: for timing, for sharing, and for books too large to copy.
+/// `lesson_check` on a fenced copy.
+pub fn check(book: &[u8]) -> u64 {
+    fenced([book], |[book]| {
+        let (book, book_len) = book.slice();
+        // SAFETY: NULL with length 0, or a live slice, and the call only reads.
+        unsafe { lesson_check(book, book_len) }
+    })
+}
+
+/// `lesson_check` on `book` itself.
 pub fn check_in_place(book: &[u8]) -> u64 {
     // SAFETY: the pointer and the length are those of a live slice, and the call only reads.
     unsafe { lesson_check(book.as_ptr(), book.len()) }
@@ -68,4 +98,28 @@ pub fn check_in_place(book: &[u8]) -> u64 {
 pub fn check_null() -> u64 {
     // SAFETY: the header allows NULL where the length is 0; nothing is read.
     unsafe { lesson_check(ptr::null(), 0) }
+}
+
+/// `lesson_test` on fenced copies.
+pub fn test(book: &[u8], layer: u32, candidate: &[u8]) -> u64 {
+    fenced([book, candidate], |[book, candidate]| {
+        let (book, book_len) = book.slice();
+        let (candidate, candidate_len) = candidate.slice();
+        // SAFETY: each is NULL with length 0, or a live slice, and the call only reads.
+        unsafe { lesson_test(book, book_len, layer, candidate, candidate_len) }
+    })
+}
+
+/// `lesson_test` on the slices themselves.
+pub fn test_in_place(book: &[u8], layer: u32, candidate: &[u8]) -> u64 {
+    // SAFETY: the pointers and the lengths are those of live slices, and the call only reads.
+    unsafe {
+        lesson_test(
+            book.as_ptr(),
+            book.len(),
+            layer,
+            candidate.as_ptr(),
+            candidate.len(),
+        )
+    }
 }

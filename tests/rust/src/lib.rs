@@ -1,13 +1,17 @@
 //! What the tests and the benchmark of the compiled lesson engine share.
 //!
 //! `reader` and `oracle` are written from document 01 alone and share nothing with the engine.
+//! `expected` has the answers that follow from them.
 
 #![deny(unsafe_code)]
 
 pub mod book;
+pub mod expected;
 #[allow(unsafe_code)]
 pub mod ffi;
+pub mod misreadings;
 pub mod oracle;
+pub mod plain;
 pub mod reader;
 pub mod rng;
 pub mod shapes;

@@ -82,6 +82,10 @@ impl Driven {
         }
     }
 
+    pub fn atoms(&self) -> u16 {
+        self.atoms as u16
+    }
+
     fn is_below(&self, earlier: &Rule, later: &Rule) -> bool {
         self.below[usize::from(earlier.layer)][usize::from(later.layer)]
     }
@@ -111,13 +115,15 @@ impl Driven {
         for atom in 0..self.atoms {
             least.negative[atom] = self.default(atom, state);
         }
+        let undisplaced: Vec<&Rule> = self
+            .rules
+            .iter()
+            .filter(|rule| !self.rejected(rule, state))
+            .collect();
         loop {
             let mut added = false;
-            for rule in &self.rules {
-                if !self.rejected(rule, state)
-                    && rule.body.iter().all(|literal| least.has(literal))
-                    && !least.has(&rule.head)
-                {
+            for rule in &undisplaced {
+                if rule.body.iter().all(|literal| least.has(literal)) && !least.has(&rule.head) {
                     least.add(&rule.head);
                     added = true;
                 }
@@ -195,6 +201,17 @@ pub fn record(state: &[bool]) -> Vec<u8> {
         record[atom / 8] |= 1 << (7 - atom % 8);
     }
     record
+}
+
+/// The state that a record gives. `None` where its length is another, or a spare bit is set.
+pub fn state(bytes: &[u8], atoms: u16) -> Option<Vec<bool>> {
+    let bit = |atom: usize| {
+        bytes
+            .get(atom / 8)
+            .is_some_and(|byte| byte >> (7 - atom % 8) & 1 == 1)
+    };
+    let state: Vec<bool> = (0..usize::from(atoms)).map(bit).collect();
+    (record(&state) == bytes).then_some(state)
 }
 
 #[cfg(test)]

@@ -21,16 +21,16 @@ const MAX_RULES: u16 = 1024;
 const MAX_BODY: usize = 16;
 
 /// The head fields, and the sections once their ends are known to fit.
-struct Parts<'a> {
-    atoms: u16,
-    layers: u8,
-    arrows: Section<'a>,
-    rules: Section<'a>,
+pub(crate) struct Parts<'a> {
+    pub atoms: u16,
+    pub layers: u8,
+    pub arrows: Section<'a>,
+    pub rules: Section<'a>,
 }
 
-struct Section<'a> {
+pub(crate) struct Section<'a> {
     records: &'a [u8],
-    count: u16,
+    pub count: u16,
 }
 
 /// The first cause that applies to `bytes`, or 0.
@@ -59,7 +59,7 @@ pub fn read(bytes: &[u8]) -> Result<Book, u8> {
 }
 
 /// Causes 1 to 4.
-fn parts(bytes: &[u8]) -> Result<Parts<'_>, u8> {
+pub(crate) fn parts(bytes: &[u8]) -> Result<Parts<'_>, u8> {
     if bytes.len() < MIN_BYTES {
         return Err(TOO_SHORT);
     }
@@ -106,7 +106,7 @@ fn section(bytes: &[u8]) -> Option<(Section<'_>, &[u8])> {
 
 impl<'a> Section<'a> {
     /// The records without their length bytes. They are known to end where the section ends.
-    fn records(&self) -> impl Iterator<Item = &'a [u8]> {
+    pub fn records(&self) -> impl Iterator<Item = &'a [u8]> {
         let mut left = self.records;
         std::iter::from_fn(move || {
             let (&length, behind) = left.split_first()?;

@@ -147,6 +147,282 @@ pub fn choices(rng: &mut Rng) -> Book {
     book
 }
 
+/// How the layers of a small book lie.
+#[derive(Clone, Copy, Debug, PartialEq, Eq)]
+pub enum Layering {
+    Chain,
+    /// One layer below two unrelated ones, these below a fourth; a fifth below or above them all.
+    Diamond,
+    /// Chains that no arrow joins, or only the arrows to a last layer above them all.
+    Branches,
+    /// Any arrows that lead forward.
+    Any,
+}
+
+/// The layers' number, and their arrows as if each layer came before those with larger numbers.
+fn lie(rng: &mut Rng, layering: Layering) -> (usize, Vec<(usize, usize)>) {
+    match layering {
+        Layering::Chain => {
+            let layers = rng.range(1, 4);
+            (layers, (1..layers).map(|at| (at - 1, at)).collect())
+        }
+        Layering::Diamond => {
+            let mut arrows = vec![(0, 1), (0, 2), (1, 3), (2, 3)];
+            let layers = rng.range(4, 5);
+            if layers == 5 {
+                arrows.push(rng.pick(&[(3, 4), (4, 0)]));
+            }
+            (layers, arrows)
+        }
+        Layering::Branches => {
+            let mut arrows = Vec::new();
+            let mut layers = 0;
+            let mut ends = Vec::new();
+            for _ in 0..rng.range(2, 3) {
+                let length = rng.range(1, 2);
+                arrows.extend((1..length).map(|at| (layers + at - 1, layers + at)));
+                layers += length;
+                ends.push(layers - 1);
+            }
+            if rng.chance(70) {
+                arrows.extend(ends.iter().map(|&end| (end, layers)));
+                layers += 1;
+            }
+            (layers, arrows)
+        }
+        Layering::Any => {
+            let layers = rng.range(1, 5);
+            let mut arrows: Vec<(usize, usize)> = (0..layers)
+                .flat_map(|later| (0..later).map(move |earlier| (earlier, later)))
+                .collect();
+            rng.shuffle(&mut arrows);
+            arrows.truncate(rng.range(0, arrows.len()));
+            (layers, arrows)
+        }
+    }
+}
+
+/// A small lawful book whose layers lie as asked, under numbers that do not give the order away.
+/// It is made of what the definition of a stable state is about: conflicts in one layer and
+/// across layers, rules that lean on themselves or on each other, and choices.
+pub fn layered(rng: &mut Rng, layering: Layering) -> Book {
+    let (layers, arrows) = lie(rng, layering);
+    let order = hidden_order(rng, layers);
+    let most = rng.pick(&[3, 4, 8]);
+    let mut book = Book::new(rng.range(1, most) as u16, layers as u8);
+    for (earlier, later) in arrows {
+        book = book.arrow(order[earlier], order[later]);
+    }
+    rng.shuffle(&mut book.arrows);
+    for _ in 0..rng.range(1, 4) {
+        book = with_motif(rng, book);
+    }
+    let sizes = Sizes {
+        atoms: usize::from(book.atoms),
+        layers,
+        arrows: 0,
+        rules: 0,
+        body: (0, 3),
+        negated_heads: rng.pick(&[10, 30, 50]),
+    };
+    for _ in 0..rng.range(0, 4) {
+        let rule = rule(rng, &sizes);
+        book.rules.push(rule);
+    }
+    rng.shuffle(&mut book.rules);
+    book
+}
+
+/// A few rules more that belong together.
+fn with_motif(rng: &mut Rng, book: Book) -> Book {
+    let atoms = usize::from(book.atoms);
+    let (f, h) = (rng.below(atoms) as u16, rng.below(atoms) as u16);
+    let layer = rng.below(usize::from(book.layers)) as u8;
+    let mut sign = |atom| Literal {
+        atom,
+        negated: rng.chance(50),
+    };
+    let (head, other) = (sign(f), sign(h));
+    let body: &[Literal] = match rng.chance(40) {
+        true => &[other],
+        false => &[],
+    };
+    let Some(&up) = book.arrows.get(rng.below(book.arrows.len().max(1))) else {
+        return match rng.below(4) {
+            0 => conflict(book, layer, head, body),
+            1 => book.rule(layer, head, &[head]),
+            2 => circle(book, layer, f, h),
+            _ => choice(book, layer, f, h),
+        };
+    };
+    let further = book.arrows.iter().find(|next| next.earlier == up.later);
+    let beside = book
+        .arrows
+        .iter()
+        .find(|other| other.later == up.later && other.earlier != up.earlier);
+    match (rng.below(12), further.copied(), beside.copied()) {
+        (0, ..) => conflict(book, layer, head, body),
+        (1, ..) => book.rule(layer, head, &[head]),
+        (2, ..) => circle(book, layer, f, h),
+        (3, ..) => choice(book, layer, f, h),
+        // A quarrel, and a rule above it that leans on itself.
+        (4, ..) => conflict(book, up.earlier, head, body).rule(up.later, head, &[head]),
+        // Each of two rules displaces what the other leans on.
+        (5, ..) => book
+            .rule(up.earlier, plain(f), &[])
+            .rule(up.earlier, plain(h), &[])
+            .rule(up.later, not(f), &[plain(h)])
+            .rule(up.later, not(h), &[plain(f)]),
+        // Displaced, but with no other rule for the opposite.
+        (6, ..) => book
+            .rule(up.earlier, plain(f), body)
+            .rule(up.later, not(f), &[not(f)]),
+        // The displacing rule is itself displaced.
+        (7..=8, Some(further), _) => book
+            .rule(up.earlier, head, &[])
+            .rule(up.later, head.opposite(), body)
+            .rule(further.later, head, &[head]),
+        // A quarrel between two layers side by side, and one above both.
+        (7..=10, _, Some(beside)) => book
+            .rule(up.earlier, head, &[])
+            .rule(beside.earlier, head.opposite(), body)
+            .rule(up.later, head, &[head]),
+        _ => book
+            .rule(up.earlier, head, body)
+            .rule(up.later, head.opposite(), &[other]),
+    }
+}
+
+fn conflict(book: Book, layer: u8, head: Literal, body: &[Literal]) -> Book {
+    book.rule(layer, head, body)
+        .rule(layer, head.opposite(), &[])
+}
+
+fn circle(book: Book, layer: u8, f: u16, h: u16) -> Book {
+    book.rule(layer, plain(f), &[plain(h)])
+        .rule(layer, plain(h), &[plain(f)])
+}
+
+fn choice(book: Book, layer: u8, f: u16, h: u16) -> Book {
+    book.rule(layer, plain(f), &[not(h)])
+        .rule(layer, plain(h), &[not(f)])
+}
+
+/// A lawful book of any size and a state that is stable at `layer`.
+pub struct Planted {
+    pub book: Book,
+    pub layer: u8,
+    pub state: Vec<bool>,
+}
+
+pub fn planted(rng: &mut Rng) -> Planted {
+    let sizes = Sizes {
+        atoms: rng.range(1, 256),
+        layers: rng.range(2, 32),
+        arrows: 0,
+        rules: rng.range(0, 1024),
+        body: (0, rng.pick(&[1, 3, 16])),
+        negated_heads: 50,
+    };
+    plant(rng, &sizes)
+}
+
+/// The same in the largest lawful book, with 1,024 rules of 16 literals.
+pub fn planted_largest(rng: &mut Rng) -> Planted {
+    let sizes = Sizes {
+        atoms: 256,
+        layers: 32,
+        arrows: 0,
+        rules: 1024,
+        body: (16, 16),
+        negated_heads: 50,
+    };
+    plant(rng, &sizes)
+}
+
+/// Each fact that stands has a rule over facts that come before it in a hidden order. Some rules
+/// say the opposite of the state, under a layer that displaces them; and the body of every other
+/// rule that could contradict the state does not hold in it. There are no more rules than asked
+/// for, but for those that the state needs.
+fn plant(rng: &mut Rng, sizes: &Sizes) -> Planted {
+    let order = hidden_order(rng, sizes.layers);
+    let mut book = Book::new(sizes.atoms as u16, sizes.layers as u8);
+    book.arrows = all_arrows(&order);
+    rng.shuffle(&mut book.arrows);
+    let mut hidden: Vec<u16> = (0..book.atoms).collect();
+    rng.shuffle(&mut hidden);
+    let mut state: Vec<bool> = (0..sizes.atoms).map(|_| rng.chance(50)).collect();
+    // The first one has nothing to lean on but its default.
+    state[usize::from(hidden[0])] = false;
+    let right = |atom: u16| Literal {
+        atom,
+        negated: !state[usize::from(atom)],
+    };
+    let (fewest, most) = sizes.body;
+    for (at, &atom) in hidden.iter().enumerate().skip(1) {
+        let before = |rng: &mut Rng| -> Vec<Literal> {
+            (0..rng.range(fewest, most))
+                .map(|_| right(hidden[rng.below(at)]))
+                .collect()
+        };
+        let contested = rng.chance(30);
+        let upper = rng.range(1, sizes.layers - 1);
+        if contested || state[usize::from(atom)] {
+            let body = before(rng);
+            book = book.rule(order[upper], right(atom), &body);
+        }
+        if contested {
+            let body = before(rng);
+            let lower = order[rng.below(upper)];
+            book = book.rule(lower, right(atom).opposite(), &body);
+        }
+    }
+    while book.rules.len() < sizes.rules {
+        let mut rule = rule(rng, sizes);
+        if rule.head != right(rule.head.atom) {
+            if rule.body.is_empty() {
+                continue;
+            }
+            let at = rng.below(rule.body.len());
+            rule.body[at] = right(rule.body[at].atom).opposite();
+        }
+        book.rules.push(rule);
+    }
+    rng.shuffle(&mut book.rules);
+    Planted {
+        book,
+        layer: order[sizes.layers - 1],
+        state,
+    }
+}
+
+/// 1,024 rules of 16 literals in the worst order for filling: each pass goes through nearly all of
+/// them to their last literals and reaches one fact more. In its one stable state, at layer 0, all
+/// facts stand but the last.
+pub fn worst_order() -> Planted {
+    let last = 255;
+    let body = |literal| {
+        let mut body = vec![not(last); 15];
+        body.push(literal);
+        body
+    };
+    let mut book = Book::new(256, 1);
+    for _ in 0..1024 - 255 {
+        book = book.rule(0, plain(last), &body(plain(last)));
+    }
+    for atom in (1..last).rev() {
+        book = book.rule(0, plain(atom), &body(plain(atom - 1)));
+    }
+    let book = book.rule(0, plain(0), &body(not(last)));
+    let mut state = vec![true; 256];
+    state[usize::from(last)] = false;
+    Planted {
+        book,
+        layer: 0,
+        state,
+    }
+}
+
 /// A lawful book with something in it to damage: an arrow and a rule at least.
 fn eventful(rng: &mut Rng) -> Book {
     loop {

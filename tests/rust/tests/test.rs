@@ -1,0 +1,718 @@
+//! `lesson_test` of the compiled archive against the oracle and against document 01's numbers.
+
+use lesson_tests::book::{hex, not, plain, Book, Literal};
+use lesson_tests::expected::{self, yes_or_no};
+use lesson_tests::ffi;
+use lesson_tests::misreadings::{self, Misread, Misreading, Misreading::*};
+use lesson_tests::oracle::{self, Driven};
+use lesson_tests::plain as plain_rust;
+use lesson_tests::reader;
+use lesson_tests::rng::{seed, Rng};
+use lesson_tests::shapes::{self, Layering};
+use std::thread;
+
+const P: u16 = 0;
+const Q: u16 = 1;
+
+/// The driven layers that no book has, and some that only an engine that takes a part of the
+/// number would find.
+const NO_LAYERS: [u32; 8] = [32, 255, 256, 257, 65_536, 1 << 31, u32::MAX - 255, u32::MAX];
+
+/// Every state of so many facts.
+fn states(atoms: u16) -> impl Iterator<Item = Vec<bool>> {
+    (0..1u32 << atoms).map(move |number| (0..atoms).map(|atom| number >> atom & 1 == 1).collect())
+}
+
+/// Engine and oracle give the same answer, which is returned. The slices are fenced.
+fn agree(what: &str, book: &[u8], layer: u32, candidate: &[u8]) -> u64 {
+    let engine = ffi::test(book, layer, candidate);
+    let oracle = expected::test(book, layer, candidate);
+    assert!(
+        engine == oracle,
+        "{what}, layer {layer}, candidate {}: engine {engine:#X}, oracle {oracle:#X}\n{}",
+        hex(candidate),
+        hex(book)
+    );
+    engine
+}
+
+/// Engine and oracle both give `answer`.
+fn assert_answer(what: &str, book: &[u8], layer: u32, candidate: &[u8], answer: u64) {
+    let given = agree(what, book, layer, candidate);
+    assert!(
+        given == answer,
+        "{what}, layer {layer}, candidate {}: expected {answer:#X}, engine and oracle {given:#X}\n{}",
+        hex(candidate),
+        hex(book)
+    );
+}
+
+/// How often the cases came up for which random books are there.
+#[derive(Default)]
+struct Tally {
+    yes: usize,
+    no: usize,
+    /// For each misreading, the states on which it is wrong.
+    told_apart: [usize; misreadings::EVERY.len()],
+}
+
+/// Compares engine and oracle on every state of `number` books, at every layer.
+fn sweep(shape: &str, number: usize, generate: impl Fn(&mut Rng) -> Book) -> Tally {
+    let seed = seed();
+    let mut rng = Rng::named(seed, shape);
+    let mut tally = Tally::default();
+    for index in 0..number {
+        let book = generate(&mut rng);
+        let bytes = book.bytes();
+        for layer in 0..book.layers {
+            let driven = Driven::new(&book, layer);
+            let chosen = rng.below(1 << book.atoms);
+            for (at, state) in states(book.atoms).enumerate() {
+                let record = oracle::record(&state);
+                let stable = driven.stable(&state);
+                let engine = match stable || at == chosen {
+                    true => ffi::test(&bytes, layer.into(), &record),
+                    false => ffi::test_in_place(&bytes, layer.into(), &record),
+                };
+                assert!(
+                    engine == yes_or_no(stable),
+                    "seed {seed}, {shape}, book {index}, layer {layer}, candidate {}: \
+                     engine {engine:#X}, oracle {stable}\n{}",
+                    hex(&record),
+                    hex(&bytes)
+                );
+                match stable {
+                    true => tally.yes += 1,
+                    false => tally.no += 1,
+                }
+            }
+            if index % 4 == 0 && book.atoms <= 4 {
+                count_told_apart(&mut tally, &book, layer);
+            }
+        }
+    }
+    println!(
+        "seed {seed}, {shape}: {number} books, {} states stable, {} not; told apart: {:?}",
+        tally.yes, tally.no, tally.told_apart
+    );
+    tally
+}
+
+fn count_told_apart(tally: &mut Tally, book: &Book, layer: u8) {
+    let driven = Driven::new(book, layer);
+    for (misreading, told_apart) in misreadings::EVERY.iter().zip(&mut tally.told_apart) {
+        let misread = Misread::new(book, layer, *misreading);
+        *told_apart += states(book.atoms)
+            .filter(|state| misread.stable(state) != driven.stable(state))
+            .count();
+    }
+}
+
+/// Random books are worth their time only if both answers come up, and if they tell all the
+/// misreadings from the right reading, but those named.
+fn assert_telling(tally: &Tally, but: &[Misreading]) {
+    assert!(tally.yes > 3_000, "few stable states: {}", tally.yes);
+    assert!(tally.no > 3_000, "few that are not: {}", tally.no);
+    for (misreading, &times) in misreadings::EVERY.iter().zip(&tally.told_apart) {
+        assert!(
+            times >= 10 || but.contains(misreading),
+            "{misreading:?} is told apart only {times} times"
+        );
+    }
+}
+
+#[test]
+fn every_state_of_books_in_chains_is_answered_as_by_the_oracle() {
+    let tally = sweep("test, chains", 5_000, |rng| {
+        shapes::layered(rng, Layering::Chain)
+    });
+    assert_telling(&tally, &[UnrelatedLayers]);
+}
+
+#[test]
+fn every_state_of_books_in_diamonds_is_answered_as_by_the_oracle() {
+    let tally = sweep("test, diamonds", 5_000, |rng| {
+        shapes::layered(rng, Layering::Diamond)
+    });
+    assert_telling(&tally, &[]);
+}
+
+#[test]
+fn every_state_of_books_in_unrelated_branches_is_answered_as_by_the_oracle() {
+    let tally = sweep("test, branches", 5_000, |rng| {
+        shapes::layered(rng, Layering::Branches)
+    });
+    assert_telling(&tally, &[]);
+}
+
+#[test]
+fn every_state_of_books_with_any_arrows_is_answered_as_by_the_oracle() {
+    let tally = sweep("test, any arrows", 5_000, |rng| {
+        shapes::layered(rng, Layering::Any)
+    });
+    assert_telling(&tally, &[]);
+}
+
+/// Books without the motifs of `layered`.
+#[test]
+fn every_state_of_plain_random_books_is_answered_as_by_the_oracle() {
+    let tally = sweep("test, small", 1_500, shapes::small);
+    assert_telling(&tally, &misreadings::EVERY);
+    let tally = sweep("test, choices", 1_500, shapes::choices);
+    assert_telling(&tally, &misreadings::EVERY);
+}
+
+/// The stable states of a book of at most 8 facts are those of the one-byte records, and none
+/// else, for engine and oracle. The misreading finds others.
+fn assert_trap(book: &Book, layer: u8, records: &[u8], misreading: Misreading) {
+    let bytes = book.bytes();
+    let misread = Misread::new(book, layer, misreading);
+    let mut misled = false;
+    for state in states(book.atoms) {
+        let record = oracle::record(&state);
+        let stable = records.contains(&record[0]);
+        let what = format!("{misreading:?}");
+        assert_answer(&what, &bytes, layer.into(), &record, yes_or_no(stable));
+        misled |= misread.stable(&state) != stable;
+    }
+    assert!(misled, "the book does not show {misreading:?}");
+}
+
+#[test]
+fn trap_rules_of_one_layer_do_not_displace_each_other() {
+    let quarrel = Book::new(1, 3).rule(0, plain(P), &[]).rule(0, not(P), &[]);
+    // Only one of the two is displaced, and the other stands.
+    let settled = quarrel.clone().arrow(0, 1).rule(1, plain(P), &[plain(P)]);
+    assert_trap(&settled, 1, &[0x80], WithinALayer);
+    // Neither is displaced, and no third rule helps.
+    let unsettled = quarrel.arrow(0, 2).arrow(1, 2).rule(1, plain(P), &[]);
+    assert_trap(&unsettled, 2, &[], WithinALayer);
+}
+
+#[test]
+fn trap_rules_of_unrelated_layers_do_not_displace_each_other() {
+    let quarrel = Book::new(1, 3)
+        .arrow(0, 2)
+        .arrow(1, 2)
+        .rule(0, plain(P), &[])
+        .rule(1, not(P), &[]);
+    assert_trap(&quarrel, 2, &[], LayersByNumber);
+    let settled = quarrel.rule(2, plain(P), &[plain(P)]);
+    assert_trap(&settled, 2, &[0x80], UnrelatedLayers);
+}
+
+#[test]
+fn trap_displaced_rules_count_against_defaults() {
+    let book = Book::new(1, 2)
+        .arrow(0, 1)
+        .rule(0, plain(P), &[])
+        .rule(1, not(P), &[not(P)]);
+    assert_trap(&book, 1, &[0x80], DefaultsWithoutDisplaced);
+}
+
+#[test]
+fn trap_a_circle_of_plain_bodies_reaches_nothing() {
+    let alone = Book::new(1, 1).rule(0, plain(P), &[plain(P)]);
+    assert_trap(&alone, 0, &[0x00], CirclesReach);
+    let two = Book::new(2, 1)
+        .rule(0, plain(P), &[plain(Q)])
+        .rule(0, plain(Q), &[plain(P)]);
+    assert_trap(&two, 0, &[0x00], CirclesReach);
+}
+
+#[test]
+fn a_circle_of_256_plain_bodies_reaches_nothing() {
+    let mut book = Book::new(256, 1);
+    for atom in 0..256 {
+        book = book.rule(0, plain(atom), &[plain((atom + 1) % 256)]);
+    }
+    let bytes = book.bytes();
+    assert_answer("none stands", &bytes, 0, &[0; 32], yes_or_no(true));
+    assert_answer("all stand", &bytes, 0, &[0xFF; 32], yes_or_no(false));
+}
+
+#[test]
+fn a_displaced_rule_still_displaces() {
+    let book = Book::new(1, 3)
+        .arrow(0, 1)
+        .arrow(1, 2)
+        .rule(0, plain(P), &[])
+        .rule(1, not(P), &[])
+        .rule(2, plain(P), &[plain(P)]);
+    assert_trap(&book, 2, &[0x00], DisplacedDisplaceNothing);
+}
+
+#[test]
+fn later_layers_displace_earlier_ones_and_not_the_other_way_round() {
+    let book = Book::new(1, 2)
+        .arrow(1, 0)
+        .rule(1, plain(P), &[])
+        .rule(0, not(P), &[]);
+    assert_trap(&book, 0, &[0x00], ArrowsBackwards);
+    assert_trap(&book, 0, &[0x00], LayersByNumber);
+}
+
+#[test]
+fn layers_along_a_path_are_relevant_and_displaced_and_no_others() {
+    let book = Book::new(2, 4)
+        .arrow(0, 1)
+        .arrow(1, 2)
+        .rule(0, plain(P), &[])
+        .rule(0, plain(Q), &[])
+        .rule(2, not(P), &[])
+        .rule(3, not(Q), &[]);
+    assert_trap(&book, 2, &[0x40], NoPaths);
+    assert_trap(&book, 2, &[0x40], AllLayersRelevant);
+    assert_trap(&book, 2, &[0x40], DrivenLayerOnly);
+}
+
+#[test]
+fn filling_goes_on_until_nothing_is_added() {
+    let book = Book::new(2, 1)
+        .rule(0, plain(Q), &[plain(P)])
+        .rule(0, plain(P), &[]);
+    assert_trap(&book, 0, &[0xC0], OnePass);
+}
+
+#[test]
+fn a_fact_reached_with_both_signs_is_in_no_stable_state() {
+    let book = Book::new(1, 1).rule(0, plain(P), &[]).rule(0, not(P), &[]);
+    assert_trap(&book, 0, &[], BothSigns);
+    // The negation is reached by a default.
+    let book = Book::new(2, 1)
+        .rule(0, plain(P), &[not(Q)])
+        .rule(0, plain(Q), &[plain(P)])
+        .rule(0, not(P), &[plain(Q)]);
+    assert_trap(&book, 0, &[], BothSigns);
+}
+
+#[test]
+fn starred_examples_have_the_states_of_document_01_and_no_others() {
+    let one = || Book::new(1, 1);
+    let two = || Book::new(2, 1);
+    let above = |atoms| Book::new(atoms, 2).arrow(0, 1);
+    let examples: [(Book, u8, &[u8]); 11] = [
+        (shapes::book_b(), 3, &[0x20]),
+        (shapes::book_b(), 1, &[0xA0]),
+        (shapes::book_b(), 2, &[0x80]),
+        (
+            two()
+                .rule(0, plain(P), &[not(Q)])
+                .rule(0, plain(Q), &[not(P)]),
+            0,
+            &[0x40, 0x80],
+        ),
+        (one().rule(0, plain(P), &[not(P)]), 0, &[]),
+        (one().rule(0, plain(P), &[]).rule(0, not(P), &[]), 0, &[]),
+        (one().rule(0, plain(P), &[plain(P)]), 0, &[0x00]),
+        (
+            Book::new(1, 3)
+                .arrow(0, 2)
+                .arrow(1, 2)
+                .rule(0, plain(P), &[])
+                .rule(1, not(P), &[]),
+            2,
+            &[],
+        ),
+        (
+            above(2)
+                .rule(0, plain(P), &[])
+                .rule(0, plain(Q), &[])
+                .rule(1, not(P), &[plain(Q)])
+                .rule(1, not(Q), &[plain(P)]),
+            1,
+            &[0x40, 0x80],
+        ),
+        (
+            above(1).rule(0, plain(P), &[]).rule(1, not(P), &[not(P)]),
+            1,
+            &[0x80],
+        ),
+        (
+            above(1)
+                .rule(0, plain(P), &[])
+                .rule(0, not(P), &[])
+                .rule(1, plain(P), &[plain(P)]),
+            1,
+            &[0x80],
+        ),
+    ];
+    for (at, (book, layer, records)) in examples.iter().enumerate() {
+        for state in states(book.atoms) {
+            let record = oracle::record(&state);
+            let answer = yes_or_no(records.contains(&record[0]));
+            let what = format!("starred example {at}");
+            assert_answer(&what, &book.bytes(), (*layer).into(), &record, answer);
+        }
+    }
+}
+
+/// Document 01's numbers of facts at which a record changes its length or its spare bits.
+const EDGES: [u16; 6] = [1, 7, 8, 9, 255, 256];
+
+#[test]
+fn candidates_of_another_length_are_refused_10() {
+    for atoms in EDGES {
+        let bytes = Book::new(atoms, 1).bytes();
+        let right = usize::from(atoms).div_ceil(8);
+        for length in (0..=right + 3).chain([2 * right, right + 256, 1_000, 65_536 + right]) {
+            let answer = match length == right {
+                true => yes_or_no(true),
+                false => expected::BAD_CANDIDATE,
+            };
+            let what = format!("{atoms} facts, {length} bytes");
+            assert_answer(&what, &bytes, 0, &vec![0; length], answer);
+        }
+    }
+}
+
+/// The low half of a longer length must not be enough.
+#[test]
+fn candidate_of_more_than_4_gib_is_refused_10() {
+    let bytes = Book::new(9, 1).bytes();
+    let candidate = vec![0; (1 << 32) + 2];
+    assert_eq!(ffi::test_in_place(&bytes, 0, &candidate), 10);
+}
+
+#[test]
+fn candidates_with_a_spare_bit_set_are_refused_10_and_no_others() {
+    for atoms in EDGES {
+        let bytes = Book::new(atoms, 1).bytes();
+        let right = usize::from(atoms).div_ceil(8);
+        for bit in 0..8 * right {
+            let mut candidate = vec![0; right];
+            candidate[bit / 8] |= 0x80 >> (bit % 8);
+            let answer = match bit < usize::from(atoms) {
+                true => yes_or_no(false),
+                false => expected::BAD_CANDIDATE,
+            };
+            let what = format!("{atoms} facts, bit {bit}");
+            assert_answer(&what, &bytes, 0, &candidate, answer);
+            // With all facts standing beside it.
+            for atom in 0..usize::from(atoms) {
+                candidate[atom / 8] |= 0x80 >> (atom % 8);
+            }
+            let answer = if bit < usize::from(atoms) { 0 } else { 10 };
+            assert_answer(&what, &bytes, 0, &candidate, answer);
+        }
+    }
+}
+
+#[test]
+fn each_fact_of_a_candidate_counts() {
+    for atoms in EDGES {
+        let none = Book::new(atoms, 1);
+        let mut all = none.clone();
+        for atom in 0..atoms {
+            all = all.rule(0, plain(atom), &[]);
+        }
+        let state = |book: &Book, flipped: Option<u16>| {
+            let stands = !book.rules.is_empty();
+            let state: Vec<bool> = (0..atoms)
+                .map(|atom| stands != (flipped == Some(atom)))
+                .collect();
+            oracle::record(&state)
+        };
+        for book in [none, all] {
+            let bytes = book.bytes();
+            let what = format!("{atoms} facts, {} rules", book.rules.len());
+            assert_answer(&what, &bytes, 0, &state(&book, None), yes_or_no(true));
+            for atom in 0..atoms {
+                let flipped = state(&book, Some(atom));
+                assert_answer(&what, &bytes, 0, &flipped, yes_or_no(false));
+            }
+        }
+    }
+}
+
+#[test]
+fn layers_of_the_book_are_driven_and_all_others_are_refused_9() {
+    for layers in [1, 2, 4, 31, 32] {
+        let mut book = Book::new(5, layers);
+        // In each layer another state is stable.
+        for layer in 0..layers {
+            for atom in (0..5).filter(|atom| layer >> atom & 1 == 1) {
+                book = book.rule(layer, plain(atom), &[]);
+            }
+        }
+        let bytes = book.bytes();
+        for layer in 0..layers {
+            let own: Vec<bool> = (0..5).map(|atom| layer >> atom & 1 == 1).collect();
+            let other: Vec<bool> = own.iter().map(|stands| !stands).collect();
+            for (state, answer) in [(own, yes_or_no(true)), (other, yes_or_no(false))] {
+                let record = oracle::record(&state);
+                assert_answer("a layer", &bytes, layer.into(), &record, answer);
+            }
+        }
+        for layer in [layers.into(), u32::from(layers) + 1]
+            .into_iter()
+            .chain(NO_LAYERS)
+            .filter(|&layer| layer >= layers.into())
+        {
+            assert_answer("no layer", &bytes, layer, &[0], 9);
+        }
+    }
+}
+
+/// A driven layer, and a candidate for a book of so many facts: fitting ones half of the time.
+fn any_call(rng: &mut Rng, atoms: usize, layers: usize) -> (u32, Vec<u8>) {
+    let layer = match rng.chance(70) {
+        true => rng.below(layers.max(1)) as u32,
+        false => rng
+            .pick(&NO_LAYERS)
+            .min(layers as u32 + rng.below(3) as u32),
+    };
+    let mut candidate: Vec<u8> = (0..atoms.div_ceil(8)).map(|_| rng.byte()).collect();
+    let spare = candidate.len() * 8 - atoms;
+    if let Some(last) = candidate.last_mut() {
+        *last &= 0xFF << spare;
+        if rng.chance(15) {
+            *last |= rng.byte();
+        }
+    }
+    match rng.below(10) {
+        0 => candidate.push(0),
+        1 => drop(candidate.pop()),
+        _ => (),
+    }
+    (layer, candidate)
+}
+
+#[test]
+fn any_bytes_are_answered_as_by_reader_and_oracle() {
+    let seed = seed();
+    let mut rng = Rng::named(seed, "any call");
+    let mut tally = [0; 12];
+    let mut books = 0;
+    for (shape, generate) in shapes::EVERY_SHAPE {
+        let number = match shape.starts_with("large") {
+            true => 100,
+            false => 3_000,
+        };
+        for index in 0..number {
+            let bytes = generate(&mut rng);
+            // A damaged book's fields are what a host would go by.
+            let field = |at: usize| usize::from(bytes.get(at).copied().unwrap_or(1));
+            let (layer, candidate) = any_call(&mut rng, field(5) % 2 * 256 + field(6), field(7));
+            let what = format!("seed {seed}, {shape}, book {index}");
+            let answer = agree(&what, &bytes, layer, &candidate);
+            tally[if answer == yes_or_no(true) {
+                11
+            } else {
+                answer as usize
+            }] += 1;
+        }
+        books += number;
+    }
+    println!("seed {seed}, any call: {books} books, answers 0 (no) to 10, and yes: {tally:?}");
+    for (answer, &times) in tally.iter().enumerate() {
+        assert!(times >= 100, "{answer} is rare: {tally:?}");
+    }
+}
+
+/// Bit c - 1 of `causes` for cause c, 9 and 10 among them.
+#[test]
+fn of_several_causes_the_smallest_is_given() {
+    let seed = seed();
+    let mut rng = Rng::named(seed, "test, smallest cause");
+    for causes in 1..1024u32 {
+        let smallest = u64::from(causes.trailing_zeros()) + 1;
+        for _ in 0..10 {
+            let bytes = shapes::with_causes(&mut rng, causes as u8);
+            let what = format!("seed {seed}, causes {causes:010b}");
+            let atoms = reader::read(&bytes).map_or(3, |book| book.atoms);
+            let right = usize::from(atoms).div_ceil(8);
+            let layer = match causes >> 8 & 1 {
+                0 => 0,
+                _ => rng.pick(&NO_LAYERS),
+            };
+            let candidate = match (causes >> 9 & 1, atoms % 8) {
+                (0, _) => vec![0; right],
+                (_, 0) => vec![0; right + 1],
+                _ => rng.pick(&[&[][..], &[0xFF], &[0; 9]]).to_vec(),
+            };
+            assert_answer(&what, &bytes, layer, &candidate, smallest);
+        }
+    }
+}
+
+#[test]
+fn large_books_are_answered_as_by_the_oracle_and_by_plain_rust() {
+    let seed = seed();
+    let mut rng = Rng::named(seed, "planted");
+    let number = 150;
+    let mut others = 0;
+    for index in 0..number {
+        let planted = shapes::planted(&mut rng);
+        let bytes = planted.book.bytes();
+        let what = format!("seed {seed}, planted book {index}");
+        let layer = planted.layer.into();
+        let record = oracle::record(&planted.state);
+        assert_answer(&what, &bytes, layer, &record, yes_or_no(true));
+        for _ in 0..20 {
+            let mut state = planted.state.clone();
+            for _ in 0..rng.range(1, 2) {
+                let atom = rng.below(state.len());
+                state[atom] = !state[atom];
+            }
+            let record = oracle::record(&state);
+            let engine = ffi::test(&bytes, layer, &record);
+            let plain = plain_rust::test(&bytes, layer, &record);
+            assert!(
+                engine == plain,
+                "{what}, layer {layer}, candidate {}: engine {engine:#X}, plain Rust {plain:#X}\n{}",
+                hex(&record),
+                hex(&bytes)
+            );
+            others += 1;
+        }
+        let other = rng.below(planted.book.layers.into()) as u32;
+        agree(&what, &bytes, other, &record);
+    }
+    println!("seed {seed}, planted: {number} books, {others} states beside the planted ones");
+}
+
+#[test]
+fn largest_lawful_books_are_answered_as_by_the_oracle() {
+    let seed = seed();
+    let mut rng = Rng::named(seed, "planted largest");
+    for _ in 0..10 {
+        let planted = shapes::planted_largest(&mut rng);
+        let bytes = planted.book.bytes();
+        assert_eq!(bytes.len(), 38_372);
+        let what = format!("seed {seed}, largest");
+        let record = oracle::record(&planted.state);
+        let layer = planted.layer.into();
+        assert_answer(&what, &bytes, layer, &record, yes_or_no(true));
+        for atom in [0, 127, 128, 255] {
+            let mut state = planted.state.clone();
+            state[atom] = !state[atom];
+            agree(&what, &bytes, layer, &oracle::record(&state));
+        }
+    }
+}
+
+/// The last of 1,024 rules, and the last of 16 literals, decide.
+#[test]
+fn no_rule_and_no_literal_is_left_out() {
+    for number in [1, 255, 256, 257, 511, 512, 513, 1_023, 1_024] {
+        let mut book = Book::new(2, 1);
+        for _ in 1..number {
+            book = book.rule(0, plain(P), &[plain(P)]);
+        }
+        let bytes = book.rule(0, plain(Q), &[]).bytes();
+        let what = format!("{number} rules");
+        assert_answer(&what, &bytes, 0, &[0x40], yes_or_no(true));
+        assert_answer(&what, &bytes, 0, &[0x00], yes_or_no(false));
+    }
+    for length in 1..=16 {
+        for literal in [plain(P), not(Q)] {
+            // The body holds but for its last literal.
+            let mut body = vec![literal.opposite(); length - 1];
+            body.push(literal);
+            let book = Book::new(3, 1);
+            let book = match literal.negated {
+                false => book,
+                true => book.rule(0, plain(Q), &[]),
+            };
+            let bytes = book.rule(0, plain(2), &body).bytes();
+            let without = if literal.negated { 0x40 } else { 0x00 };
+            let what = format!("{length} literals");
+            assert_answer(&what, &bytes, 0, &[without], yes_or_no(true));
+            assert_answer(&what, &bytes, 0, &[without | 0x20], yes_or_no(false));
+        }
+    }
+}
+
+/// 255 passes before nothing is added.
+#[test]
+fn rules_in_the_worst_order_are_filled_to_the_end() {
+    let worst = shapes::worst_order();
+    let bytes = worst.book.bytes();
+    let record = oracle::record(&worst.state);
+    assert_answer("all but the last", &bytes, 0, &record, yes_or_no(true));
+    for atom in [0, 1, 100, 253, 254, 255] {
+        let mut state = worst.state.clone();
+        state[atom] = !state[atom];
+        let record = oracle::record(&state);
+        assert_answer("one flipped", &bytes, 0, &record, yes_or_no(false));
+    }
+}
+
+/// 128 choices between two: no number of branching facts is too large for this call.
+#[test]
+fn candidates_are_tested_at_any_g() {
+    let mut rng = Rng::named(seed(), "any g");
+    for choices in [10, 11, 64, 128] {
+        let mut book = Book::new(2 * choices, 1);
+        for at in 0..choices {
+            let (f, h) = (2 * at, 2 * at + 1);
+            book = book
+                .rule(0, plain(f), &[not(h)])
+                .rule(0, plain(h), &[not(f)]);
+        }
+        let bytes = book.bytes();
+        assert_eq!(
+            Driven::new(&book, 0).branching_count(),
+            2 * usize::from(choices)
+        );
+        for _ in 0..10 {
+            let firsts: Vec<bool> = (0..choices).map(|_| rng.chance(50)).collect();
+            let mut state: Vec<bool> = firsts.iter().flat_map(|&first| [first, !first]).collect();
+            let record = oracle::record(&state);
+            assert_answer("choices", &bytes, 0, &record, yes_or_no(true));
+            let atom = rng.below(state.len());
+            state[atom] = !state[atom];
+            let record = oracle::record(&state);
+            assert_answer("both or none", &bytes, 0, &record, yes_or_no(false));
+        }
+    }
+}
+
+/// 32 layers in a line, each of which says the opposite of the one before: the driven one decides.
+#[test]
+fn each_of_32_layers_displaces_those_before_it() {
+    for rising in [true, false] {
+        let layer_at = |place: u8| if rising { place } else { 31 - place };
+        let mut book = Book::new(1, 32);
+        for place in 0..32 {
+            let head = Literal {
+                atom: P,
+                negated: place % 2 == 1,
+            };
+            book = book.rule(layer_at(place), head, &[]);
+            if place > 0 {
+                book = book.arrow(layer_at(place - 1), layer_at(place));
+            }
+        }
+        let bytes = book.bytes();
+        for place in 0..32 {
+            let layer = layer_at(place).into();
+            let stands = place % 2 == 0;
+            assert_answer("stands", &bytes, layer, &[0x80], yes_or_no(stands));
+            assert_answer("does not", &bytes, layer, &[0x00], yes_or_no(!stands));
+        }
+    }
+}
+
+#[test]
+fn four_threads_on_one_book_get_the_same_answers() {
+    let planted = shapes::planted_largest(&mut Rng::named(seed(), "threads"));
+    let bytes = planted.book.bytes();
+    let layer = planted.layer.into();
+    let right = oracle::record(&planted.state);
+    thread::scope(|scope| {
+        for _ in 0..4 {
+            scope.spawn(|| {
+                for _ in 0..50 {
+                    let answer = ffi::test_in_place(&bytes, layer, &right);
+                    assert_eq!(answer, yes_or_no(true));
+                    assert_eq!(ffi::test_in_place(&bytes, 32, &right), 9);
+                    assert_eq!(ffi::test_in_place(&bytes, layer, &right[1..]), 10);
+                    assert_eq!(ffi::test_in_place(&shapes::B, 3, &[0x20]), yes_or_no(true));
+                    assert_eq!(ffi::test_in_place(&shapes::B, 3, &[0xA0]), yes_or_no(false));
+                }
+            });
+        }
+    });
+}
