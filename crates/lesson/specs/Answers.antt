@@ -1,9 +1,11 @@
 -- What the C host reads: how each call's answer becomes one 64-bit number. The low byte is 0 where the call is granted, and
 -- else the cause's number with every other bit 0; the bits above the low byte carry what the answer carries. Assumes nothing.
-use Prim.Native.Nat.{ℕ}
+use Prim.Native.Nat.{ℕ, _+_, _*_}
 use Rattle.book.specs.declared.Verdict.{Verdict}
 use Rattle.book.specs.declared.Verdict.the-variants.{Accepted, Refused}
 use Rattle.book.specs.Numbers.{numberOf}
+use Rattle.list_call.specs.declared.ListReply.{ListReply}
+use Rattle.list_call.specs.declared.ListReply.the-variants as list
 use Rattle.test_call.specs.declared.TestReply.{TestReply}
 use Rattle.test_call.specs.declared.TestReply.the-variants as reply
 
@@ -17,3 +19,8 @@ abbrev pub testAnswer : TestReply → ℕ
 testAnswer reply.Stable = 65536
 testAnswer reply.NotStable = 0
 testAnswer (reply.Refused c) = numberOf c
+
+-- lesson_list: g in bits 8 to 15, k from bit 16 on
+abbrev pub listAnswer : ListReply → ℕ
+listAnswer (list.Listed k g) = k * 65536 + g * 256
+listAnswer (list.Refused c) = numberOf c

@@ -3,10 +3,13 @@
 ghost use mathlib.Core.Path.{_≡_};
 ghost use Rattle.book.specs.Causes.{verdict};
 ghost use Rattle.test_call.specs.Reply.{testReply};
-ghost use Rattle.lesson.specs.Answers.{checkAnswer, testAnswer};
+ghost use Rattle.list_call.specs.Reply.{listReply, listBuffer};
+ghost use Rattle.lesson.specs.Answers.{checkAnswer, testAnswer, listAnswer};
 use book::Verdict;
 use book::cause_number;
 use book::check;
+use list_call::ListReply;
+use list_call::list;
 use test_call::TestReply;
 use test_call::test;
 
@@ -43,4 +46,18 @@ pub extern "C" fn lesson_test(book: &[u8], layer: u32, candidate: &[u8]) -> u64
     ensures { λ r. ⌜ r ≡ testAnswer (testReply (now (book .entry)) layer (now (candidate .entry))) ⌝ }
 {
     test_number(test(book, layer, candidate))
+}
+
+// Writes the listing of a book at a layer into the buffer, or names the first of causes 1 to 9, 12 and 13 that applies and leaves
+// every byte. The answer carries k and g.
+#[no_mangle]
+pub extern "C" fn lesson_list(book: &[u8], layer: u32, buffer: &mut [u8]) -> u64
+    ensures answer { λ r. ⌜ r ≡ listAnswer (listReply (now (book .entry)) layer (now (buffer .entry))) ⌝ }
+    ensures bytes { λ _. ⌜ now (buffer .exit) ≡ listBuffer (now (book .entry)) layer (now (buffer .entry)) ⌝ }
+{
+    let reply = list(book, layer, buffer);
+    match reply {
+        ListReply::Listed(k, g) => (k as u64) * 65536 + (g as u64) * 256,
+        ListReply::Refused(c) => cause_number(c),
+    }
 }

@@ -18,7 +18,7 @@ use Rattle.insertion.proofs.SortedLaws.{insertAll-keeps-up, insertAll-length, i
 use Rattle.insertion.proofs.Once.{Once, insertAll-once}
 use Rattle.models.specs.StableModels.{Interpretation}
 use Rattle.models.specs.Listing.{recordSize, recordOf, interpretations}
-use Rattle.models.proofs.InterpretationLaws.{_⊏_, listed}
+use Rattle.models.proofs.InterpretationLaws.{_⊏_, asym, listed}
 use Rattle.models.proofs.RecordLaws.{record-same, record-length}
 use Rattle.models.proofs.RecordOrder.{Less, packed-less}
 use Rattle.records.specs.Written.{before, sorted}
@@ -60,6 +60,23 @@ rise n x y l k d h = go (total (recordOf n x) (recordOf n y) (record-length n x 
     go : (bytesBefore (recordOf n x) (recordOf n y) ≡ true) ⊎ (recordOf n x ≡ recordOf n y) → x ⊏ y
     go (inl q) = packed-less (recordSize n) x y (l ∙ sym k) (less-true (recordOf n x) (recordOf n y) (record-length n x ∙ sym (record-length n y)) q)
     go (inr q) = absurd (d (record-same n x y l k q))
+
+-- and the other way round: a state that comes before another has the smaller record
+pub record-rises : (n : ℕ) (x y : Interpretation) → length x ≡ n → length y ≡ n → x ⊏ y → before n x y ≡ true
+unfolding recordOf
+record-rises n x y l k r = go (before n y x) refl
+  where
+    never : x ≡ y → ⊥
+    never e = let z : x ⊏ x = subst (λ (o : Interpretation). x ⊏ o) (sym e) r in asym x x z z
+
+    last : (bytesBefore (recordOf n x) (recordOf n y) ≡ true) ⊎ (recordOf n x ≡ recordOf n y) → before n x y ≡ true
+    last (inl q) = q
+    last (inr q) = absurd (never (record-same n x y l k q))
+
+    go : (c : Bool) → before n y x ≡ c → before n x y ≡ true
+    go false e = last (total (recordOf n x) (recordOf n y) (record-length n x ∙ sym (record-length n y)) e)
+    go true e =
+        absurd (asym x y r (packed-less (recordSize n) y x (k ∙ sym l) (less-true (recordOf n y) (recordOf n x) (record-length n y ∙ sym (record-length n x)) e)))
 
 -- by their records weakly, and none twice: as states strictly
 up-rising : (n : ℕ) (ms : List Interpretation) → ((m : Interpretation) → m ∈ ms → length m ≡ n) → Up (before n) ms → Once ms → Rising _⊏_ ms

@@ -1,24 +1,21 @@
--- The whole listing in a lent buffer: its size, the buffer without room, the part that is lent for the records, and the buffer
--- once they and the head are written. The listing call cites it, for whatever states were found. Assumes nothing.
-use mathlib.Core.Path.{_≡_, refl, sym, ap, ap₂, _∙_}
+-- The listing in a lent buffer: the part that is lent for the records, and the buffer once they and the head are written. The
+-- listing call cites it. Assumes nothing.
+use mathlib.Core.Path.{_≡_, refl, sym, ap, _∙_}
 use mathlib.Core.List.{List, [], _∷_, _++_, map}
-use Prim.Native.Nat.{ℕ, _+_, _-_, _*_, _^_, _≤_, _<_}
+use Prim.Native.Nat.{ℕ, _+_, _-_, _*_, _^_, _≤_}
 use native.Mathlib.Nat.{mul-le-mul}
 use native.Mathlib.Omega.{arith}
-use borrow.Author.Tests.{lt-ltb, le-ltb}
 use borrow.Rule.Slice.PartMut.{putMid}
-use lib.ListN.{length, take, drop, length-drop, length-map, take-append-drop}
+use lib.ListN.{length, take, drop, length-map, take-append-drop}
 use lib.Seq.{drop-drop, drop-at, length-take-le}
 use Rattle.base.specs.Bounds.{maxAtoms, maxBranching}
 use Rattle.base.specs.Lists.{flat}
 use Rattle.insertion.specs.Runs.{bytesBefore}
 use Rattle.insertion.proofs.SortedLaws.{insertAll-map}
-use Rattle.insertion.proofs.RunLaws.{mult-zero, held-none}
+use Rattle.insertion.proofs.RunLaws.{held-none}
 use Rattle.models.specs.StableModels.{Interpretation}
 use Rattle.models.specs.Listing.{recordSize, recordOf, be16, be32, listingOf}
-use Rattle.models.proofs.RecordLaws.{listing-length}
-use Rattle.records.specs.Written.{RoomFor, AddedFor, sorted, written}
-use Rattle.records.proofs.OrderLaws.{sorted-length}
+use Rattle.records.specs.Written.{AddedFor, sorted}
 
 -- as many records as a search may find take 32 megabytes at most
 pub records-fit : (n k w : ℕ) → n ≤ maxAtoms → k ≤ 2 ^ maxBranching → w ≡ recordSize n → k * w ≤ 33554432
@@ -26,7 +23,7 @@ unfolding recordSize
 records-fit n k w h b e = let q : w ≤ 32 = omega arith in omega (arith, mul-le-mul b q)
 
 -- when as many records are added as it had room for, they are the part
-full : (n : ℕ) (ms : List Interpretation) (hi₀ : ℕ) (part₀ : List ℕ) (lo hi : ℕ) (part : List ℕ) → hi₀ ≡ length ms * recordSize n → length part₀ ≤ hi₀
+pub full : (n : ℕ) (ms : List Interpretation) (hi₀ : ℕ) (part₀ : List ℕ) (lo hi : ℕ) (part : List ℕ) → hi₀ ≡ length ms * recordSize n → length part₀ ≤ hi₀
     → AddedFor n ms 0 hi₀ part₀ lo hi part → part ≡ flat (map (recordOf n) (sorted n ms))
 unfolding sorted
 full n ms hi₀ part₀ lo hi part e h a =
@@ -47,34 +44,9 @@ behind-head size old part h b =
     drop-at (take 11 old) (part ++ drop (size - 11) (drop 11 old)) 11 (length-take-le 11 old (omega arith))
     ∙ ap (λ (x : List ℕ). part ++ x) (drop-drop (size - 11) 11 old ∙ ap (λ (x : ℕ). drop x old) z)
 
--- k states of n facts were found, and their listing has `size` bytes
-module _ (n : ℕ) (ms : List Interpretation) (k w size : ℕ) (counted : k ≡ length ms) (width : w ≡ recordSize n) (sized : size ≡ 11 + k * w) where
-  bytes : k * w ≡ length ms * recordSize n
-  bytes = ap₂ (λ (x y : ℕ). x * y) counted width
-
-  bytes-sorted : size ≡ 11 + length (sorted n ms) * recordSize n
-  bytes-sorted = sized ∙ ap (λ (x : ℕ). 11 + x) (bytes ∙ ap (λ (x : ℕ). x * recordSize n) (sym (sorted-length n ms)))
-
-  pub listing-size : length (listingOf n (sorted n ms)) ≡ size
-  listing-size = listing-length n (sorted n ms) ∙ sym bytes-sorted
-
-  module _ (old : List ℕ) where
-    pub no-room : length old < size → old ≡ written (listingOf n (sorted n ms)) old
-    unfolding written
-    no-room h = rw (lt-ltb (length old) (length (listingOf n (sorted n ms))) (omega (arith, listing-size))) refl
-
-    module _ (h : size ≤ length old) where
-      lent : length (take (size - 11) (drop 11 old)) ≡ k * w
-      lent = length-take-le (size - 11) (drop 11 old) (omega (arith, length-drop 11 old)) ∙ omega arith
-
-      pub room-start : RoomFor n ms 0 (k * w) (take (size - 11) (drop 11 old))
-      room-start = record { fits = omega (arith, lent); whole = mult-zero (recordSize n); room = omega (arith, bytes) }
-
-      pub all-written : (lo hi : ℕ) (part buf : List ℕ) → AddedFor n ms 0 (k * w) (take (size - 11) (drop 11 old)) lo hi part
-          → buf ≡ 1 ∷ (be32 size ++ (be16 n ++ (be32 k ++ drop 11 (putMid 11 (size - 11) old part)))) → buf ≡ written (listingOf n (sorted n ms)) old
-      unfolding written
-      all-written lo hi part buf a q =
-          let f : part ≡ flat (map (recordOf n) (sorted n ms)) = full n ms (k * w) (take (size - 11) (drop 11 old)) lo hi part bytes (omega (arith, lent)) a in
-          rw (le-ltb (length old) (length (listingOf n (sorted n ms))) (omega (arith, listing-size)), listing-size)
-          (q ∙ ap (λ (x : List ℕ). 1 ∷ (be32 size ++ (be16 n ++ (be32 k ++ x)))) (behind-head size old part (omega arith) h ∙ ap (λ (x : List ℕ). x ++ drop size old) f)
-          ∙ head-and-records n (sorted n ms) k size (drop size old) (counted ∙ sym (sorted-length n ms)) bytes-sorted)
+-- the listing in front of what follows it, once its records and its head are written
+pub head-written : (n : ℕ) (ms : List Interpretation) (k size : ℕ) (old part buf : List ℕ) → k ≡ length ms → size ≡ 11 + length ms * recordSize n → size ≤ length old
+    → part ≡ flat (map (recordOf n) ms) → buf ≡ 1 ∷ (be32 size ++ (be16 n ++ (be32 k ++ drop 11 (putMid 11 (size - 11) old part)))) → buf ≡ listingOf n ms ++ drop size old
+head-written n ms k size old part buf e s h f q =
+    q ∙ ap (λ (x : List ℕ). 1 ∷ (be32 size ++ (be16 n ++ (be32 k ++ x)))) (behind-head size old part (omega arith) h ∙ ap (λ (x : List ℕ). x ++ drop size old) f)
+    ∙ head-and-records n ms k size (drop size old) e s

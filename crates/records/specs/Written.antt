@@ -1,10 +1,9 @@
--- States found in any order, and what is written of them: room for their records, their records added, the states in the
--- order of their records, and a listing in a lent buffer. Assumes nothing.
-use mathlib.Core.Bool.{Bool, cond}
-use mathlib.Core.List.{List, [], _++_, map}
+-- States found in any order, and what is written of them: room for their records, their records added, and the states in the
+-- order of their records. Assumes nothing.
+use mathlib.Core.Bool.{Bool}
+use mathlib.Core.List.{List, [], map}
 use Prim.Native.Nat.{ℕ, _+_, _*_, _≤_}
-use lib.Dec.{ltb}
-use lib.ListN.{length, drop}
+use lib.ListN.{length}
 use Rattle.insertion.specs.Sorted.{insertAll}
 use Rattle.insertion.specs.Runs.{bytesBefore, Mult, Added}
 use Rattle.models.specs.StableModels.{Interpretation}
@@ -27,7 +26,3 @@ before n a b = bytesBefore (recordOf n a) (recordOf n b)
 -- the states in the order of their records
 unfoldable pub sorted : ℕ → List Interpretation → List Interpretation
 sorted n ms = insertAll (before n) ms []
-
--- the listing in front of what follows it or, where there is no room, the buffer as it was
-unfoldable pub written : List ℕ → List ℕ → List ℕ
-written l old = cond (ltb (length old) (length l)) old (l ++ drop (length l) old)

@@ -1,0 +1,141 @@
+-- The listing call, step by step: the size of the listing, each refusal, and the buffer once all is written. Assumes nothing.
+use mathlib.Core.Path.{_≡_, refl, sym, ap, ap₂, subst, _∙_}
+use mathlib.Core.List.{List, _∷_, _++_, map}
+use Prim.Native.Nat.{ℕ, _+_, _-_, _*_, _^_, _<_, _≤_}
+use native.Mathlib.Nat.{pow-le-pow-right}
+use native.Mathlib.Omega.{arith}
+use borrow.Author.Tests.{lt-ltb, le-ltb}
+use borrow.Rule.Slice.PartMut.{putMid}
+use lib.ListN.{length, take, drop, length-drop}
+use lib.Seq.{length-take-le}
+use Rattle.base.specs.Bounds.{maxAtoms, maxBranching}
+use Rattle.base.specs.Lists.{flat}
+use Rattle.format.specs.Book.{bookOf}
+use Rattle.book.specs.Causes.{verdictIf, firstOf}
+use Rattle.book.specs.declared.Cause.{Cause}
+use Rattle.book.specs.declared.Cause.the-variants.{TooManyBranching, BufferTooShort}
+use Rattle.book.specs.declared.Verdict.{Verdict}
+use Rattle.book.specs.declared.Verdict.the-variants.{Accepted, Refused}
+use Rattle.models.specs.Program.{Program, programAt}
+use Rattle.models.specs.Branching.{branchingCount}
+use Rattle.models.specs.Listing.{stableModels, recordSize, recordOf, be16, be32, listingOf, listing}
+use Rattle.models.proofs.RecordLaws.{listing-length}
+use Rattle.table.specs.Table.{programOf, TableMade}
+use Rattle.table.proofs.TableLaws.{lent-table}
+use Rattle.accepted.specs.Accepted.{IsAccepted}
+use Rattle.accepted.specs.Driven.{layerTests}
+use Rattle.accepted.proofs.RecordFacts.{accepted-formed}
+use Rattle.accepted.proofs.FirstLaws.{first-append, first-refused}
+use Rattle.branching.specs.Marks.{Listed}
+use Rattle.records.proofs.WrittenLaws.{records-fit, head-written}
+use Rattle.search.specs.declared.Goal.the-variants.{All}
+use Rattle.search.specs.Searchable.{Searchable}
+use Rattle.passes.specs.Limit.{hasTooManyBranching}
+use Rattle.passes.specs.Tallied.{Tallied}
+use Rattle.passes.proofs.PassLaws.{models-le, tallied-all}
+use Rattle.list_call.specs.declared.ListReply.{ListReply}
+use Rattle.list_call.specs.declared.ListReply.the-variants as reply
+use Rattle.list_call.specs.Reply.{roomTests, searchTests, listTests, replyOf, bufferOf, listReply, listBuffer, Answers}
+
+-- ---- counting and writing
+module _ {book rows overridden atoms : List ℕ} {layer n : ℕ} (w : Searchable book rows overridden atoms layer n) (few : length atoms ≤ maxBranching) where
+  abbrev P : Program
+  P = programOf book layer
+
+  atoms-few : P .atoms ≤ maxAtoms
+  atoms-few = subst (λ (k : ℕ). k ≤ maxAtoms) (w .size) (w .few)
+
+  g-is : length atoms ≡ branchingCount P
+  unfolding branchingCount
+  g-is = ap length (w .listed)
+
+  module _ {k standing : ℕ} (t : Tallied P All 0 k standing) where
+    k-is : k ≡ length (stableModels P)
+    k-is = tallied-all P (w .formed) atoms-few 0 k standing t
+
+    k-le : k ≤ 2 ^ maxBranching
+    k-le = omega (arith, k-is, models-le P (w .formed) atoms-few, pow-le-pow-right {n = 2} (omega arith) (subst (λ (x : ℕ). x ≤ maxBranching) g-is few))
+
+    module _ (width : ℕ) (e : width ≡ recordSize n) where
+      pub bytes-fit : k * width ≤ 33554432
+      bytes-fit = records-fit n k width (w .few) k-le e
+
+      bytes-are : k * width ≡ length (stableModels P) * recordSize n
+      bytes-are = ap₂ (λ (x y : ℕ). x * y) k-is e
+
+      size-is : 11 + k * width ≡ length (listing P)
+      unfolding listing
+      size-is =
+          ap (λ (x : ℕ). 11 + x) (bytes-are ∙ ap (λ (x : ℕ). length (stableModels P) * recordSize x) (w .size))
+          ∙ sym (listing-length (P .atoms) (stableModels P))
+
+      module _ (old : List ℕ) where
+        pub room-refused : length old < 11 + k * width → Answers (firstOf (roomTests P (length old))) P old (reply.Refused BufferTooShort) old
+        unfolding firstOf verdictIf roomTests replyOf bufferOf
+        room-refused h =
+            let e : firstOf (roomTests P (length old)) ≡ Refused BufferTooShort = rw (lt-ltb (length old) (length (listing P)) (omega (arith, size-is))) refl in
+            record { reply-is = rw e refl; buffer-is = rw e refl }
+
+        module _ (h : 11 + k * width ≤ length old) where
+          pub part-sized : length (take (11 + k * width - 11) (drop 11 old)) ≡ length (stableModels P) * recordSize n
+          part-sized = length-take-le (11 + k * width - 11) (drop 11 old) (omega (arith, length-drop 11 old)) ∙ omega (arith, bytes-are)
+
+          pub room-listed : (part buf : List ℕ) → part ≡ flat (map (recordOf n) (stableModels P))
+              → buf ≡ 1 ∷ (be32 (11 + k * width) ++ (be16 n ++ (be32 k ++ drop 11 (putMid 11 (11 + k * width - 11) old part))))
+              → Answers (firstOf (roomTests P (length old))) P old (reply.Listed k (length atoms)) buf
+          unfolding firstOf verdictIf roomTests replyOf bufferOf listing
+          room-listed part buf f q =
+              let v : firstOf (roomTests P (length old)) ≡ Accepted = rw (le-ltb (length old) (length (listing P)) (omega (arith, size-is))) refl in
+              record {
+                reply-is = rw v (ap₂ reply.Listed k-is g-is);
+                buffer-is =
+                    rw v (head-written n (stableModels P) k (11 + k * width) old part buf k-is (ap (λ (x : ℕ). 11 + x) bytes-are) h f q
+                    ∙ ap₂ (λ (x y : ℕ). listingOf x (stableModels P) ++ drop y old) (w .size) size-is);
+              }
+
+-- ---- the layer's table and branching facts
+minus-zero : (n : ℕ) → n - 0 ≡ n
+minus-zero n = omega arith
+
+module _ (book : List ℕ) (layer : ℕ) (ok : IsAccepted book) {rows overridden : List ℕ} {count : ℕ} (made : TableMade (programOf book layer) book rows overridden count)
+    {atoms : List ℕ} {g : ℕ} (l : Listed (programOf book layer) atoms g) where
+  pub searchable : (n : ℕ) → n ≡ bookOf book .atoms → 0 < n → n ≤ maxAtoms → Searchable book (take (4 * count - 0) rows) (take (count - 0) overridden) (take (g - 0) atoms) layer n
+  unfolding programAt
+  searchable n e p b = record {
+    formed = accepted-formed book ok layer;
+    table = lent-table made;
+    listed = ap (λ (k : ℕ). take k atoms) (minus-zero g) ∙ l .atoms-are;
+    size = e;
+    some = p;
+    few = b;
+  }
+
+  pub atoms-lent : g ≤ 20 → length (take (g - 0) atoms) ≤ maxBranching
+  atoms-lent h = omega (arith, length-take-le (g - 0) atoms (omega (arith, l .few, l .size)))
+
+  module _ (old : List ℕ) where
+    pub branching-refused : 20 < g → Answers (firstOf (searchTests (programOf book layer) (length old))) (programOf book layer) old (reply.Refused TooManyBranching) old
+    unfolding firstOf verdictIf searchTests hasTooManyBranching replyOf bufferOf
+    branching-refused h =
+        let e : firstOf (searchTests (programOf book layer) (length old)) ≡ Refused TooManyBranching = rw (lt-ltb maxBranching (branchingCount (programOf book layer)) (omega (arith, l .count-is))) refl in
+        record { reply-is = rw e refl; buffer-is = rw e refl }
+
+    pub branching-passes : g ≤ 20 → (r : ListReply) (new : List ℕ) → Answers (firstOf (roomTests (programOf book layer) (length old))) (programOf book layer) old r new
+        → Answers (firstOf (searchTests (programOf book layer) (length old))) (programOf book layer) old r new
+    unfolding firstOf verdictIf searchTests hasTooManyBranching
+    branching-passes h r new a = rw (le-ltb maxBranching (branchingCount (programOf book layer)) (omega (arith, l .count-is))) a
+
+-- ---- the call
+module _ (book : List ℕ) (layer : ℕ) (old : List ℕ) (v : Verdict) (e : v ≡ firstOf (layerTests book layer)) where
+  pub call-refused : (c : Cause) → v ≡ Refused c → (reply.Refused c ≡ listReply book layer old) × (old ≡ listBuffer book layer old)
+  unfolding listReply listBuffer listTests replyOf bufferOf
+  call-refused c q =
+      let z : firstOf (layerTests book layer ++ searchTests (programOf book layer) (length old)) ≡ Refused c = first-refused (layerTests book layer) (searchTests (programOf book layer) (length old)) c (sym e ∙ q) in
+      (rw z refl, rw z refl)
+
+  pub call-answered : v ≡ Accepted → (r : ListReply) (new : List ℕ) → Answers (firstOf (searchTests (programOf book layer) (length old))) (programOf book layer) old r new
+      → (r ≡ listReply book layer old) × (new ≡ listBuffer book layer old)
+  unfolding listReply listBuffer listTests
+  call-answered q r new a =
+      let z : firstOf (layerTests book layer ++ searchTests (programOf book layer) (length old)) ≡ firstOf (searchTests (programOf book layer) (length old)) = first-append (layerTests book layer) (searchTests (programOf book layer) (length old)) (sym e ∙ q) in
+      (rw z (a .reply-is), rw z (a .buffer-is))

@@ -1,0 +1,116 @@
+-- `list_at` meets its contract: the table and the branching facts make the search possible; with more than 20 it is refused.
+-- Assumes nothing.
+use Rattle.models.specs.Program.{programAt}
+use Rattle.table.proofs.TableLaws.{lent-table}
+use Rattle.list_call.proofs.ListLaws.{searchable, atoms-lent, branching-refused, branching-passes}
+use borrow.Author.Needs.{needs}
+use Rattle.list_call.proofs.list_at.Statement.{statement}
+use Rattle.list_call.proofs.list_at.Tie as tie
+use Rattle.list_call.proofs.list_at.Reads as reads
+use Rattle.list_call.proofs.list_at.Lts as lts
+use Rattle.accepted.proofs.atom_count.Reads as atom-count-reads
+use Rattle.accepted.proofs.prepare.Reads as prepare-reads
+use Rattle.branching.proofs.branching_atoms.Reads as branching-atoms-reads
+use Rattle.list_call.proofs.list_models.Reads as list-models-reads
+
+atom-count-requires : tie.Need-atom-count-requires
+atom-count-requires c κs = search needs
+
+prepare-requires : tie.Need-prepare-requires
+prepare-requires c κs = search needs
+
+mul-branching-atoms : tie.Need-mul-branching-atoms
+mul-branching-atoms c = search needs
+
+sub-branching-atoms : tie.Need-sub-branching-atoms
+sub-branching-atoms c = search needs
+
+part-branching-atoms-start : tie.Need-part-branching-atoms-start
+part-branching-atoms-start c = search needs
+
+part-branching-atoms-end : tie.Need-part-branching-atoms-end
+part-branching-atoms-end c = search needs
+
+sub-branching-atoms-2 : tie.Need-sub-branching-atoms-2
+sub-branching-atoms-2 c = search needs
+
+part-branching-atoms-start-2 : tie.Need-part-branching-atoms-start-2
+part-branching-atoms-start-2 c = search needs
+
+part-branching-atoms-end-2 : tie.Need-part-branching-atoms-end-2
+part-branching-atoms-end-2 c = search needs
+
+branching-atoms-requires : tie.Need-branching-atoms-requires
+unfolding programAt
+branching-atoms-requires c κs = (lent-table (c .before .before .before .before .before .before .prepare .ensures), (c .before .before .before .before .before .before .before .atom-count .ensures .0, c .before .before .before .before .before .before .before .atom-count .ensures .2))
+
+returns : tie.Need-returns
+returns c = branching-refused (c .before .before .before .before .before .before .before .before .before .before .before .before .before .args .book .now) (c .before .before .before .before .before .before .before .before .before .before .before .before .before .args .layer) (c .before .before .before .before .before .before .before .before .before .before .before .before .before .pre .0) (c .before .before .before .before .before .before .before .before .before .prepare .ensures) (c .before .before .branching-atoms .ensures) (c .before .before .before .before .before .before .before .before .before .before .before .before .before .args .buffer .now) (c .if1 .taken)
+
+mul-list-models : tie.Need-mul-list-models
+mul-list-models c = search needs
+
+sub-list-models : tie.Need-sub-list-models
+sub-list-models c = search needs
+
+part-list-models-start : tie.Need-part-list-models-start
+part-list-models-start c = search needs
+
+part-list-models-end : tie.Need-part-list-models-end
+part-list-models-end c = search needs
+
+sub-list-models-2 : tie.Need-sub-list-models-2
+sub-list-models-2 c = search needs
+
+part-list-models-start-2 : tie.Need-part-list-models-start-2
+part-list-models-start-2 c = search needs
+
+part-list-models-end-2 : tie.Need-part-list-models-end-2
+part-list-models-end-2 c = search needs
+
+sub-list-models-3 : tie.Need-sub-list-models-3
+sub-list-models-3 c = search needs
+
+part-list-models-start-3 : tie.Need-part-list-models-start-3
+part-list-models-start-3 c = search needs
+
+part-list-models-end-3 : tie.Need-part-list-models-end-3
+part-list-models-end-3 c = search needs
+
+list-models-requires : tie.Need-list-models-requires
+list-models-requires c κs = let s = c .before .before .before .before .before .before .before .before .before .before .before .before .before .before .before .before .before .before .before .before in let a = s .args in (searchable (a .book .now) (a .layer) (s .pre .0) (c .before .before .before .before .before .before .before .before .before .before .before .before .before .before .before .before .prepare .ensures) (c .before .before .before .before .before .before .before .before .before .branching-atoms .ensures) (c .before .before .before .before .before .before .before .before .before .before .before .before .before .before .before .before .before .atom-count .result) (c .before .before .before .before .before .before .before .before .before .before .before .before .before .before .before .before .before .atom-count .ensures .0) (c .before .before .before .before .before .before .before .before .before .before .before .before .before .before .before .before .before .atom-count .ensures .1) (c .before .before .before .before .before .before .before .before .before .before .before .before .before .before .before .before .before .atom-count .ensures .2), atoms-lent (a .book .now) (a .layer) (s .pre .0) (c .before .before .before .before .before .before .before .before .before .before .before .before .before .before .before .before .prepare .ensures) (c .before .before .before .before .before .before .before .before .before .branching-atoms .ensures) (c .before .before .before .before .before .before .before .if1 .left))
+
+same-length : tie.Need-same-length
+same-length c = search needs
+
+returns-2 : tie.Need-returns-2
+returns-2 c = let s = c .before .before .before .before .before .before .before .before .before .before .before .before .before .before .before .before .before .before .before .before .before .before .before in let a = s .args in branching-passes (a .book .now) (a .layer) (s .pre .0) (c .before .before .before .before .before .before .before .before .before .before .before .before .before .before .before .before .before .before .before .prepare .ensures) (c .before .before .before .before .before .before .before .before .before .before .before .before .branching-atoms .ensures) (a .buffer .now) (c .before .before .before .before .before .before .before .before .before .before .if1 .left) _ _ (c .before .before .list-models .ensures)
+
+pub list-at-spec : {M : Type 1} → statement M
+list-at-spec =
+    tie.close
+    (tie.spec
+    atom-count-requires
+    prepare-requires
+    mul-branching-atoms
+    sub-branching-atoms
+    part-branching-atoms-start
+    part-branching-atoms-end
+    sub-branching-atoms-2
+    part-branching-atoms-start-2
+    part-branching-atoms-end-2
+    branching-atoms-requires
+    returns
+    mul-list-models
+    sub-list-models
+    part-list-models-start
+    part-list-models-end
+    sub-list-models-2
+    part-list-models-start-2
+    part-list-models-end-2
+    sub-list-models-3
+    part-list-models-start-3
+    part-list-models-end-3
+    list-models-requires
+    same-length
+    returns-2)

@@ -1,0 +1,66 @@
+-- `list_models` meets its contract: the count gives the listing's size; where there is room, the part has just the room for the
+-- records, and the head goes in front of them. Assumes nothing.
+use Rattle.list_call.proofs.ListLaws.{bytes-fit, room-refused, part-sized, room-listed}
+use native.Mathlib.Omega.{arith}
+use borrow.Author.Needs.{needs}
+use Rattle.list_call.proofs.list_models.Statement.{statement}
+use Rattle.list_call.proofs.list_models.Tie as tie
+use Rattle.list_call.proofs.list_models.Reads as reads
+use Rattle.list_call.proofs.list_models.Lts as lts
+use Rattle.passes.proofs.tally.Reads as tally-reads
+use Rattle.passes.proofs.write_all.Reads as write-all-reads
+use Rattle.records.proofs.put_head.Reads as put-head-reads
+use Rattle.records.proofs.record_size.Reads as record-size-reads
+
+tally-requires : tie.Need-tally-requires
+tally-requires c κs = (c .before .before .before .before .before .pre .0, c .before .before .before .before .before .pre .1)
+
+record-size-requires : tie.Need-record-size-requires
+record-size-requires c κs = omega (arith, c .before .before .before .before .before .before .pre .0 .few)
+
+mul-size : tie.Need-mul-size
+mul-size c = record { fits = omega (arith, bytes-fit (c .before .before .before .before .before .before .before .pre .0) (c .before .before .before .before .before .before .before .pre .1) (c .before .tally .ensures) (c .record-size .result) (c .record-size .ensures .0)) }
+
+add-size : tie.Need-add-size
+add-size c = record { fits = omega (arith, bytes-fit (c .before .before .before .before .before .before .before .pre .0) (c .before .before .before .before .before .before .before .pre .1) (c .before .tally .ensures) (c .record-size .result) (c .record-size .ensures .0)) }
+
+returns : tie.Need-returns
+returns c = room-refused (c .before .before .before .before .before .before .before .before .pre .0) (c .before .before .before .before .before .before .before .before .pre .1) (c .before .before .tally .ensures) (c .before .record-size .result) (c .before .record-size .ensures .0) (c .before .before .before .before .before .before .before .before .args .buffer .now) (c .if1 .taken)
+
+sub-write-all : tie.Need-sub-write-all
+sub-write-all c = search needs
+
+part-write-all-start : tie.Need-part-write-all-start
+part-write-all-start c = search needs
+
+part-write-all-end : tie.Need-part-write-all-end
+part-write-all-end c = search needs
+
+write-all-requires : tie.Need-write-all-requires
+write-all-requires c κs = (c .before .before .before .before .before .before .before .before .before .pre .0, (c .before .before .before .before .before .before .before .before .before .pre .1, part-sized (c .before .before .before .before .before .before .before .before .before .pre .0) (c .before .before .before .before .before .before .before .before .before .pre .1) (c .before .before .before .tally .ensures) (c .before .before .record-size .result) (c .before .before .record-size .ensures .0) (c .before .before .before .before .before .before .before .before .before .args .buffer .now) (c .before .if1 .left)))
+
+put-head-requires : tie.Need-put-head-requires
+put-head-requires c κs = search needs
+
+same-length : tie.Need-same-length
+same-length c = search needs
+
+returns-2 : tie.Need-returns-2
+returns-2 c = room-listed (c .before .before .before .before .before .before .before .before .before .before .before .before .before .before .before .before .pre .0) (c .before .before .before .before .before .before .before .before .before .before .before .before .before .before .before .before .pre .1) (c .before .before .before .before .before .before .before .before .before .before .tally .ensures) (c .before .before .before .before .before .before .before .before .before .record-size .result) (c .before .before .before .before .before .before .before .before .before .record-size .ensures .0) (c .before .before .before .before .before .before .before .before .before .before .before .before .before .before .before .before .args .buffer .now) (c .before .before .before .before .before .before .before .before .if1 .left) _ _ (c .before .before .before .before .before .before .write-all .ensures) (c .before .before .put-head .ensures)
+
+pub list-models-spec : {M : Type 1} → statement M
+list-models-spec =
+    tie.close
+    (tie.spec
+    tally-requires
+    record-size-requires
+    mul-size
+    add-size
+    returns
+    sub-write-all
+    part-write-all-start
+    part-write-all-end
+    write-all-requires
+    put-head-requires
+    same-length
+    returns-2)

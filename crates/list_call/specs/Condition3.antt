@@ -1,0 +1,71 @@
+-- The buyer's third condition, over what the contract of the listing call promises. proofs/Condition3Laws.antt proves it.
+-- Assumes nothing.
+use mathlib.Core.Path.{_≡_}
+use mathlib.Core.Bool.{true}
+use mathlib.Core.Logic.{_↔_}
+use mathlib.Core.List.{List}
+use Prim.Native.Nat.{ℕ, _+_, _*_, _^_, _<_, _≤_}
+use lib.ListN.{take, drop}
+use Rattle.format.specs.Book.{u16At, u32At, bookOf}
+use Rattle.insertion.specs.Runs.{bytesBefore}
+use Rattle.models.specs.StableModels.{Interpretation, StableModel}
+use Rattle.models.specs.Branching.{branchingCount}
+use Rattle.models.specs.Listing.{recordSize, recordOf}
+use Rattle.table.specs.Table.{programOf}
+use Rattle.list_call.specs.declared.ListReply.the-variants.{Listed}
+use Rattle.list_call.specs.Reply.{listReply, listBuffer}
+
+-- a call: a book, a driven layer, and the bytes of the lent buffer before it
+pub record Call : Type 0 where
+  pub book : List ℕ
+  pub layer : ℕ
+  pub buffer : List ℕ
+
+-- the call is granted, and its answer carries k and g
+abbrev pub Granted : Call → ℕ → ℕ → Type 0
+Granted c k g = listReply (c .book) (c .layer) (c .buffer) ≡ Listed k g
+
+-- the bytes of the buffer after the call
+abbrev pub after : Call → List ℕ
+after c = listBuffer (c .book) (c .layer) (c .buffer)
+
+abbrev pub facts : Call → ℕ
+facts c = bookOf (c .book) .atoms
+
+-- "It is then the first bytes of the lent buffer: the 11 bytes of head and the k records."
+abbrev pub listed : Call → ℕ → List ℕ
+listed c k = take (11 + k * recordSize (facts c)) (after c)
+
+-- record i of the listing
+abbrev pub recordAt : Call → ℕ → List ℕ
+recordAt c i = take (recordSize (facts c)) (drop (11 + i * recordSize (facts c)) (after c))
+
+-- a stable model of the call's book at its layer, as Leite, Alferes and Pereira define it
+abbrev pub Model : Call → Interpretation → Type 0
+Model c m = StableModel (programOf (c .book) (c .layer)) m
+
+-- (i) "Where both listings are granted, they are equal byte for byte exactly when both books have the same number of facts and
+-- the same set of stable models at those layers."
+abbrev pub EqualExactly : Type 0
+EqualExactly =
+    (c d : Call) (k g j h : ℕ) → Granted c k g → Granted d j h
+    → (listed c k ≡ listed d j) ↔ ((facts c ≡ facts d) × ((m : Interpretation) → Model c m ↔ Model d m))
+
+-- (ii) to (v), of one granted call
+pub record Lists (c : Call) (k g : ℕ) : Type 0 where
+  -- (ii) "exactly one record for every stable model of its book at its layer, and no other record"
+  pub no-other : (i : ℕ) → i < k → (m : Interpretation) × Model c m × (recordAt c i ≡ recordOf (facts c) m)
+  pub every : (m : Interpretation) → Model c m → (i : ℕ) × (i < k) × (recordAt c i ≡ recordOf (facts c) m)
+  pub once : (i j : ℕ) → i < k → j < k → recordAt c i ≡ recordAt c j → i ≡ j
+  -- the records rise as byte strings
+  pub rising : (i j : ℕ) → i < j → j < k → bytesBefore (recordAt c i) (recordAt c j) ≡ true
+  -- (iii) "The number of these records is the k that the listing and its answer carry"
+  pub head-count : u32At (after c) 7 ≡ k
+  pub head-facts : u16At (after c) 5 ≡ facts c
+  -- (iv) "and it is at most 2 to the power g"
+  pub bounded : k ≤ 2 ^ g
+  -- (v) "Here g is the number of the book's branching facts at that layer, the count that the answer carries."
+  pub branching-is : g ≡ branchingCount (programOf (c .book) (c .layer))
+
+abbrev pub ListsExactly : Type 0
+ListsExactly = (c : Call) (k g : ℕ) → Granted c k g → Lists c k g

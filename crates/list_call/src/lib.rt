@@ -1,0 +1,101 @@
+// The listing call: the first of causes 1 to 9, 12 and 13 that applies, or every stable model's record in rising order, with k and g.
+ghost use mathlib.Core.Path.{_≡_};
+ghost use Prim.Native.Nat.{_<_, _≤_};
+ghost use lib.ListN.{length};
+ghost use Rattle.base.specs.Bounds.{maxBranching};
+ghost use Rattle.format.specs.Book.{bookOf};
+ghost use Rattle.book.specs.Causes.{firstOf};
+ghost use Rattle.table.specs.Table.{programOf};
+ghost use Rattle.accepted.specs.Accepted.{IsAccepted};
+ghost use Rattle.search.specs.Searchable.{Searchable};
+ghost use Rattle.list_call.specs.Reply.{roomTests, searchTests, listReply, listBuffer, Answers};
+use accepted::atom_count;
+use accepted::check_layer;
+use accepted::prepare;
+use book::Cause;
+use book::Verdict;
+use branching::branching_atoms;
+use passes::tally;
+use passes::write_all;
+use records::put_head;
+use records::record_size;
+use search::Goal;
+
+pub enum ListReply {
+    // k and g
+    Listed(usize, usize),
+    Refused(Cause),
+}
+
+// Counts the stable models, and writes them where there is room: one pass each. The head is written last.
+fn list_models(
+    book: &[u8],
+    layer: usize,
+    rows: &[u16],
+    overridden: &[u32],
+    atoms: &[u8],
+    n: usize,
+    buffer: &mut [u8],
+) -> ListReply
+    requires { ⌜ Searchable (now book) (now rows) (now overridden) (now atoms) layer n ⌝ }
+    requires { ⌜ length (now atoms) ≤ maxBranching ⌝ }
+    ensures { λ r. ⌜ Answers (firstOf (roomTests (programOf (now (book .entry)) layer) (length (now (buffer .entry))))) (programOf (now (book .entry)) layer) (now (buffer .entry)) r (now (buffer .exit)) ⌝ }
+{
+    let counts = tally(book, layer, rows, overridden, atoms, n, Goal::All, 0);
+    let k = counts.count;
+    let size = 11 + k * record_size(n);
+    if buffer.len() < size {
+        return ListReply::Refused(Cause::BufferTooShort);
+    }
+    write_all(
+        book,
+        layer,
+        rows,
+        overridden,
+        atoms,
+        n,
+        &mut buffer[11..size],
+    );
+    put_head(buffer, size, n, k);
+    ListReply::Listed(k, atoms.len())
+}
+
+// The listing at a layer, once causes 1 to 9 are ruled out: what does not depend on a setting is worked out here.
+fn list_at(book: &[u8], layer: usize, buffer: &mut [u8]) -> ListReply
+    requires { ⌜ IsAccepted (now book) ⌝ }
+    requires { ⌜ layer < bookOf (now book) .layers ⌝ }
+    ensures { λ r. ⌜ Answers (firstOf (searchTests (programOf (now (book .entry)) layer) (length (now (buffer .entry))))) (programOf (now (book .entry)) layer) (now (buffer .entry)) r (now (buffer .exit)) ⌝ }
+{
+    let n = atom_count(book);
+    let table = prepare(book, layer);
+    let rows = table.rows;
+    let overridden = table.overridden;
+    let count = table.count;
+    let listed = branching_atoms(book, layer, &rows[0..4 * count], &overridden[0..count], n);
+    let atoms = listed.atoms;
+    let g = listed.count;
+    if 20 < g {
+        return ListReply::Refused(Cause::TooManyBranching);
+    }
+    list_models(
+        book,
+        layer,
+        &rows[0..4 * count],
+        &overridden[0..count],
+        &atoms[0..g],
+        n,
+        buffer,
+    )
+}
+
+// Writes the listing of the book at the driven layer into the buffer.
+pub fn list(book: &[u8], layer: u32, buffer: &mut [u8]) -> ListReply
+    ensures answer { λ r. ⌜ r ≡ listReply (now (book .entry)) layer (now (buffer .entry)) ⌝ }
+    ensures bytes { λ _. ⌜ now (buffer .exit) ≡ listBuffer (now (book .entry)) layer (now (buffer .entry)) ⌝ }
+{
+    let v = check_layer(book, layer);
+    match v {
+        Verdict::Refused(c) => ListReply::Refused(c),
+        Verdict::Accepted => list_at(book, layer as usize, buffer),
+    }
+}

@@ -1,0 +1,108 @@
+-- One pass from no fact decided: it meets the stable models, and its records, sorted, are the listing's. Assumes nothing.
+use mathlib.Core.Path.{_≡_, refl, sym, ap, subst, _∙_}
+use mathlib.Core.Bool.{Bool, false}
+use mathlib.Core.List.{List, _++_, map, append-nil}
+use Prim.Native.Nat.{ℕ, _+_, _*_, _^_, _≤_}
+use native.Mathlib.Nat.{pow-le-pow-right}
+use native.Mathlib.Omega.{arith}
+use lib.ListN.{length, replicate, length-replicate}
+use Rattle.base.specs.Bounds.{maxAtoms, maxBranching}
+use Rattle.base.specs.Lists.{flat}
+use Rattle.insertion.proofs.RunLaws.{mult-zero}
+use Rattle.models.specs.Program.{Program}
+use Rattle.models.specs.StableModels.{Interpretation, stable, WellFormed}
+use Rattle.models.specs.Branching.{branchingAtoms, branchingCount}
+use Rattle.models.specs.Listing.{stableModels, recordSize, recordOf}
+use Rattle.records.specs.Written.{sorted}
+use Rattle.records.proofs.OrderLaws.{sorted-length, sorted-listed}
+use Rattle.records.proofs.WrittenLaws.{full}
+use Rattle.table.specs.Table.{programOf}
+use Rattle.search.specs.declared.Goal.{Goal}
+use Rattle.search.specs.declared.Goal.the-variants.{All}
+use Rattle.search.specs.declared.Visit.{Visit}
+use Rattle.search.specs.Found.{atSetting, foundBy}
+use Rattle.search.specs.Visits.{reaches, Kept, Searched}
+use Rattle.search.specs.Searchable.{Searchable}
+use Rattle.search.proofs.FoundLaws.{found-stable, stable-found, found-once, found-count}
+use Rattle.search.proofs.VisitLaws.{visits-goal, visits-count, visits-standing, visits-added}
+use Rattle.passes.specs.Tallied.{searched, Tallied}
+
+unset : length (replicate {A = Bool} 256 false) ≡ 256
+unset = length-replicate {A = Bool} 256 false
+
+module _ (P : Program) (w : WellFormed P) (few : P .atoms ≤ maxAtoms) where
+  -- what the search meets, sorted, is the listing's order
+  pub searched-sorted : sorted (P .atoms) (searched P) ≡ stableModels P
+  unfolding searched stableModels
+  searched-sorted =
+      sorted-listed (P .atoms) (stable P) (foundBy (atSetting P (branchingAtoms P)) (branchingAtoms P) (replicate 256 false))
+      (found-once P w (replicate 256 false) 256 unset few) (found-stable P w (replicate 256 false) 256 unset few) (stable-found P w (replicate 256 false) 256 unset few)
+
+  -- as many are met as there are stable models: at most 2^g
+  pub searched-length : length (searched P) ≡ length (stableModels P)
+  searched-length = sym (sorted-length (P .atoms) (searched P)) ∙ ap length searched-sorted
+
+  pub models-le : length (stableModels P) ≤ 2 ^ branchingCount P
+  unfolding searched
+  models-le = subst (λ (k : ℕ). k ≤ 2 ^ branchingCount P) searched-length (found-count P w (replicate 256 false) 256 unset few)
+
+-- the call of the search
+module _ {book rows overridden atoms : List ℕ} {layer n : ℕ} (w : Searchable book rows overridden atoms layer n) where
+  abbrev P : Program
+  P = programOf book layer
+
+  found-is : foundBy (atSetting P atoms) atoms (replicate 256 false) ≡ searched P
+  unfolding searched
+  found-is = ap (λ (l : List ℕ). foundBy (atSetting P l) l (replicate 256 false)) (w .listed)
+
+  pub start-fits : length atoms ≤ maxBranching → 0 + 2 ^ length atoms ≤ 4294967296
+  start-fits h = omega (arith, pow-le-pow-right {n = 2} (omega arith) h)
+
+  pub start-kept : (goal : Goal) (atom hi : ℕ) (part : List ℕ) → hi ≤ length part → Kept n (record { goal = goal; atom = atom; count = 0; standing = 0; lo = 0; hi = hi }) part
+  start-kept goal atom hi part h = record { order = omega arith; fits = h; whole = mult-zero (recordSize n); few = omega arith }
+
+  module _ (goal : Goal) (atom hi : ℕ) (part : List ℕ) (end : Visit) (part′ : List ℕ)
+      (s : Searched n (foundBy (atSetting P atoms) atoms (replicate 256 false)) (record { goal = goal; atom = atom; count = 0; standing = 0; lo = 0; hi = hi }) part end part′) where
+    abbrev start : Visit
+    start = record { goal = goal; atom = atom; count = 0; standing = 0; lo = 0; hi = hi }
+
+    end-goal : end .goal ≡ goal
+    end-goal = visits-goal n (s .seen) start part end part′ (s .visits) .0
+
+    pub tallied : Tallied P goal atom (end .count) (end .standing)
+    tallied = record {
+      seen = s .seen;
+      rest = s .rest;
+      split = sym found-is ∙ s .split;
+      count-is = visits-count n (s .seen) start part end part′ (s .visits) ∙ omega arith;
+      standing-is = visits-standing n (s .seen) start part end part′ (s .visits) ∙ omega arith;
+      whole = λ e. s .whole (ap (λ (g : Goal). reaches g (end .count) (end .standing)) end-goal ∙ e);
+    }
+
+    -- a pass for every model, into a part with just the room
+    module _ (every : goal ≡ All) (fits : hi ≤ length part) (sized : length part ≡ length (stableModels P) * recordSize n) (exact : hi ≡ length part) where
+      all-seen : s .seen ≡ searched P
+      unfolding reaches
+      all-seen =
+          sym (append-nil (s .seen)) ∙ ap (λ (l : List Interpretation). s .seen ++ l) (sym (s .whole (ap (λ (g : Goal). reaches g (end .count) (end .standing)) (end-goal ∙ every))))
+          ∙ sym (s .split) ∙ found-is
+
+      atoms-few : P .atoms ≤ maxAtoms
+      atoms-few = subst (λ (k : ℕ). k ≤ maxAtoms) (w .size) (w .few)
+
+      room : hi ≡ length (s .seen) * recordSize n
+      room = exact ∙ sized ∙ ap (λ (k : ℕ). k * recordSize n) (sym (ap length all-seen ∙ searched-length P (w .formed) atoms-few))
+
+      pub all-written : part′ ≡ flat (map (recordOf n) (stableModels P))
+      all-written =
+          full n (s .seen) hi part (end .lo) (end .hi) part′ room (omega (arith, exact))
+          (visits-added n (s .seen) start part end part′ (s .visits) (start-kept goal atom hi part fits) (omega (arith, room)))
+          ∙ ap (λ (l : List Interpretation). flat (map (recordOf n) (sorted n l))) all-seen
+          ∙ ap (λ (k : ℕ). flat (map (recordOf n) (sorted k (searched P)))) (w .size)
+          ∙ ap (λ (l : List Interpretation). flat (map (recordOf n) l)) (searched-sorted P (w .formed) atoms-few)
+
+-- a pass that never stops early has met them all
+pub tallied-all : (P : Program) → WellFormed P → P .atoms ≤ maxAtoms → (atom count standing : ℕ) → Tallied P All atom count standing → count ≡ length (stableModels P)
+unfolding reaches
+tallied-all P w few atom count standing t =
+    t .count-is ∙ ap length (sym (append-nil (t .seen)) ∙ ap (λ (l : List Interpretation). t .seen ++ l) (sym (t .whole refl)) ∙ sym (t .split)) ∙ searched-length P w few

@@ -1,0 +1,99 @@
+// Passes of the search: one that counts, and one that writes. Document 01: "a listing may take one such pass to count and one to write".
+ghost use mathlib.Core.Path.{_≡_};
+ghost use mathlib.Core.List.{map};
+ghost use Prim.Native.Nat.{_*_, _≤_};
+ghost use lib.ListN.{length};
+ghost use Rattle.base.specs.Bounds.{maxBranching};
+ghost use Rattle.base.specs.Lists.{flat};
+ghost use Rattle.models.specs.Listing.{stableModels, recordSize, recordOf};
+ghost use Rattle.table.specs.Table.{programOf};
+ghost use Rattle.search.specs.Searchable.{Searchable};
+ghost use Rattle.passes.specs.Tallied.{Tallied};
+use search::Goal;
+use search::Visit;
+use search::search;
+
+pub struct Counts {
+    pub count: usize,
+    pub standing: usize,
+}
+
+// Counts the stable models, and those in which an atom holds, until the goal is reached.
+pub fn tally(
+    book: &[u8],
+    layer: usize,
+    rows: &[u16],
+    overridden: &[u32],
+    atoms: &[u8],
+    n: usize,
+    goal: Goal,
+    atom: usize,
+) -> Counts
+    requires { ⌜ Searchable (now book) (now rows) (now overridden) (now atoms) layer n ⌝ }
+    requires { ⌜ length (now atoms) ≤ maxBranching ⌝ }
+    ensures { λ r. ⌜ Tallied (programOf (now (book .entry)) layer) goal atom (r .count) (r .standing) ⌝ }
+{
+    let mut unused: [u8; 1] = [0; 1];
+    let v = Visit {
+        goal,
+        atom,
+        count: 0,
+        standing: 0,
+        lo: 0,
+        hi: 0,
+    };
+    let end = search(
+        book,
+        layer,
+        rows,
+        overridden,
+        atoms,
+        atoms,
+        n,
+        [false; 256],
+        &mut unused,
+        v,
+    );
+    Counts {
+        count: end.count,
+        standing: end.standing,
+    }
+}
+
+// Writes the records of all stable models, rising, into a part that has just the room for them.
+pub fn write_all(
+    book: &[u8],
+    layer: usize,
+    rows: &[u16],
+    overridden: &[u32],
+    atoms: &[u8],
+    n: usize,
+    part: &mut [u8],
+)
+    requires { ⌜ Searchable (now book) (now rows) (now overridden) (now atoms) layer n ⌝ }
+    requires { ⌜ length (now atoms) ≤ maxBranching ⌝ }
+    requires { ⌜ length (now part) ≡ length (stableModels (programOf (now book) layer)) * recordSize n ⌝ }
+    ensures { λ _. ⌜ now (part .exit) ≡ flat (map (recordOf n) (stableModels (programOf (now (book .entry)) layer))) ⌝ }
+{
+    let room = part.len();
+    let v = Visit {
+        goal: Goal::All,
+        atom: 0,
+        count: 0,
+        standing: 0,
+        lo: 0,
+        hi: room,
+    };
+    search(
+        book,
+        layer,
+        rows,
+        overridden,
+        atoms,
+        atoms,
+        n,
+        [false; 256],
+        part,
+        v,
+    );
+}
