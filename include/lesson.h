@@ -80,6 +80,18 @@ static inline bool lesson_is_stable(uint64_t answer)
     return (answer >> 16 & 1) != 0;
 }
 
+/* The number g of branching facts that an answer carries; 0 after a refusal. */
+static inline uint32_t lesson_branching_count(uint64_t answer)
+{
+    return (uint32_t)(answer >> 8 & 0xFF);
+}
+
+/* lesson_list: the number k of stable states; 0 after a refusal. */
+static inline uint32_t lesson_state_count(uint64_t answer)
+{
+    return (uint32_t)(answer >> 16);
+}
+
 #ifdef __cplusplus
 extern "C" {
 #endif
@@ -108,6 +120,34 @@ uint64_t lesson_check(const uint8_t *book, size_t book_len);
  */
 uint64_t lesson_test(const uint8_t *book, size_t book_len, uint32_t layer, const uint8_t *candidate,
                      size_t candidate_len);
+
+/*
+ * Lists every stable state of a book at the driven layer. k, their number, may
+ * be 0.
+ *
+ * book, book_len: the book, any bytes.
+ * layer: the driven layer, counted from 0, any number.
+ * buffer, buffer_len: where the listing goes, of any length. Where the call is
+ * granted, its first bytes are the listing and the bytes past it are as they
+ * were. The listing has 11 bytes of head, then k records:
+ *
+ *   offset 0, 1 byte: version, 1
+ *   offset 1, 4 bytes: length of the whole listing in bytes
+ *   offset 5, 2 bytes: number n of facts
+ *   offset 7, 4 bytes: k
+ *   offset 11: the records, each once, rising as byte strings
+ *
+ * Numbers are big-endian. k is at most 2 to the power g and so at most
+ * 1,048,576, and a record has at most 32 bytes. A buffer of 33,554,443 bytes
+ * holds every listing.
+ *
+ * Answers g in bits 8 to 15 (lesson_branching_count) and k from bit 16 on
+ * (lesson_state_count), or the first of LESSON_TOO_SHORT to
+ * LESSON_NO_SUCH_LAYER, LESSON_TOO_MANY_BRANCHING and LESSON_BUFFER_TOO_SHORT
+ * that applies. The time grows with 2 to the power g.
+ */
+uint64_t lesson_list(const uint8_t *book, size_t book_len, uint32_t layer, uint8_t *buffer,
+                     size_t buffer_len);
 
 #ifdef __cplusplus
 }

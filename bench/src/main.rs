@@ -1,57 +1,82 @@
 //! Times the calls of the archive beside plain Rust that does the same work, in one run.
-//! Run it with `cargo run --release`.
+//! Run it with `cargo run --release`; with `-- --full` the books that take long come too.
 
+use lesson_tests::book::Book;
+use lesson_tests::known::{self, Following, Known};
 use lesson_tests::rng::{seed, Rng};
 use lesson_tests::shapes::{self, Planted};
 use lesson_tests::{ffi, oracle, plain, reader};
+use std::env;
 use std::hint::black_box;
 use std::time::{Duration, Instant};
 
-const REPEATS: usize = 20;
-const SHORTEST: Duration = Duration::from_millis(20);
+const REPEATS: u32 = 20;
 
-/// Microseconds for one call, over `calls` of them.
+/// The shortest time that is measured at once, and the longest that a row's repeats may take.
+const SHORTEST: Duration = Duration::from_millis(20);
+const LONGEST: Duration = Duration::from_secs(1);
+
+/// Seconds for one call, over `calls` of them.
 fn time(calls: u32, call: &mut dyn FnMut()) -> f64 {
     let start = Instant::now();
     for _ in 0..calls {
         call();
     }
-    start.elapsed().as_secs_f64() * 1e6 / f64::from(calls)
+    start.elapsed().as_secs_f64() / f64::from(calls)
 }
 
-/// So many calls that a repeat is long against the clock's grain.
-fn enough(call: &mut dyn FnMut()) -> u32 {
+/// So many calls that a repeat is long against the clock's grain, and the time of one of them.
+fn enough(call: &mut dyn FnMut()) -> (u32, f64) {
     let mut calls = 1;
-    while time(calls, call) * f64::from(calls) < SHORTEST.as_secs_f64() * 1e6 {
+    loop {
+        let one = time(calls, call);
+        if one * f64::from(calls) >= SHORTEST.as_secs_f64() {
+            return (calls, one);
+        }
         calls *= 2;
     }
-    calls
+}
+
+/// A time in the unit that suits it.
+fn shown(seconds: f64) -> String {
+    match seconds {
+        long if long >= 1.0 => format!("{long:.2} s"),
+        some if some >= 1e-3 => format!("{:.2} ms", some * 1e3),
+        short => format!("{:.2} us", short * 1e6),
+    }
 }
 
 /// Prints a row with the best of the repeats. The two take turns, so that a disturbance meets both.
-fn row(name: &str, bytes: usize, engine: &mut dyn FnMut(), plain: &mut dyn FnMut()) {
-    let calls = [enough(engine), enough(plain)];
-    let mut best = [f64::INFINITY; 2];
-    for _ in 0..REPEATS {
-        best[0] = best[0].min(time(calls[0], engine));
-        best[1] = best[1].min(time(calls[1], plain));
+fn row(name: &str, book: &[u8], engine: &mut dyn FnMut(), plain: &mut dyn FnMut()) {
+    let ((engine_calls, mut best_engine), (plain_calls, mut best_plain)) =
+        (enough(engine), enough(plain));
+    let round = best_engine * f64::from(engine_calls) + best_plain * f64::from(plain_calls);
+    let repeats = (LONGEST.as_secs_f64() / round).min(f64::from(REPEATS)) as u32;
+    for _ in 0..repeats {
+        best_engine = best_engine.min(time(engine_calls, engine));
+        best_plain = best_plain.min(time(plain_calls, plain));
     }
-    let [engine, plain] = best;
-    let ratio = engine / plain;
-    println!("{name:<44} {bytes:>6} {engine:>12.3} {plain:>12.3} {ratio:>6.2}");
+    println!(
+        "{name:<52} {:>6} {:>10} {:>10} {:>6.2}",
+        book.len(),
+        shown(best_engine),
+        shown(best_plain),
+        best_engine / best_plain
+    );
 }
 
-fn check_row(name: &str, book: &[u8]) {
-    assert_eq!(ffi::check_in_place(book), 0);
-    assert_eq!(reader::first_cause(book), 0);
+fn check_row(name: &str, book: &Book) {
+    let book = book.bytes();
+    assert_eq!(ffi::check_in_place(&book), 0);
+    assert_eq!(reader::first_cause(&book), 0);
     row(
-        name,
-        book.len(),
+        &format!("check, {name}"),
+        &book,
         &mut || {
-            black_box(ffi::check_in_place(black_box(book)));
+            black_box(ffi::check_in_place(black_box(&book)));
         },
         &mut || {
-            black_box(reader::first_cause(black_box(book)));
+            black_box(reader::first_cause(black_box(&book)));
         },
     );
 }
@@ -64,8 +89,8 @@ fn test_row(name: &str, planted: &Planted) {
     assert_eq!(ffi::test_in_place(&book, layer, &candidate), 1 << 16);
     assert_eq!(plain::test(&book, layer, &candidate), 1 << 16);
     row(
-        name,
-        book.len(),
+        &format!("test, {name}"),
+        &book,
         &mut || {
             black_box(ffi::test_in_place(black_box(&book), layer, &candidate));
         },
@@ -75,29 +100,94 @@ fn test_row(name: &str, planted: &Planted) {
     );
 }
 
+/// A row for a listing. Both write the same bytes; both take one pass to count and one to write,
+/// and insert the records as they come.
+fn list_row(name: &str, known: &Known) {
+    let book = known.book.bytes();
+    let layer = known.layer.into();
+    let length = 11 + known.count * usize::from(known.book.atoms).div_ceil(8);
+    let mut buffers = [vec![0; length], vec![1; length]];
+    let [engine, plain] = &mut buffers;
+    row(
+        &format!("list, {name}, g = {}, k = {}", known.branching, known.count),
+        &book,
+        &mut || {
+            let answer = ffi::list_in_place(black_box(&book), layer, engine);
+            assert_eq!(answer, known.answer());
+        },
+        &mut || {
+            let answer = plain::list(black_box(&book), layer, plain);
+            assert_eq!(answer, known.answer());
+        },
+    );
+    assert!(buffers[0] == buffers[1], "{name}: the listings differ");
+}
+
 fn main() {
+    let full = match env::args().nth(1).as_deref() {
+        None => false,
+        Some("--full") => true,
+        Some(other) => panic!("{other}: the only option is --full"),
+    };
     let seed = seed();
     let rng = |name| Rng::named(seed, name);
-    let largest = shapes::largest(&mut rng("largest")).bytes();
+    println!("time of a call, best of up to {REPEATS} repeats, seed {seed}");
+    println!(
+        "{:<52} {:>6} {:>10} {:>10} {:>6}",
+        "call and book", "bytes", "engine", "plain Rust", "ratio"
+    );
+
+    check_row("largest lawful book", &shapes::largest(&mut rng("largest")));
+    check_row("B", &shapes::book_b());
+
     let b = Planted {
         book: shapes::book_b(),
         layer: 3,
         state: vec![false, false, true],
     };
-    println!("microseconds a call, best of {REPEATS} repeats, seed {seed}");
-    println!(
-        "{:<44} {:>6} {:>12} {:>12} {:>6}",
-        "call and book", "bytes", "engine", "plain Rust", "ratio"
-    );
-    check_row("check, largest lawful book", &largest);
-    check_row("check, B", &shapes::B);
     test_row(
-        "test, largest lawful book",
+        "largest lawful book",
         &shapes::planted_largest(&mut rng("planted largest")),
     );
     test_row(
-        "test, 1,024 rules, worst order for filling",
+        "1,024 rules, worst order for filling",
         &shapes::worst_order(),
     );
-    test_row("test, B", &b);
+    test_row("B", &b);
+
+    // The searches. A free fact is set false first, so that the records of free facts rise as they
+    // are found; where the first facts follow these and say the opposite, they fall.
+    let falling = Following {
+        turned_round: false,
+        opposite: true,
+    };
+    let reversed = Following {
+        turned_round: true,
+        opposite: false,
+    };
+    let busy = |branching| known::busy(&mut rng("busy"), branching);
+    list_row("pairs", &known::pairs(10, 0));
+    list_row("displacing pairs", &known::displacing_pairs(10, 0));
+    list_row("largest lawful book", &busy(10));
+    list_row("largest lawful book", &busy(14));
+    list_row("worst order for filling", &known::chained(5));
+    list_row("rising, 2 bytes", &known::free(14, 0, 14));
+    list_row("falling, 4 bytes", &known::followed(14, 14, 28, falling));
+    list_row("rising, 32 bytes", &known::free(14, 0, 256));
+    list_row("falling, 32 bytes", &known::followed(14, 14, 256, falling));
+    list_row("permuted, 4 bytes", &known::followed(10, 10, 28, reversed));
+    if full {
+        list_row("largest lawful book", &busy(16));
+        list_row("largest lawful book", &busy(20));
+        list_row("worst order for filling", &known::chained(10));
+        list_row("rising, 3 bytes", &known::free(20, 0, 20));
+        list_row(
+            "falling by 16ths, 3 bytes",
+            &known::followed(20, 4, 24, falling),
+        );
+        list_row("falling, 5 bytes", &known::followed(20, 20, 40, falling));
+        list_row("rising, 32 bytes", &known::free(20, 0, 256));
+        list_row("falling, 32 bytes", &known::followed(20, 20, 256, falling));
+        list_row("permuted, 4 bytes", &known::followed(14, 14, 28, reversed));
+    }
 }

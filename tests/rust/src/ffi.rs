@@ -15,6 +15,13 @@ extern "C" {
         candidate: *const u8,
         candidate_len: usize,
     ) -> u64;
+    fn lesson_list(
+        book: *const u8,
+        book_len: usize,
+        layer: u32,
+        buffer: *mut u8,
+        buffer_len: usize,
+    ) -> u64;
 }
 
 /// Odd, so that the slices are misaligned.
@@ -48,6 +55,15 @@ impl Lent {
         }
     }
 
+    /// The same for a buffer, which the call may write.
+    fn buffer(&mut self) -> (*mut u8, usize) {
+        let after = self.whole.len() - FENCE;
+        match &mut self.whole[FENCE..after] {
+            [] if self.canary == 0 => (ptr::null_mut(), 0),
+            contents => (contents.as_mut_ptr(), contents.len()),
+        }
+    }
+
     fn fences_stand(&self) -> bool {
         let after = self.whole.len() - FENCE;
         let mut fences = self.whole[..FENCE].iter().chain(&self.whole[after..]);
@@ -55,37 +71,48 @@ impl Lent {
     }
 }
 
-/// The answer of `call` on fenced copies of `slices`. Asserts that nothing was written and that
-/// the surroundings do not matter.
-fn fenced<const N: usize>(slices: [&[u8]; N], call: impl Fn(&[Lent; N]) -> u64) -> u64 {
+/// What a call came to: its answer, and the bytes of its buffer.
+pub type Outcome = (u64, Vec<u8>);
+
+/// The outcome of `call` on fenced copies of `slices` and of `buffer`. Asserts that nothing but the
+/// buffer was written and that the surroundings do not matter.
+fn fenced<const N: usize>(
+    slices: [&[u8]; N],
+    buffer: &[u8],
+    call: impl Fn(&[Lent; N], &mut Lent) -> u64,
+) -> Outcome {
     let told = || slices.map(hex).join(", ");
-    let answers = CANARIES.map(|canary| {
+    let [first, second] = CANARIES.map(|canary| {
         let lent = slices.map(|slice| Lent::new(slice, canary));
-        let answer = call(&lent);
-        for (lent, slice) in lent.iter().zip(slices) {
-            assert!(
-                lent.fences_stand() && lent.contents() == slice,
-                "a byte was written: slices {}",
-                told()
-            );
-        }
-        answer
+        let mut buffer = Lent::new(buffer, canary);
+        let answer = call(&lent, &mut buffer);
+        let unchanged =
+            |(lent, slice): (&Lent, &[u8])| lent.fences_stand() && lent.contents() == slice;
+        assert!(
+            buffer.fences_stand() && lent.iter().zip(slices).all(unchanged),
+            "a byte was written: slices {}",
+            told()
+        );
+        (answer, buffer.contents().to_vec())
     });
     assert!(
-        answers[0] == answers[1],
-        "bytes outside the slices change the answer, {answers:?}: slices {}",
+        first == second,
+        "bytes outside the slices change the outcome, answers {:#X} and {:#X}: slices {}",
+        first.0,
+        second.0,
         told()
     );
-    answers[0]
+    first
 }
 
 /// `lesson_check` on a fenced copy.
 pub fn check(book: &[u8]) -> u64 {
-    fenced([book], |[book]| {
+    let call = |[book]: &[Lent; 1], _: &mut Lent| {
         let (book, book_len) = book.slice();
         // SAFETY: NULL with length 0, or a live slice, and the call only reads.
         unsafe { lesson_check(book, book_len) }
-    })
+    };
+    fenced([book], &[], call).0
 }
 
 /// `lesson_check` on `book` itself.
@@ -102,12 +129,13 @@ pub fn check_null() -> u64 {
 
 /// `lesson_test` on fenced copies.
 pub fn test(book: &[u8], layer: u32, candidate: &[u8]) -> u64 {
-    fenced([book, candidate], |[book, candidate]| {
+    let call = |[book, candidate]: &[Lent; 2], _: &mut Lent| {
         let (book, book_len) = book.slice();
         let (candidate, candidate_len) = candidate.slice();
         // SAFETY: each is NULL with length 0, or a live slice, and the call only reads.
         unsafe { lesson_test(book, book_len, layer, candidate, candidate_len) }
-    })
+    };
+    fenced([book, candidate], &[], call).0
 }
 
 /// `lesson_test` on the slices themselves.
@@ -122,4 +150,21 @@ pub fn test_in_place(book: &[u8], layer: u32, candidate: &[u8]) -> u64 {
             candidate.len(),
         )
     }
+}
+
+/// `lesson_list` on fenced copies.
+pub fn list(book: &[u8], layer: u32, buffer: &[u8]) -> Outcome {
+    fenced([book], buffer, |[book], buffer| {
+        let (book, book_len) = book.slice();
+        let (buffer, buffer_len) = buffer.buffer();
+        // SAFETY: each is NULL with length 0, or a live slice, and the two do not overlap.
+        unsafe { lesson_list(book, book_len, layer, buffer, buffer_len) }
+    })
+}
+
+/// `lesson_list` on the slices themselves.
+pub fn list_in_place(book: &[u8], layer: u32, buffer: &mut [u8]) -> u64 {
+    let (at, length) = (buffer.as_mut_ptr(), buffer.len());
+    // SAFETY: the pointers and the lengths are those of live slices, which do not overlap.
+    unsafe { lesson_list(book.as_ptr(), book.len(), layer, at, length) }
 }

@@ -9,6 +9,7 @@ pub mod book;
 pub mod expected;
 #[allow(unsafe_code)]
 pub mod ffi;
+pub mod known;
 pub mod misreadings;
 pub mod oracle;
 pub mod plain;

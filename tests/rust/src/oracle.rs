@@ -141,21 +141,41 @@ impl Driven {
             .all(|atom| least.positive[atom] == state[atom] && least.negative[atom] != state[atom])
     }
 
-    /// Whether each atom branches.
-    pub fn branching(&self) -> Vec<bool> {
-        let mut branching = vec![false; self.atoms];
+    /// The first ground for branching: whether each atom is negated in some body.
+    pub fn negated_in_a_body(&self) -> Vec<bool> {
+        let mut negated = vec![false; self.atoms];
+        for literal in self.rules.iter().flat_map(|rule| &rule.body) {
+            if literal.negated {
+                negated[usize::from(literal.atom)] = true;
+            }
+        }
+        negated
+    }
+
+    /// The second ground: whether each atom stands, with either sign, in the body of a rule whose
+    /// opposite head is the head of a rule of a layer below.
+    pub fn in_a_rejecting_body(&self) -> Vec<bool> {
+        let mut rejecting = vec![false; self.atoms];
         for rule in &self.rules {
             let may_reject = self
                 .rules
                 .iter()
                 .any(|lower| self.is_below(lower, rule) && lower.head == rule.head.opposite());
-            for literal in &rule.body {
-                if literal.negated || may_reject {
-                    branching[usize::from(literal.atom)] = true;
+            if may_reject {
+                for literal in &rule.body {
+                    rejecting[usize::from(literal.atom)] = true;
                 }
             }
         }
-        branching
+        rejecting
+    }
+
+    /// Whether each atom branches.
+    pub fn branching(&self) -> Vec<bool> {
+        let (first, second) = (self.negated_in_a_body(), self.in_a_rejecting_body());
+        (0..self.atoms)
+            .map(|atom| first[atom] || second[atom])
+            .collect()
     }
 
     /// Document 01: g.
@@ -184,14 +204,25 @@ impl Driven {
     /// The bytes of the whole listing.
     pub fn listing(&self) -> Vec<u8> {
         let models = self.stable_models();
-        let records: Vec<u8> = models.iter().flat_map(|model| record(model)).collect();
-        let mut listing = vec![1];
-        listing.extend_from_slice(&(11 + records.len() as u32).to_be_bytes());
-        listing.extend_from_slice(&(self.atoms as u16).to_be_bytes());
-        listing.extend_from_slice(&(models.len() as u32).to_be_bytes());
-        listing.extend_from_slice(&records);
-        listing
+        let records: Vec<Vec<u8>> = models.iter().map(|model| record(model)).collect();
+        listing(self.atoms(), &records)
     }
+}
+
+/// The listing with these records, which are in their order.
+pub fn listing(atoms: u16, records: &[Vec<u8>]) -> Vec<u8> {
+    let length = 11 + records.iter().map(Vec::len).sum::<usize>();
+    let mut listing = vec![1];
+    listing.extend_from_slice(&(length as u32).to_be_bytes());
+    listing.extend_from_slice(&atoms.to_be_bytes());
+    listing.extend_from_slice(&(records.len() as u32).to_be_bytes());
+    listing.extend(records.iter().flatten());
+    listing
+}
+
+/// The number of states that a listing's head gives.
+pub fn count(listing: &[u8]) -> usize {
+    u32::from_be_bytes(listing[7..11].try_into().expect("four bytes")) as usize
 }
 
 /// The record of a state: fact f is bit 7 - (f mod 8) of byte f div 8.

@@ -1,7 +1,10 @@
 //! The engine's work in plain Rust, as fast as its plain form goes: the benchmark's yardstick,
 //! and a second opinion on books that are too large for the oracle to try every state of.
 
-use crate::expected::{yes_or_no, BAD_CANDIDATE, NO_SUCH_LAYER};
+use crate::expected::{
+    counts, yes_or_no, BAD_CANDIDATE, BUFFER_TOO_SHORT, MAX_BRANCHING, NO_SUCH_LAYER,
+    TOO_MANY_BRANCHING,
+};
 use crate::reader::{self, Parts};
 
 const LAYERS: usize = 32;
@@ -25,6 +28,7 @@ fn opposite(name: Name) -> usize {
 }
 
 /// A relevant rule.
+#[derive(Clone, Copy)]
 struct Row {
     /// Its body in `Program::bodies`.
     from: u32,
@@ -39,6 +43,8 @@ struct Row {
 pub struct Program {
     atoms: usize,
     rows: Vec<Row>,
+    /// Those that can displace others.
+    rejecting: Vec<Row>,
     bodies: Vec<Name>,
 }
 
@@ -67,25 +73,30 @@ impl Program {
         for row in &mut rows {
             row.under = layers_of[opposite(row.head)] & below[usize::from(row.layer)];
         }
+        let rejecting = rows.iter().copied().filter(|row| row.under != 0);
         Program {
             atoms: usize::from(book.atoms),
+            rejecting: rejecting.collect(),
             rows,
             bodies,
         }
     }
 
+    fn body(&self, row: &Row) -> &[Name] {
+        &self.bodies[row.from as usize..row.to as usize]
+    }
+
     /// Whether all of the body is among `names`.
     fn within(&self, row: &Row, names: &Names) -> bool {
-        self.bodies[row.from as usize..row.to as usize]
-            .iter()
-            .all(|&name| names[usize::from(name) % NAMES])
+        let among = |&name: &Name| names[usize::from(name) % NAMES];
+        self.body(row).iter().all(among)
     }
 
     /// Bit i of entry h: rules of layer i with head h are displaced.
     fn displaced(&self, state: &Names) -> [u32; NAMES] {
         let mut displaced = [0; NAMES];
-        for row in &self.rows {
-            if row.under != 0 && self.within(row, state) {
+        for row in &self.rejecting {
+            if self.within(row, state) {
                 displaced[opposite(row.head)] |= row.under;
             }
         }
@@ -130,6 +141,132 @@ impl Program {
     fn stable(&self, state: &Names) -> bool {
         let mut reached = self.defaults(state);
         self.fill(&self.displaced(state), &mut reached) && reached == *state
+    }
+
+    /// The branching facts, falling.
+    fn branching(&self) -> Vec<Name> {
+        let mut branching = [false; 256];
+        for row in &self.rows {
+            for &name in self.body(row) {
+                if name >= 256 || row.under != 0 {
+                    branching[usize::from(name % 256)] = true;
+                }
+            }
+        }
+        let branches = |&atom: &Name| branching[usize::from(atom)];
+        (0..256).rev().filter(branches).collect()
+    }
+
+    /// The only state that can be stable and agree with the setting of the branching facts; where
+    /// it does not agree, or both signs of a fact are reached, there is none.
+    fn candidate(&self, branching: &[Name], setting: &Names) -> Option<Names> {
+        let mut reached = NO_NAMES;
+        reached[256..].copy_from_slice(&setting[256..]);
+        if !self.fill(&self.displaced(setting), &mut reached) {
+            return None;
+        }
+        let agrees = |&atom: &Name| {
+            let atom = usize::from(atom);
+            reached[atom] == setting[atom]
+        };
+        if !branching.iter().all(agrees) {
+            return None;
+        }
+        for atom in 0..self.atoms {
+            reached[atom + 256] = !reached[atom];
+        }
+        Some(reached)
+    }
+
+    /// Visits every stable model once: each setting of the branching facts is gone through, those
+    /// in which an earlier fact does not stand first.
+    fn each_stable(&self, branching: &[Name], mut visit: impl FnMut(&Names)) {
+        let mut setting = NO_NAMES;
+        for number in 0..1u32 << branching.len() {
+            // Only the lowest bits have changed.
+            let changed = (number ^ number.wrapping_sub(1)).count_ones() as usize;
+            for (at, &atom) in branching.iter().enumerate().take(changed) {
+                let stands = number >> at & 1 == 1;
+                setting[usize::from(atom)] = stands;
+                setting[usize::from(atom) + 256] = !stands;
+            }
+            if let Some(state) = self.candidate(branching, &setting) {
+                if self.stable(&state) {
+                    visit(&state);
+                }
+            }
+        }
+    }
+
+    /// One pass to count, and one to write, as without a heap.
+    fn list(&self, buffer: &mut [u8]) -> Result<u64, u64> {
+        let branching = self.branching();
+        if branching.len() > MAX_BRANCHING {
+            return Err(TOO_MANY_BRANCHING);
+        }
+        let mut count = 0;
+        self.each_stable(&branching, |_| count += 1);
+        let width = self.atoms.div_ceil(8);
+        let length = 11 + count * width;
+        let listing = buffer.get_mut(..length).ok_or(BUFFER_TOO_SHORT)?;
+        let (head, records) = listing.split_at_mut(11);
+        let mut rising = Rising::new(records, width);
+        self.each_stable(&branching, |state| {
+            let mut record = [0; 32];
+            for (atom, _) in state[..256]
+                .iter()
+                .enumerate()
+                .filter(|(_, &stands)| stands)
+            {
+                record[atom / 8] |= 0x80 >> (atom % 8);
+            }
+            rising.insert(&record[..width]);
+        });
+        head[0] = 1;
+        head[1..5].copy_from_slice(&(length as u32).to_be_bytes());
+        head[5..7].copy_from_slice(&(self.atoms as u16).to_be_bytes());
+        head[7..11].copy_from_slice(&(count as u32).to_be_bytes());
+        Ok(counts(branching.len(), count))
+    }
+}
+
+/// Records inserted in rising order into a slice that they will fill: low ones at its start, high
+/// ones at its end, and a gap between them that goes where the next record belongs.
+struct Rising<'a> {
+    records: &'a mut [u8],
+    width: usize,
+    /// The gap, in bytes.
+    from: usize,
+    to: usize,
+}
+
+impl<'a> Rising<'a> {
+    fn new(records: &'a mut [u8], width: usize) -> Rising<'a> {
+        let (from, to) = (0, records.len());
+        Rising {
+            records,
+            width,
+            from,
+            to,
+        }
+    }
+
+    fn insert(&mut self, record: &[u8]) {
+        let width = self.width;
+        while self.to < self.records.len() && &self.records[self.to..self.to + width] < record {
+            let high = self.to..self.to + width;
+            self.records.copy_within(high, self.from);
+            self.from += width;
+            self.to += width;
+        }
+        while self.from > 0 && &self.records[self.from - width..self.from] > record {
+            let low = self.from - width..self.from;
+            self.records.copy_within(low, self.to - width);
+            self.from -= width;
+            self.to -= width;
+        }
+        self.records[self.from..self.from + width].copy_from_slice(record);
+        self.from += width;
     }
 }
 
@@ -188,6 +325,13 @@ pub fn test(book: &[u8], layer: u32, candidate: &[u8]) -> u64 {
     answer.unwrap_or_else(|cause| cause)
 }
 
+/// What `lesson_list` answers and does.
+pub fn list(book: &[u8], layer: u32, buffer: &mut [u8]) -> u64 {
+    program(book, layer)
+        .and_then(|program| program.list(buffer))
+        .unwrap_or_else(|cause| cause)
+}
+
 #[cfg(test)]
 mod tests {
     use super::*;
@@ -195,7 +339,7 @@ mod tests {
     use crate::expected;
     use crate::oracle;
     use crate::rng::{seed, Rng};
-    use crate::shapes;
+    use crate::shapes::{self, Layering};
 
     #[test]
     fn plain_tester_agrees_with_the_oracle() {
@@ -222,5 +366,32 @@ mod tests {
             }
         }
         assert!(stable > 1_000, "only {stable} stable states");
+    }
+
+    #[test]
+    fn plain_search_agrees_with_the_oracle() {
+        let seed = seed();
+        let mut rng = Rng::named(seed, "plain search");
+        let mut several = 0;
+        for turn in 0..3_000 {
+            let book = match turn % 2 {
+                0 => shapes::choices(&mut rng),
+                _ => shapes::layered(&mut rng, Layering::Any),
+            };
+            let bytes = book.bytes();
+            for layer in 0..u32::from(book.layers) {
+                let mut buffer = vec![0xA5; rng.range(8, 30)];
+                let oracle = expected::list(&bytes, layer, &buffer);
+                let plain = list(&bytes, layer, &mut buffer);
+                assert!(
+                    (plain, &buffer) == (oracle.0, &oracle.1),
+                    "seed {seed}, layer {layer}: plain {plain:#X}, oracle {:#X}\n{}",
+                    oracle.0,
+                    hex(&bytes)
+                );
+                several += usize::from(plain >> 16 > 1);
+            }
+        }
+        assert!(several > 500, "only {several} listings of several states");
     }
 }

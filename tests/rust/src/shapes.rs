@@ -60,14 +60,14 @@ fn lawful(rng: &mut Rng, sizes: Sizes) -> Book {
     book
 }
 
-fn hidden_order(rng: &mut Rng, layers: usize) -> Vec<u8> {
+pub(crate) fn hidden_order(rng: &mut Rng, layers: usize) -> Vec<u8> {
     let mut order: Vec<u8> = (0..layers as u8).collect();
     rng.shuffle(&mut order);
     order
 }
 
 /// Every arrow that leads forward in `order`.
-fn all_arrows(order: &[u8]) -> Vec<Arrow> {
+pub(crate) fn all_arrows(order: &[u8]) -> Vec<Arrow> {
     let mut arrows = Vec::new();
     for (at, &later) in order.iter().enumerate() {
         arrows.extend(order[..at].iter().map(|&earlier| Arrow { earlier, later }));
@@ -233,6 +233,49 @@ pub fn layered(rng: &mut Rng, layering: Layering) -> Book {
     book
 }
 
+/// A small lawful book with several choices that are free of each other, in all forms, and a little
+/// beside them: up to 16 stable states and more are common.
+pub fn crowded(rng: &mut Rng, layering: Layering) -> Book {
+    let mut book = loop {
+        let book = layered(rng, layering);
+        if !book.arrows.is_empty() {
+            break book;
+        }
+    };
+    book.atoms = book.atoms.max(rng.range(5, 8) as u16);
+    book.rules.truncate(rng.below(3));
+    let mut atoms: Vec<u16> = (0..book.atoms).collect();
+    rng.shuffle(&mut atoms);
+    for two in atoms.chunks_exact(2) {
+        let (f, h) = (two[0], two[1]);
+        let up = rng.pick(&book.arrows);
+        book = match rng.below(4) {
+            0 => choice(book, up.earlier, f, h),
+            1 => each_displaces_the_other(book, up, f, h),
+            2 => free(free(book, up, f), up, h),
+            // One follows the other, as it is or the other way round.
+            _ => free(book, up, f).rule(up.earlier, plain(h), &[rng.pick(&[plain(f), not(f)])]),
+        };
+    }
+    rng.shuffle(&mut book.rules);
+    book
+}
+
+/// A fact that may stand or not: a quarrel, and above it rules that lean on themselves.
+fn free(book: Book, up: Arrow, f: u16) -> Book {
+    conflict(book, up.earlier, plain(f), &[])
+        .rule(up.later, plain(f), &[plain(f)])
+        .rule(up.later, not(f), &[not(f)])
+}
+
+/// Each of two rules displaces what the other leans on.
+fn each_displaces_the_other(book: Book, up: Arrow, f: u16, h: u16) -> Book {
+    book.rule(up.earlier, plain(f), &[])
+        .rule(up.earlier, plain(h), &[])
+        .rule(up.later, not(f), &[plain(h)])
+        .rule(up.later, not(h), &[plain(f)])
+}
+
 /// A few rules more that belong together.
 fn with_motif(rng: &mut Rng, book: Book) -> Book {
     let atoms = usize::from(book.atoms);
@@ -267,12 +310,7 @@ fn with_motif(rng: &mut Rng, book: Book) -> Book {
         (3, ..) => choice(book, layer, f, h),
         // A quarrel, and a rule above it that leans on itself.
         (4, ..) => conflict(book, up.earlier, head, body).rule(up.later, head, &[head]),
-        // Each of two rules displaces what the other leans on.
-        (5, ..) => book
-            .rule(up.earlier, plain(f), &[])
-            .rule(up.earlier, plain(h), &[])
-            .rule(up.later, not(f), &[plain(h)])
-            .rule(up.later, not(h), &[plain(f)]),
+        (5, ..) => each_displaces_the_other(book, up, f, h),
         // Displaced, but with no other rule for the opposite.
         (6, ..) => book
             .rule(up.earlier, plain(f), body)
@@ -695,8 +733,13 @@ pub const EVERY_SHAPE: [Shape; 15] = [
 /// A book to which each cause of `causes` applies (bit c - 1 for cause c), and none smaller than
 /// the smallest of them. With no cause the book is lawful.
 pub fn with_causes(rng: &mut Rng, causes: u8) -> Vec<u8> {
-    let wanted = |cause: u8| causes >> (cause - 1) & 1 == 1;
     let lawful = eventful(rng);
+    broken(rng, &lawful, causes)
+}
+
+/// The same, made from a lawful book with an arrow and a rule at least.
+pub fn broken(rng: &mut Rng, lawful: &Book, causes: u8) -> Vec<u8> {
+    let wanted = |cause: u8| causes >> (cause - 1) & 1 == 1;
     let mut book = lawful.clone();
     if wanted(8) {
         close_a_cycle(rng, &mut book);
@@ -708,7 +751,7 @@ pub fn with_causes(rng: &mut Rng, causes: u8) -> Vec<u8> {
     rng.shuffle(&mut book.arrows);
     let mut draft = book.draft();
     if wanted(6) {
-        break_a_record(rng, &lawful, &mut draft);
+        break_a_record(rng, lawful, &mut draft);
     }
     if wanted(5) {
         leave_a_range(rng, &mut draft);

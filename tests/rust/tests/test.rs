@@ -111,8 +111,8 @@ fn count_told_apart(tally: &mut Tally, book: &Book, layer: u8) {
 /// Random books are worth their time only if both answers come up, and if they tell all the
 /// misreadings from the right reading, but those named.
 fn assert_telling(tally: &Tally, but: &[Misreading]) {
-    assert!(tally.yes > 3_000, "few stable states: {}", tally.yes);
-    assert!(tally.no > 3_000, "few that are not: {}", tally.no);
+    assert!(tally.yes > 2_000, "few stable states: {}", tally.yes);
+    assert!(tally.no > 2_000, "few that are not: {}", tally.no);
     for (misreading, &times) in misreadings::EVERY.iter().zip(&tally.told_apart) {
         assert!(
             times >= 10 || but.contains(misreading),
@@ -156,9 +156,9 @@ fn every_state_of_books_with_any_arrows_is_answered_as_by_the_oracle() {
 /// Books without the motifs of `layered`.
 #[test]
 fn every_state_of_plain_random_books_is_answered_as_by_the_oracle() {
-    let tally = sweep("test, small", 1_500, shapes::small);
+    let tally = sweep("test, small", 1_000, shapes::small);
     assert_telling(&tally, &misreadings::EVERY);
-    let tally = sweep("test, choices", 1_500, shapes::choices);
+    let tally = sweep("test, choices", 1_000, shapes::choices);
     assert_telling(&tally, &misreadings::EVERY);
 }
 

@@ -1,0 +1,69 @@
+/* Checks lesson_list from C, through the header: B's listings, what a refusal leaves, and NULL. */
+#include "host.h"
+
+#define NOISE 0xA5
+
+static uint8_t buffer[64];
+
+/* Lists into the first bytes of the buffer, all of it noise before. */
+static void expect(const char *what, const uint8_t *book, size_t length, uint32_t layer,
+                   size_t buffer_length, uint64_t expected)
+{
+    memset(buffer, NOISE, sizeof buffer);
+    expect_answer(what, lesson_list(book, length, layer, buffer, buffer_length), expected);
+}
+
+/* The buffer is these bytes and then noise to its end. */
+static void expect_buffer(const char *what, const char *bytes, size_t count)
+{
+    bool as_expected = memcmp(buffer, bytes, count) == 0;
+    size_t at;
+
+    for (at = count; at < sizeof buffer; at++)
+        as_expected = as_expected && buffer[at] == NOISE;
+    expect_true(what, as_expected);
+}
+
+static uint64_t counts(uint64_t branching, uint64_t states)
+{
+    return branching << 8 | states << 16;
+}
+
+static void expect_refused(const char *what, const uint8_t *book, size_t length, uint32_t layer,
+                           size_t buffer_length, uint64_t cause)
+{
+    expect(what, book, length, layer, buffer_length, cause);
+    expect_buffer("  and the buffer is as it was", "", 0);
+}
+
+int main(void)
+{
+    uint64_t answer;
+
+    expect("B at 3 in 12 bytes", B, sizeof B, 3, 12, counts(2, 1));
+    expect_buffer("  and its listing", "\x01\0\0\0\x0C\0\x03\0\0\0\x01\x20", 12);
+    expect("B at 3 in 40 bytes", B, sizeof B, 3, 40, counts(2, 1));
+    expect_buffer("  and its listing", "\x01\0\0\0\x0C\0\x03\0\0\0\x01\x20", 12);
+    expect("B at 1", B, sizeof B, 1, 40, counts(1, 1));
+    expect_buffer("  and its listing", "\x01\0\0\0\x0C\0\x03\0\0\0\x01\xA0", 12);
+    expect("the smallest book", smallest, sizeof smallest, 0, 12, counts(0, 1));
+    expect_buffer("  and its listing", "\x01\0\0\0\x0C\0\x01\0\0\0\x01\0", 12);
+    expect_refused("B at 3 in 11 bytes", B, sizeof B, 3, 11, LESSON_BUFFER_TOO_SHORT);
+    expect_refused("B at 4", B, sizeof B, 4, 40, LESSON_NO_SUCH_LAYER);
+    expect_refused("layer before buffer", B, sizeof B, UINT32_MAX, 0, LESSON_NO_SUCH_LAYER);
+    expect_refused("B without its last byte", B, sizeof B - 1, 3, 40, LESSON_WRONG_LENGTH);
+    expect_refused("19 bytes", smallest, 19, 0, 40, LESSON_TOO_SHORT);
+    expect_refused("no book", NULL, 0, 0, 40, LESSON_TOO_SHORT);
+    expect_answer("no buffer", lesson_list(B, sizeof B, 3, NULL, 0), LESSON_BUFFER_TOO_SHORT);
+
+    answer = lesson_list(B, sizeof B, 2, buffer, sizeof buffer);
+    expect_true("lesson_branching_count", lesson_branching_count(answer) == 2);
+    expect_true("lesson_state_count", lesson_state_count(answer) == 1);
+    answer = counts(20, 1048576);
+    expect_true("the largest of both",
+                lesson_branching_count(answer) == 20 && lesson_state_count(answer) == 1048576);
+    answer = LESSON_BUFFER_TOO_SHORT;
+    expect_true("neither after a refusal",
+                lesson_branching_count(answer) == 0 && lesson_state_count(answer) == 0);
+    return report();
+}

@@ -1,0 +1,453 @@
+//! Books of any size whose stable states are known from how they are made: for listings that are
+//! too large for the oracle, and for the benchmark.
+
+use crate::book::{not, plain, Book, Literal};
+use crate::expected::counts;
+use crate::oracle::{self, body_holds, Driven};
+use crate::rng::Rng;
+use crate::shapes::{all_arrows, hidden_order};
+
+/// A book at a driven layer, with what its listing has.
+pub struct Known {
+    pub book: Book,
+    pub layer: u8,
+    /// Document 01: g.
+    pub branching: usize,
+    /// Document 01: k.
+    pub count: usize,
+    /// The stable states in some order, by number.
+    state: Box<dyn Fn(usize) -> Vec<bool>>,
+}
+
+impl Known {
+    pub fn listing(&self) -> Vec<u8> {
+        let mut records: Vec<Vec<u8>> = (0..self.count)
+            .map(|number| oracle::record(&(self.state)(number)))
+            .collect();
+        records.sort();
+        oracle::listing(self.book.atoms, &records)
+    }
+
+    /// What `lesson_list` answers.
+    pub fn answer(&self) -> u64 {
+        counts(self.branching, self.count)
+    }
+}
+
+fn bit(number: usize, at: usize) -> bool {
+    number >> at & 1 == 1
+}
+
+/// "p if not q" and "q if not p" so many times, in one layer; and "p if not q" alone, `lone` times.
+pub fn pairs(choices: u16, lone: u16) -> Known {
+    let mut book = Book::new((2 * (choices + lone)).max(1), 1);
+    for at in 0..choices + lone {
+        let (p, q) = (2 * at, 2 * at + 1);
+        book = book.rule(0, plain(p), &[not(q)]);
+        if at < choices {
+            book = book.rule(0, plain(q), &[not(p)]);
+        }
+    }
+    let atoms = usize::from(book.atoms);
+    Known {
+        book,
+        layer: 0,
+        branching: usize::from(2 * choices + lone),
+        count: 1 << choices,
+        state: Box::new(move |number| {
+            let mut state = vec![false; atoms];
+            for at in 0..usize::from(choices) {
+                state[2 * at + usize::from(bit(number, at))] = true;
+            }
+            for at in usize::from(choices)..usize::from(choices + lone) {
+                state[2 * at] = true;
+            }
+            state
+        }),
+    }
+}
+
+/// The same states without a negated body: p and q, and above them "not p if q" and "not q if p";
+/// or p, and above it "not p if q" alone.
+pub fn displacing_pairs(choices: u16, lone: u16) -> Known {
+    let Known { book, state, .. } = pairs(choices, lone);
+    let mut displacing = Book::new(book.atoms, 2).arrow(1, 0);
+    for at in 0..choices + lone {
+        let (p, q) = (2 * at, 2 * at + 1);
+        displacing = displacing
+            .rule(1, plain(p), &[])
+            .rule(0, not(p), &[plain(q)]);
+        if at < choices {
+            displacing = displacing
+                .rule(1, plain(q), &[])
+                .rule(0, not(q), &[plain(p)]);
+        }
+    }
+    Known {
+        book: displacing,
+        layer: 0,
+        branching: usize::from(2 * choices + lone),
+        count: 1 << choices,
+        state,
+    }
+}
+
+/// A fact that may stand or not: a quarrel in layer 0, and above it rules that lean on themselves.
+fn free_fact(book: Book, atom: u16) -> Book {
+    book.rule(0, plain(atom), &[])
+        .rule(0, not(atom), &[])
+        .rule(1, plain(atom), &[plain(atom)])
+        .rule(1, not(atom), &[not(atom)])
+}
+
+/// So many facts that may stand or not, the first of them `first`; the others do not stand.
+pub fn free(choices: u16, first: u16, atoms: u16) -> Known {
+    let mut book = Book::new(atoms, 2).arrow(0, 1);
+    for at in 0..choices {
+        book = free_fact(book, first + at);
+    }
+    Known {
+        book,
+        layer: 1,
+        branching: choices.into(),
+        count: 1 << choices,
+        state: Box::new(move |number| {
+            let mut state = vec![false; usize::from(atoms)];
+            for at in 0..usize::from(choices) {
+                state[usize::from(first) + at] = bit(number, at);
+            }
+            state
+        }),
+    }
+}
+
+/// How the first facts follow the free ones, and so how the records' order lies to an order in
+/// which a search may set these.
+#[derive(Clone, Copy, Debug)]
+pub struct Following {
+    /// The first follows the last free fact, and so on.
+    pub turned_round: bool,
+    /// A follower stands where the fact does not.
+    pub opposite: bool,
+}
+
+pub const EVERY_FOLLOWING: [Following; 4] = [
+    Following {
+        turned_round: false,
+        opposite: false,
+    },
+    Following {
+        turned_round: false,
+        opposite: true,
+    },
+    Following {
+        turned_round: true,
+        opposite: false,
+    },
+    Following {
+        turned_round: true,
+        opposite: true,
+    },
+];
+
+/// The last facts may stand or not, and the first ones, `followers` of them, follow these.
+pub fn followed(choices: u16, followers: u16, atoms: u16, following: Following) -> Known {
+    let first = atoms - choices;
+    let Known {
+        mut book,
+        layer,
+        branching,
+        count,
+        state,
+    } = free(choices, first, atoms);
+    let followed = move |follower: u16| match following.turned_round {
+        true => atoms - 1 - follower,
+        false => first + follower,
+    };
+    for follower in 0..followers {
+        let literal = Literal {
+            atom: followed(follower),
+            negated: following.opposite,
+        };
+        book = book.rule(1, plain(follower), &[literal]);
+    }
+    Known {
+        book,
+        layer,
+        branching,
+        count,
+        state: Box::new(move |number| {
+            let mut state = state(number);
+            for follower in 0..followers {
+                let stands = state[usize::from(followed(follower))];
+                state[usize::from(follower)] = stands != following.opposite;
+            }
+            state
+        }),
+    }
+}
+
+/// Exactly `count` states, two at least: the first facts, read as a number, are below it. One more
+/// fact stands in no state and rules the others out.
+pub fn counted(count: usize, atoms: u16) -> Known {
+    let choices = (count - 1).ilog2() as u16 + 1;
+    let stop = choices;
+    let mut book = Book::new(atoms, 2).arrow(0, 1);
+    for atom in 0..choices {
+        book = free_fact(book, atom);
+    }
+    let at = move |atom: u16| usize::from(choices - 1 - atom);
+    // A number is too large if it is equal to the largest one up to a fact that stands only in it.
+    let too_large = |atom: u16| -> Vec<Literal> {
+        let equal = (0..atom).map(|before| Literal {
+            atom: before,
+            negated: !bit(count - 1, at(before)),
+        });
+        equal.chain([plain(atom), not(stop)]).collect()
+    };
+    for atom in (0..choices).filter(|&atom| !bit(count - 1, at(atom))) {
+        book = book.rule(1, plain(stop), &too_large(atom));
+    }
+    Known {
+        book,
+        layer: 1,
+        branching: usize::from(choices) + usize::from(!count.is_power_of_two()),
+        count,
+        state: Box::new(move |number| {
+            (0..atoms)
+                .map(|atom| atom < choices && bit(number, at(atom)))
+                .collect()
+        }),
+    }
+}
+
+/// A small book's facts under other numbers among `atoms`, and facts that follow them over plain
+/// bodies. The small book's states are the oracle's.
+pub fn spread(rng: &mut Rng, small: &Book, layer: u8, atoms: u16) -> Known {
+    let mut numbers: Vec<u16> = (0..atoms).collect();
+    rng.shuffle(&mut numbers);
+    let moved = |literal: &Literal| Literal {
+        atom: numbers[usize::from(literal.atom)],
+        ..*literal
+    };
+    let mut book = Book::new(atoms, small.layers);
+    book.arrows = small.arrows.clone();
+    for rule in &small.rules {
+        let body: Vec<Literal> = rule.body.iter().map(moved).collect();
+        book = book.rule(rule.layer, moved(&rule.head), &body);
+    }
+    // Each follows one that has a number already: a fact of the small book, or a follower.
+    let mut follows = vec![None; usize::from(atoms)];
+    for at in usize::from(small.atoms)..usize::from(atoms) {
+        if rng.chance(50) {
+            let before = rng.below(at);
+            follows[at] = Some(before);
+            book = book.rule(layer, plain(numbers[at]), &[plain(numbers[before])]);
+        }
+    }
+    rng.shuffle(&mut book.rules);
+    let driven = Driven::new(small, layer);
+    let models = driven.stable_models();
+    Known {
+        book,
+        layer,
+        branching: driven.branching_count(),
+        count: models.len(),
+        state: Box::new(move |number| {
+            let mut by_place = models[number].clone();
+            for &follows in &follows[by_place.len()..] {
+                by_place.push(follows.is_some_and(|before: usize| by_place[before]));
+            }
+            let mut state = vec![false; numbers.len()];
+            for (&number, stands) in numbers.iter().zip(by_place) {
+                state[usize::from(number)] = stands;
+            }
+            state
+        }),
+    }
+}
+
+/// A body of 16 literals that says the same.
+fn sixteen(body: &[Literal]) -> Vec<Literal> {
+    body.iter().copied().cycle().take(16).collect()
+}
+
+/// The largest lawful book, 1,024 rules of 16 literals in 32 layers, with `branching` branching
+/// facts: choices between two; facts that always stand; facts about which the layers quarrel, over
+/// the choices; and facts that follow from all these.
+pub fn busy(rng: &mut Rng, branching: u16) -> Known {
+    const BASE: u16 = 15;
+    const CONTESTED: u16 = 60;
+    let choices = (branching - 1) / 2;
+    let base = branching..branching + BASE;
+    let contested = base.end..base.end + CONTESTED;
+    let order = hidden_order(rng, 32);
+    let mut book = Book::new(256, 32);
+    book.arrows = all_arrows(&order);
+    rng.shuffle(&mut book.arrows);
+    // The last branching facts have no rule and never stand.
+    let never = branching - 1;
+    for at in 0..choices {
+        let (p, q) = (2 * at, 2 * at + 1);
+        let (one, two) = (rng.pick(&order), rng.pick(&order));
+        book =
+            book.rule(one, plain(p), &sixteen(&[not(q)]))
+                .rule(two, plain(q), &sixteen(&[not(p)]));
+    }
+    for atom in base.clone() {
+        let body = sixteen(&[not(never), not(2 * choices)]);
+        book = book.rule(rng.pick(&order), plain(atom), &body);
+    }
+    for atom in contested.clone() {
+        let mut layers = order.clone();
+        rng.shuffle(&mut layers);
+        for &layer in &layers[..8] {
+            let mut literal = |atoms: u16| Literal {
+                atom: rng.below(atoms.into()) as u16,
+                negated: rng.chance(50),
+            };
+            let body = sixteen(&[literal(branching), literal(branching), literal(branching)]);
+            let head = Literal { atom, ..literal(1) };
+            book = book.rule(layer, head, &body);
+        }
+    }
+    while book.rules.len() < 1024 {
+        let atom = rng.range(contested.end.into(), 255) as u16;
+        let mut body: Vec<Literal> = base.clone().map(plain).collect();
+        body[0] = plain(rng.range(base.start.into(), usize::from(atom) - 1) as u16);
+        body.push(Literal {
+            atom: rng.below(branching.into()) as u16,
+            negated: rng.chance(50),
+        });
+        book = book.rule(rng.pick(&order), plain(atom), &body);
+    }
+    rng.shuffle(&mut book.rules);
+    let layer = order[31];
+    let rank = move |layer: u8| order.iter().position(|&other| other == layer);
+    let rules = book.rules.clone();
+    Known {
+        book,
+        layer,
+        branching: branching.into(),
+        count: 1 << choices,
+        state: Box::new(move |number| {
+            let mut state = vec![false; 256];
+            for at in 0..usize::from(choices) {
+                state[2 * at + usize::from(bit(number, at))] = true;
+            }
+            for atom in base.clone() {
+                state[usize::from(atom)] = true;
+            }
+            for atom in contested.clone() {
+                let holding = |rule: &&_| body_holds(rule, &state);
+                let about = rules.iter().filter(|rule| rule.head.atom == atom);
+                let last = about.filter(holding).max_by_key(|rule| rank(rule.layer));
+                state[usize::from(atom)] = last.is_some_and(|rule| !rule.head.negated);
+            }
+            for atom in contested.end..256 {
+                let mut about = rules.iter().filter(|rule| rule.head.atom == atom);
+                state[usize::from(atom)] = about.any(|rule| body_holds(rule, &state));
+            }
+            state
+        }),
+    }
+}
+
+/// `shapes::worst_order` with choices: each setting in which the chain starts goes through 1,024
+/// rules of 16 literals some 200 times.
+pub fn chained(choices: u16) -> Known {
+    const LAST: u16 = 255;
+    let full = |literal| {
+        let mut body = vec![not(LAST); 15];
+        body.push(literal);
+        body
+    };
+    let mut chain = Book::new(256, 2).arrow(0, 1);
+    for atom in 0..choices {
+        chain = chain
+            .rule(0, plain(atom), &full(not(LAST)))
+            .rule(0, not(atom), &full(not(LAST)))
+            .rule(1, plain(atom), &sixteen(&[plain(atom)]))
+            .rule(1, not(atom), &sixteen(&[not(atom)]));
+    }
+    let links = (choices + 1..LAST).len();
+    while chain.rules.len() + links + 1 < 1024 {
+        chain = chain.rule(0, plain(LAST), &full(plain(LAST)));
+    }
+    for atom in (choices + 1..LAST).rev() {
+        chain = chain.rule(0, plain(atom), &full(plain(atom - 1)));
+    }
+    let book = chain.rule(0, plain(choices), &full(not(LAST)));
+    Known {
+        book,
+        layer: 1,
+        branching: usize::from(choices) + 1,
+        count: 1 << choices,
+        state: Box::new(move |number| {
+            (0..256)
+                .map(|atom| match atom < choices {
+                    true => bit(number, atom.into()),
+                    false => atom < LAST,
+                })
+                .collect()
+        }),
+    }
+}
+
+#[cfg(test)]
+mod tests {
+    use super::*;
+    use crate::book::hex;
+    use crate::rng::seed;
+    use crate::shapes::{self, Layering};
+
+    /// The book is lawful, and of the small ones the oracle says the same.
+    fn assert_known(what: &str, known: &Known) {
+        let bytes = known.book.bytes();
+        assert_eq!(crate::reader::first_cause(&bytes), 0, "{what}");
+        let driven = Driven::new(&known.book, known.layer);
+        assert_eq!(driven.branching_count(), known.branching, "{what}");
+        if known.book.atoms <= 14 {
+            assert_eq!(hex(&driven.listing()), hex(&known.listing()), "{what}");
+        } else {
+            for number in 0..known.count.min(8) {
+                assert!(driven.stable(&(known.state)(number)), "{what}");
+            }
+        }
+    }
+
+    #[test]
+    fn oracle_confirms_what_is_known() {
+        let seed = seed();
+        let mut rng = Rng::named(seed, "known");
+        for choices in 0..4 {
+            for lone in 0..3 {
+                assert_known("pairs", &pairs(choices, lone));
+                assert_known("displacing pairs", &displacing_pairs(choices, lone));
+            }
+            assert_known("free", &free(choices, 3, 12));
+            for following in EVERY_FOLLOWING {
+                let what = format!("{following:?}");
+                assert_known(&what, &followed(choices, choices, 9, following));
+            }
+        }
+        for count in 2..40 {
+            assert_known("counted", &counted(count, 9));
+        }
+        for turn in 0..300 {
+            let small = shapes::layered(&mut rng, Layering::Any);
+            let layer = rng.below(small.layers.into()) as u8;
+            let atoms = small.atoms + turn % 5;
+            let what = format!("seed {seed}, spread {}", hex(&small.bytes()));
+            assert_known(&what, &spread(&mut rng, &small, layer, atoms));
+        }
+        for branching in [1, 2, 10, 11, 20] {
+            let busy = busy(&mut rng, branching);
+            assert_eq!(busy.book.bytes().len(), 38_372);
+            assert_known("busy", &busy);
+        }
+        let chained = chained(3);
+        assert_eq!(chained.book.rules.len(), 1_024);
+        assert_known("chained", &chained);
+    }
+}

@@ -1,0 +1,709 @@
+//! `lesson_list` of the compiled archive against the oracle, against books whose states are known,
+//! and against document 01's numbers.
+
+use lesson_tests::book::{hex, not, plain, Book};
+use lesson_tests::expected::{self, counts, yes_or_no, BUFFER_TOO_SHORT};
+use lesson_tests::ffi;
+use lesson_tests::known::{self, Following, Known, EVERY_FOLLOWING};
+use lesson_tests::oracle::{self, Driven};
+use lesson_tests::plain as plain_rust;
+use lesson_tests::reader;
+use lesson_tests::rng::{seed, Rng};
+use lesson_tests::shapes::{self, Layering, B};
+use std::thread;
+
+const P: u16 = 0;
+const Q: u16 = 1;
+
+/// Driven layers that no book has.
+const NO_LAYERS: [u32; 5] = [32, 255, 256, 1 << 31, u32::MAX];
+
+/// A buffer with something in it.
+fn noise(rng: &mut Rng, length: usize) -> Vec<u8> {
+    (0..length).map(|_| rng.byte()).collect()
+}
+
+/// The outcome on `buffer` of a call that would write `listing` and give `answer`.
+fn outcome(listing: &[u8], answer: u64, buffer: &[u8]) -> ffi::Outcome {
+    let mut after = buffer.to_vec();
+    match after.get_mut(..listing.len()) {
+        Some(place) => {
+            place.copy_from_slice(listing);
+            (answer, after)
+        }
+        None => (BUFFER_TOO_SHORT, after),
+    }
+}
+
+/// The engine's outcome on fenced copies is the one expected.
+fn assert_outcome(what: &str, book: &[u8], layer: u32, buffer: &[u8], expected: &ffi::Outcome) {
+    let engine = ffi::list(book, layer, buffer);
+    assert!(
+        engine == *expected,
+        "{what}, layer {layer}, buffer of {} bytes: engine {:#X}, expected {:#X}\nbook {}\n\
+         engine's buffer   {}\nexpected          {}\nbefore            {}",
+        buffer.len(),
+        engine.0,
+        expected.0,
+        hex(book),
+        hex(&engine.1),
+        hex(&expected.1),
+        hex(buffer)
+    );
+}
+
+/// How often the cases came up for which random books are there.
+#[derive(Debug, Default)]
+struct Tally {
+    /// Listings of none, one, two or three, and more states.
+    listings: [usize; 4],
+    /// Listings with two states that agree on the negated facts and so are one to a search that
+    /// branches on these alone.
+    lost: usize,
+    calls: usize,
+}
+
+/// Compares engine and oracle at every layer of `number` books, each with buffers around the
+/// listing's length.
+fn sweep(shape: &str, number: usize, generate: impl Fn(&mut Rng) -> Book) -> Tally {
+    let seed = seed();
+    let mut rng = Rng::named(seed, shape);
+    let mut tally = Tally::default();
+    for index in 0..number {
+        let book = generate(&mut rng);
+        let bytes = book.bytes();
+        for layer in 0..book.layers {
+            let driven = Driven::new(&book, layer);
+            let models = driven.stable_models();
+            let listing = driven.listing();
+            let answer = counts(driven.branching_count(), models.len());
+            let exact = listing.len();
+            let lengths: Vec<usize> = match index % 16 {
+                0 => (0..exact + 4).collect(),
+                _ => vec![
+                    exact,
+                    exact - 1,
+                    exact + rng.range(1, 20),
+                    rng.below(exact + 10),
+                ],
+            };
+            for &length in &lengths {
+                let buffer = noise(&mut rng, length);
+                let what = format!("seed {seed}, {shape}, book {index}");
+                let expected = outcome(&listing, answer, &buffer);
+                assert_outcome(&what, &bytes, layer.into(), &buffer, &expected);
+            }
+            tally.calls += lengths.len();
+            count(&mut tally, &driven, &models);
+        }
+    }
+    println!("seed {seed}, {shape}: {number} books, {tally:?}");
+    tally
+}
+
+fn count(tally: &mut Tally, driven: &Driven, models: &[Vec<bool>]) {
+    tally.listings[match models.len() {
+        0 => 0,
+        1 => 1,
+        2..=3 => 2,
+        _ => 3,
+    }] += 1;
+    let negated = driven.negated_in_a_body();
+    let agree = |(one, two): (&Vec<bool>, &Vec<bool>)| {
+        (0..negated.len()).all(|atom| !negated[atom] || one[atom] == two[atom])
+    };
+    let mut neighbours = models.iter().zip(models.iter().skip(1));
+    tally.lost += usize::from(neighbours.any(agree));
+}
+
+/// Random books are worth their time only if none, one and several states come up, and states that
+/// only the second ground for branching tells apart.
+fn assert_telling(tally: &Tally, listings: [usize; 4], lost: usize) {
+    let enough = tally.listings.iter().zip(listings).all(|(a, b)| *a >= b);
+    assert!(enough && tally.lost >= lost, "{tally:?}");
+}
+
+#[test]
+fn listings_of_books_in_chains_are_the_oracles() {
+    let tally = sweep("list, chains", 4_000, |rng| {
+        shapes::layered(rng, Layering::Chain)
+    });
+    assert_telling(&tally, [500, 1_000, 100, 0], 10);
+}
+
+#[test]
+fn listings_of_books_in_diamonds_are_the_oracles() {
+    let tally = sweep("list, diamonds", 4_000, |rng| {
+        shapes::layered(rng, Layering::Diamond)
+    });
+    assert_telling(&tally, [500, 1_000, 100, 0], 10);
+}
+
+#[test]
+fn listings_of_books_in_unrelated_branches_are_the_oracles() {
+    let tally = sweep("list, branches", 4_000, |rng| {
+        shapes::layered(rng, Layering::Branches)
+    });
+    assert_telling(&tally, [500, 1_000, 100, 0], 10);
+}
+
+#[test]
+fn listings_of_books_with_any_arrows_are_the_oracles() {
+    let tally = sweep("list, any arrows", 4_000, |rng| {
+        shapes::layered(rng, Layering::Any)
+    });
+    assert_telling(&tally, [500, 1_000, 100, 0], 10);
+}
+
+#[test]
+fn listings_of_books_with_many_states_are_the_oracles() {
+    for layering in [Layering::Chain, Layering::Diamond, Layering::Branches] {
+        let shape = format!("list, many states, {layering:?}");
+        let tally = sweep(&shape, 700, |rng| shapes::crowded(rng, layering));
+        assert_telling(&tally, [20, 50, 50, 200], 50);
+    }
+}
+
+/// Books without the motifs of `layered`.
+#[test]
+fn listings_of_plain_random_books_are_the_oracles() {
+    let tally = sweep("list, small", 1_500, shapes::small);
+    assert_telling(&tally, [500, 1_000, 0, 0], 0);
+}
+
+/// A book whose states are known is listed so in buffers around the listing's length, and each of
+/// its records passes the test.
+fn assert_known(what: &str, known: &Known) {
+    let bytes = known.book.bytes();
+    let layer = known.layer.into();
+    let listing = known.listing();
+    let mut rng = Rng::new(0);
+    for length in [listing.len(), listing.len() - 1, listing.len() + 9] {
+        let buffer = noise(&mut rng, length);
+        let expected = outcome(&listing, known.answer(), &buffer);
+        assert_outcome(what, &bytes, layer, &buffer, &expected);
+    }
+    for record in listing[11..].chunks(usize::from(known.book.atoms).div_ceil(8)) {
+        let answer = ffi::test_in_place(&bytes, layer, record);
+        assert_eq!(answer, yes_or_no(true), "{what}: {}", hex(record));
+    }
+}
+
+/// The same for long searches: one call, on a buffer with five bytes more than the listing takes.
+fn assert_known_once(what: &str, known: &Known) {
+    let listing = known.listing();
+    let mut buffer = vec![0xA5; listing.len() + 5];
+    let bytes = known.book.bytes();
+    let answer = ffi::list_in_place(&bytes, known.layer.into(), &mut buffer);
+    let (written, rest) = buffer.split_at(listing.len());
+    assert!(
+        answer == known.answer(),
+        "{what}: engine {answer:#X}, expected {:#X}",
+        known.answer()
+    );
+    let differs = written.iter().zip(&listing).position(|(a, b)| a != b);
+    assert_eq!(differs, None, "{what}: first byte that differs");
+    assert_eq!(rest, [0xA5; 5], "{what}");
+}
+
+#[test]
+fn records_are_right_at_every_length_of_theirs() {
+    let seed = seed();
+    let mut rng = Rng::named(seed, "spread");
+    let mut several = 0;
+    let sizes = [8, 9, 16, 17, 24, 63, 64, 65, 128, 129, 248, 249, 255, 256];
+    for atoms in sizes {
+        for index in 0..60 {
+            let small = match index % 3 {
+                0 => shapes::crowded(&mut rng, Layering::Chain),
+                1 => shapes::crowded(&mut rng, Layering::Diamond),
+                _ => shapes::layered(&mut rng, Layering::Any),
+            };
+            let layer = rng.below(small.layers.into()) as u8;
+            let known = known::spread(&mut rng, &small, layer, atoms);
+            assert_known(&format!("seed {seed}, spread over {atoms} facts"), &known);
+            several += usize::from(known.count > 1);
+        }
+    }
+    println!(
+        "seed {seed}, spread: {} books, {several} with several states",
+        60 * sizes.len()
+    );
+    assert!(several > 200, "only {several} with several states");
+}
+
+#[test]
+fn no_branching_fact_at_all() {
+    for atoms in [1, 7, 8, 9, 17, 64, 255, 256] {
+        let mut book = Book::new(atoms, 1);
+        assert_known_book("no rules", &book, &[vec![false; atoms.into()]]);
+        for atom in 0..atoms {
+            book = book.rule(0, plain(atom), &[plain(atom.saturating_sub(1))]);
+        }
+        assert_known_book("a circle", &book, &[vec![false; atoms.into()]]);
+        let book = book.rule(0, plain(P), &[]);
+        assert_known_book("a chain", &book, &[vec![true; atoms.into()]]);
+        let book = book.rule(0, not(P), &[]);
+        assert_known_book("a quarrel", &book, &[]);
+    }
+}
+
+/// A book of one layer without branching facts.
+fn assert_known_book(what: &str, book: &Book, states: &[Vec<bool>]) {
+    let records: Vec<Vec<u8>> = states.iter().map(|state| oracle::record(state)).collect();
+    let listing = oracle::listing(book.atoms, &records);
+    let buffer = vec![0xA5; listing.len() + 3];
+    let expected = outcome(&listing, counts(0, states.len()), &buffer);
+    assert_outcome(what, &book.bytes(), 0, &buffer, &expected);
+}
+
+#[test]
+fn one_branching_fact() {
+    assert_known("p if not q", &known::pairs(0, 1));
+    assert_known("not p if q, above p", &known::displacing_pairs(0, 1));
+    assert_known("one free fact", &known::free(1, 0, 1));
+    assert_known("one free fact, the last of 256", &known::free(1, 255, 256));
+    let none = Book::new(1, 1).rule(0, plain(P), &[not(P)]);
+    let expected = outcome(&oracle::listing(1, &[]), counts(1, 0), &[7; 11]);
+    assert_outcome("p if not p", &none.bytes(), 0, &[7; 11], &expected);
+}
+
+#[test]
+fn nineteen_branching_facts() {
+    assert_known_once("nine pairs and one", &known::pairs(9, 1));
+}
+
+/// Document 01: g of 20 is searched.
+#[test]
+fn twenty_branching_facts_are_searched() {
+    assert_known_once("ten pairs", &known::pairs(10, 0));
+}
+
+#[test]
+fn twenty_branching_facts_on_the_second_ground_alone_are_searched() {
+    assert_known_once("ten pairs", &known::displacing_pairs(10, 0));
+}
+
+/// Document 01: 21 is 12. Numbers whose low byte is small must not pass.
+#[test]
+fn more_than_twenty_branching_facts_are_refused_12() {
+    let books = [
+        known::pairs(10, 1),
+        known::pairs(11, 0),
+        known::displacing_pairs(10, 1),
+        known::displacing_pairs(0, 21),
+        known::pairs(0, 64),
+        known::pairs(127, 1),
+        known::pairs(128, 0),
+    ];
+    for known in books {
+        let layer = known.layer.into();
+        let driven = Driven::new(&known.book, known.layer);
+        assert_eq!(driven.branching_count(), known.branching);
+        for length in [0, 10, 11, 12, 1_000] {
+            let buffer = vec![0xA5; length];
+            let what = format!("g = {}", known.branching);
+            let refused = (12, buffer.clone());
+            assert_outcome(&what, &known.book.bytes(), layer, &buffer, &refused);
+        }
+    }
+}
+
+/// What is not relevant at the driven layer does not count, and no fact counts twice.
+#[test]
+fn branching_facts_are_those_of_the_driven_layer_each_counted_once() {
+    let mut book = Book::new(30, 3).arrow(0, 1);
+    for atom in 0..29 {
+        // All of them in layer 2, which nothing is below and which is below nothing.
+        book = book.rule(2, plain(29), &[not(atom), not(atom)]);
+    }
+    for atom in 0..4 {
+        book = book
+            .rule(0, plain(29), &[not(atom), not(3 - atom), not(atom)])
+            .rule(1, plain(28), &[not(atom), not(atom + 1)]);
+    }
+    let bytes = book.bytes();
+    for (layer, branching) in [(0, 4), (1, 5)] {
+        let mut buffer = vec![0; 100];
+        let answer = ffi::list_in_place(&bytes, layer, &mut buffer);
+        assert_eq!(answer, counts(branching, 1), "layer {layer}");
+    }
+    let refused = (12, vec![7; 30]);
+    assert_outcome("layer 2", &bytes, 2, &[7; 30], &refused);
+}
+
+#[test]
+fn trap_branching_only_on_negated_facts_loses_states() {
+    let book = Book::new(2, 2)
+        .arrow(0, 1)
+        .rule(0, plain(P), &[])
+        .rule(0, plain(Q), &[])
+        .rule(1, not(P), &[plain(Q)])
+        .rule(1, not(Q), &[plain(P)]);
+    let driven = Driven::new(&book, 1);
+    assert_eq!(driven.negated_in_a_body(), [false, false]);
+    let listing = [1, 0, 0, 0, 13, 0, 2, 0, 0, 0, 2, 0x40, 0x80];
+    let expected = outcome(&listing, counts(2, 2), &[7; 20]);
+    assert_outcome("no body is negated", &book.bytes(), 1, &[7; 20], &expected);
+    assert_known("five times", &known::displacing_pairs(5, 0));
+}
+
+/// Whatever the order in which the branching facts are set, and whichever value comes first, one
+/// of the four has its records in the reverse of the order in which they are found.
+#[test]
+fn trap_records_rise_whatever_the_order_of_the_search() {
+    for following in EVERY_FOLLOWING {
+        for (choices, atoms) in [(3, 6), (4, 9), (5, 256), (10, 20)] {
+            let known = known::followed(choices, choices, atoms, following);
+            let what = format!("{choices} choices, {atoms} facts, {following:?}");
+            assert_known(&what, &known);
+        }
+    }
+}
+
+/// Under either setting of p the candidate is the empty state, and it is stable.
+#[test]
+fn a_state_that_two_settings_lead_to_is_listed_once() {
+    let book = Book::new(1, 2)
+        .arrow(0, 1)
+        .rule(0, plain(P), &[])
+        .rule(1, not(P), &[plain(P)])
+        .rule(1, not(P), &[]);
+    let listing = [1, 0, 0, 0, 12, 0, 1, 0, 0, 0, 1, 0x00];
+    for length in 9..16 {
+        let buffer = vec![7; length];
+        let expected = outcome(&listing, counts(1, 1), &buffer);
+        assert_outcome("once", &book.bytes(), 1, &buffer, &expected);
+    }
+}
+
+/// The number of states does not fit into 16 bits, nor the listing's length into 16 or 18.
+#[test]
+fn more_than_65_536_states_are_listed() {
+    assert_known_once("17 free facts", &known::free(17, 0, 17));
+}
+
+/// g = 20 and k = 2^20, the most there can be.
+#[test]
+fn as_many_states_as_there_can_be_are_listed() {
+    let falling = Following {
+        turned_round: false,
+        opposite: true,
+    };
+    let known = known::followed(20, 20, 40, falling);
+    assert_eq!(known.count, 1 << 20);
+    assert_known_once("20 free facts", &known);
+}
+
+#[test]
+fn any_number_of_states_is_listed() {
+    for count in [2, 3, 5, 31, 255, 256, 257, 1_000] {
+        assert_known(&format!("{count} states"), &known::counted(count, 17));
+    }
+}
+
+#[test]
+fn largest_lawful_books_are_listed() {
+    let seed = seed();
+    let mut rng = Rng::named(seed, "busy");
+    for branching in [1, 4, 9, 10, 11] {
+        let known = known::busy(&mut rng, branching);
+        let what = format!("seed {seed}, g = {branching}");
+        assert_known(&what, &known);
+    }
+    assert_known_once("worst order for filling", &known::chained(2));
+}
+
+/// Equal rules, repeated literals, the order of rules and of arrows and the numbers of layers
+/// change nothing.
+#[test]
+fn books_that_say_the_same_have_equal_listings() {
+    let seed = seed();
+    let mut rng = Rng::named(seed, "the same");
+    for index in 0..500 {
+        let small = shapes::layered(&mut rng, Layering::Any);
+        let layer = rng.below(small.layers.into()) as u8;
+        let atoms = rng.pick(&[8, 9, 17, 256]);
+        let known = known::spread(&mut rng, &small, layer, atoms);
+        let mut renamed: Vec<u8> = (0..32).collect();
+        rng.shuffle(&mut renamed);
+        let mut same = Book::new(atoms, 32);
+        for arrow in &known.book.arrows {
+            same = same.arrow(
+                renamed[usize::from(arrow.earlier)],
+                renamed[usize::from(arrow.later)],
+            );
+        }
+        for rule in &known.book.rules {
+            for _ in 0..rng.range(1, 2) {
+                let mut body = rule.body.clone();
+                body.extend_from_slice(&rule.body[..rng.range(0, rule.body.len())]);
+                rng.shuffle(&mut body);
+                same = same.rule(renamed[usize::from(rule.layer)], rule.head, &body);
+            }
+        }
+        rng.shuffle(&mut same.arrows);
+        rng.shuffle(&mut same.rules);
+        let listing = known.listing();
+        let buffer = noise(&mut rng, listing.len() + 2);
+        let expected = outcome(&listing, known.answer(), &buffer);
+        let what = format!("seed {seed}, the same, book {index}");
+        let layer = renamed[usize::from(layer)].into();
+        assert_outcome(&what, &same.bytes(), layer, &buffer, &expected);
+    }
+    println!("seed {seed}, the same: 500 books");
+}
+
+/// Document 01: B with arrow count 5 is refused 4.
+#[test]
+fn example_b_with_arrow_count_5() {
+    let mut bytes = B;
+    bytes[13] = 5;
+    assert_outcome("B", &bytes, 3, &[7; 40], &(4, vec![7; 40]));
+}
+
+/// Document 01: B in 11 bytes of listing buffer is 13, in 12 it is granted.
+#[test]
+fn example_b_in_11_and_in_12_bytes() {
+    let listing = [1, 0, 0, 0, 12, 0, 3, 0, 0, 0, 1, 0x20];
+    for length in 0..=11 {
+        let buffer = vec![7; length];
+        assert_outcome("B", &B, 3, &buffer, &(13, buffer.clone()));
+    }
+    let granted = (counts(2, 1), listing.to_vec());
+    assert_outcome("B", &B, 3, &[7; 12], &granted);
+}
+
+/// Document 01: one fact, one layer, no records has 20 bytes and the record `00`; its first 19
+/// bytes are 1.
+#[test]
+fn example_one_fact_one_layer_no_records() {
+    let bytes = shapes::smallest().bytes();
+    assert_eq!(bytes.len(), 20);
+    let listing = [1, 0, 0, 0, 12, 0, 1, 0, 0, 0, 1, 0x00];
+    let granted = (counts(0, 1), listing.to_vec());
+    assert_outcome("smallest", &bytes, 0, &[7; 12], &granted);
+    assert_outcome("19 bytes", &bytes[..19], 0, &[7; 12], &(1, vec![7; 12]));
+}
+
+/// Document 01: an arrow from a layer to itself is 8; 256 facts pass, 257 are 5.
+#[test]
+fn example_self_arrow_and_257_facts() {
+    let refused = |book: Book, cause: u64| {
+        let buffer = [7; 60];
+        assert_outcome(
+            "refused",
+            &book.bytes(),
+            0,
+            &buffer,
+            &(cause, buffer.to_vec()),
+        );
+    };
+    refused(Book::new(1, 2).arrow(0, 0), 8);
+    refused(Book::new(257, 1), 5);
+    assert_known_book("256 facts", &Book::new(256, 1), &[vec![false; 256]]);
+}
+
+/// The starred examples, whose listings are proved of the definitions, by the compiled call.
+#[test]
+fn starred_examples_have_the_listings_of_document_01() {
+    let above = |atoms| Book::new(atoms, 2).arrow(0, 1);
+    let two_layers_below = Book::new(1, 3).arrow(0, 2).arrow(1, 2);
+    let b = shapes::book_b;
+    let one = || Book::new(1, 1);
+    let choice = Book::new(2, 1)
+        .rule(0, plain(P), &[not(Q)])
+        .rule(0, plain(Q), &[not(P)]);
+    let quarrel = |book: Book| book.rule(0, plain(P), &[]).rule(0, not(P), &[]);
+    let examples: [(Book, u32, &[u8], usize); 11] = [
+        (b(), 3, &[0x20], 2),
+        (b(), 1, &[0xA0], 1),
+        (b(), 2, &[0x80], 2),
+        (choice, 0, &[0x40, 0x80], 2),
+        (one().rule(0, plain(P), &[not(P)]), 0, &[], 1),
+        (quarrel(one()), 0, &[], 0),
+        (one().rule(0, plain(P), &[plain(P)]), 0, &[0x00], 0),
+        (
+            two_layers_below.rule(0, plain(P), &[]).rule(1, not(P), &[]),
+            2,
+            &[],
+            0,
+        ),
+        (
+            above(2)
+                .rule(0, plain(P), &[])
+                .rule(0, plain(Q), &[])
+                .rule(1, not(P), &[plain(Q)])
+                .rule(1, not(Q), &[plain(P)]),
+            1,
+            &[0x40, 0x80],
+            2,
+        ),
+        (
+            above(1).rule(0, plain(P), &[]).rule(1, not(P), &[not(P)]),
+            1,
+            &[0x80],
+            1,
+        ),
+        (
+            quarrel(above(1)).rule(1, plain(P), &[plain(P)]),
+            1,
+            &[0x80],
+            1,
+        ),
+    ];
+    for (at, (book, layer, records, branching)) in examples.iter().enumerate() {
+        let records: Vec<Vec<u8>> = records.iter().map(|&byte| vec![byte]).collect();
+        let listing = oracle::listing(book.atoms, &records);
+        let expected = outcome(&listing, counts(*branching, records.len()), &[7; 20]);
+        let what = format!("starred example {at}");
+        assert_outcome(&what, &book.bytes(), *layer, &[7; 20], &expected);
+    }
+}
+
+/// What the call comes to by reader and oracle, or by plain Rust where the book is too large for
+/// the oracle.
+fn outcome_of_any(book: &[u8], layer: u32, buffer: &[u8]) -> ffi::Outcome {
+    match reader::read(book) {
+        Ok(read) if read.atoms > 10 => {
+            let mut after = buffer.to_vec();
+            let answer = plain_rust::list(book, layer, &mut after);
+            (answer, after)
+        }
+        _ => expected::list(book, layer, buffer),
+    }
+}
+
+/// A book that is refused, or whose search is short: few facts, or so many that most large books
+/// have too many branching ones.
+fn quick(mut generate: impl FnMut() -> Vec<u8>) -> Vec<u8> {
+    loop {
+        let bytes = generate();
+        match reader::read(&bytes) {
+            Ok(book) if (13..40).contains(&book.atoms) && book.rules.len() > 20 => continue,
+            _ => return bytes,
+        }
+    }
+}
+
+#[test]
+fn any_bytes_come_to_what_reader_and_oracle_say() {
+    let seed = seed();
+    let mut rng = Rng::named(seed, "list, any call");
+    let mut tally = [0; 14];
+    let mut books = 0;
+    for (shape, generate) in shapes::EVERY_SHAPE {
+        let number = match shape.starts_with("large") {
+            true => 150,
+            false => 2_000,
+        };
+        for index in 0..number {
+            let bytes = quick(|| generate(&mut rng));
+            let layers = usize::from(bytes.get(7).copied().unwrap_or(1));
+            let layer = match rng.chance(85) {
+                true => rng.below(layers.max(1)) as u32,
+                false => rng
+                    .pick(&NO_LAYERS)
+                    .min(layers as u32 + rng.below(3) as u32),
+            };
+            let length = rng.pick(&[0, 11, 12, 13, 20, 50, 200]);
+            let buffer = noise(&mut rng, length);
+            let what = format!("seed {seed}, {shape}, book {index}");
+            let expected = outcome_of_any(&bytes, layer, &buffer);
+            assert_outcome(&what, &bytes, layer, &buffer, &expected);
+            tally[(expected.0 & 0xFF) as usize] += 1;
+        }
+        books += number;
+    }
+    println!("seed {seed}, list, any call: {books} books, answers 0 to 13: {tally:?}");
+    for answer in [0, 1, 2, 3, 4, 5, 6, 7, 8, 9, 12, 13] {
+        assert!(tally[answer] >= 100, "{answer} is rare: {tally:?}");
+    }
+    assert_eq!(tally[10] + tally[11], 0);
+}
+
+/// Bits 0 to 7 of `causes` for causes 1 to 8, then 9, 12 and 13.
+#[test]
+fn of_several_causes_the_smallest_is_given() {
+    const CAUSES: [u64; 11] = [1, 2, 3, 4, 5, 6, 7, 8, 9, 12, 13];
+    let seed = seed();
+    let mut rng = Rng::named(seed, "list, smallest cause");
+    let few = known::displacing_pairs(2, 0);
+    let many = known::displacing_pairs(10, 1);
+    for causes in 0..1 << CAUSES.len() {
+        let wanted = |at: usize| causes >> at & 1 == 1;
+        for _ in 0..3 {
+            let known = if wanted(9) { &many } else { &few };
+            let bytes = shapes::broken(&mut rng, &known.book, causes as u8);
+            let layer = match wanted(8) {
+                true => rng.pick(&NO_LAYERS),
+                false => known.layer.into(),
+            };
+            let listing = few.listing();
+            let length = match wanted(10) {
+                true => rng.below(listing.len()),
+                false => listing.len() + rng.below(9),
+            };
+            let buffer = noise(&mut rng, length);
+            let expected = match (0..CAUSES.len()).find(|&at| wanted(at)) {
+                Some(smallest) => (CAUSES[smallest], buffer.clone()),
+                None => outcome(&listing, few.answer(), &buffer),
+            };
+            let what = format!("seed {seed}, causes {causes:011b}");
+            assert_outcome(&what, &bytes, layer, &buffer, &expected);
+        }
+    }
+}
+
+#[test]
+fn layers_of_the_book_are_listed_and_all_others_are_refused_9() {
+    for layers in [1, 2, 31, 32] {
+        let mut book = Book::new(6, layers);
+        for layer in 0..layers {
+            for atom in (0..5).filter(|atom| layer >> atom & 1 == 1) {
+                book = book.rule(layer, plain(atom), &[]);
+            }
+        }
+        let bytes = book.bytes();
+        for layer in 0..layers {
+            let record = (0..5).fold(0, |record, atom| record | (layer >> atom & 1) << (7 - atom));
+            let listing = oracle::listing(6, &[vec![record]]);
+            let expected = outcome(&listing, counts(0, 1), &[7; 14]);
+            assert_outcome("a layer", &bytes, layer.into(), &[7; 14], &expected);
+        }
+        for layer in NO_LAYERS.into_iter().chain([layers.into(), 256 + 1]) {
+            assert_outcome("no layer", &bytes, layer, &[7; 14], &(9, vec![7; 14]));
+        }
+    }
+}
+
+/// The low half of the length must not be all that is looked at.
+#[test]
+fn buffer_of_more_than_4_gib_is_long_enough() {
+    let mut buffer = vec![0; (1 << 32) + 5];
+    let answer = ffi::list_in_place(&B, 3, &mut buffer);
+    assert_eq!(answer, counts(2, 1));
+    assert_eq!(hex(&buffer[..13]), "010000000C0003000000012000");
+}
+
+#[test]
+fn four_threads_on_one_book_get_the_same_listing() {
+    let known = known::busy(&mut Rng::named(seed(), "list, threads"), 8);
+    let bytes = known.book.bytes();
+    let listing = known.listing();
+    let (layer, answer) = (known.layer.into(), known.answer());
+    thread::scope(|scope| {
+        for _ in 0..4 {
+            scope.spawn(|| {
+                for _ in 0..5 {
+                    let mut buffer = vec![7; listing.len()];
+                    let short = listing.len() - 1;
+                    assert_eq!(ffi::list_in_place(&bytes, layer, &mut buffer[..short]), 13);
+                    assert_eq!(buffer, vec![7; listing.len()]);
+                    assert_eq!(ffi::list_in_place(&bytes, layer, &mut buffer), answer);
+                    assert_eq!(buffer, listing);
+                }
+            });
+        }
+    });
+}
