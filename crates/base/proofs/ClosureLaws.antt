@@ -1,14 +1,14 @@
 -- The computed closure is exactly what is derived.
 -- Assumes nothing.
-use mathlib.Core.Path.{_≡_, refl, sym, ap, subst, _∙_}
-use mathlib.Core.Logic.{_⊎_, inl, inr, _↔_}
-use mathlib.Core.Bool.{Bool, true, false, not, _&&_, _||_}
-use mathlib.Core.List.{List, [], _∷_, List·Memᴰ, List·Memᴰ·head, List·Memᴰ·tail, List·Memᴰ·cases-cons, List·Memᴰ·not-nil, Memᴰ·cast}
+use mathlib.Core.Path.{_≡_, refl, sym, subst}
+use mathlib.Core.Logic.{_⊎_, inl, inr}
+use mathlib.Core.Bool.{Bool, true, false, not}
+use mathlib.Core.List.{List, [], _∷_, List·Memᴰ·head, List·Memᴰ·tail, List·Memᴰ·cases-cons, List·Memᴰ·not-nil, Memᴰ·cast}
 use Prim.Native.Nat.{ℕ, zero, suc, _<_, _≤_}
 use native.Mathlib.Omega.{arith}
 use lib.Dec.{T, T-not, not-T}
 use lib.ListN.{length}
-use Rattle.base.specs.Lists.{consIf, all, any, filter}
+use Rattle.base.specs.Lists.{consIf, all, filter}
 use Rattle.base.specs.Closure.{Clause, Consequence, given, by-clause, extend, member, fires, saturate, closure}
 use Rattle.base.proofs.Members.{_∈_, and-left, and-right, and-both, filter-from, filter-into, all-at, all-of, any-at, any-of, test}
 

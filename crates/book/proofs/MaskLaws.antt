@@ -1,23 +1,19 @@
 -- Laws for the masks: one more bit, and arrows read into bits.
 -- Assumes nothing.
 use Rattle.layers.specs.Layers.{Arrow, link, repeats, sameArrow}
-use mathlib.Core.Path.{_≡_, refl, sym, ap, subst, _∙_}
-use mathlib.Core.Bool.{Bool, true, false, not, _&&_, _||_, false≢true}
+use mathlib.Core.Path.{_≡_, refl, sym, ap, _∙_}
+use mathlib.Core.Bool.{Bool, true, false, _&&_, _||_}
 use mathlib.Core.List.{List, [], _∷_, map}
-use Prim.Native.Nat.{ℕ, zero, suc, _+_, _*_, _-_, _/_, _%_, _^_, _<_, _≤_, min, max}
+use Prim.Native.Nat.{ℕ, _+_, _-_, _<_, _≤_, min}
 use native.Mathlib.Omega.{arith}
-use native.Mathlib.Nat.{zero-div, div-eq-of-lt, div-self, mod-eq-of-lt, mul-div-cancel, pow-suc}
-use native.Mathlib.Decide.{decLt, ℕ-discrete}
-use borrow.Author.Tests.{eq-eqb, ne-eqb, eqb-true, ltb-true}
-use lib.Pow.{pow-pos, pow-lt, pow-add}
-use lib.Bits.{bitOr, shifted-even}
-use lib.Dec.{T, eqb, ltb}
-use lib.ListN.{length, getD, set, take, drop, length-take, length-drop, replicate}
-use lib.Seq.{getD-set-same, getD-set-other, getD-take, getD-drop}
+use borrow.Author.Tests.{eqb-true, ltb-true}
+use lib.Dec.{eqb, ltb}
+use lib.ListN.{length, getD, take, drop, length-take, length-drop, replicate}
+use lib.Seq.{getD-take, getD-drop}
 use Rattle.base.specs.Lists.{all, any}
 use Rattle.format.specs.Book.{records, recordEnd, arrowOf}
 use Rattle.book.specs.Causes.{arrowOk}
-use Rattle.layers.specs.Masks.{bitOf, marked}
+use Rattle.layers.specs.Masks.{marked}
 use Rattle.format.proofs.Offsets.{records-cut, records-done, end-over, end-in}
 use Rattle.layers.proofs.BitLaws.{or-false, or-assoc, and-left, and-right, none-marked}
 

@@ -1,15 +1,15 @@
 -- Laws for causes 5 and 6: the ranges, and the contents of the records of both sections. Assumes nothing.
-use mathlib.Core.Path.{_≡_, refl, sym, ap, subst, _∙_}
-use mathlib.Core.Bool.{Bool, true, false, not, _&&_, _||_, false≢true}
-use mathlib.Core.List.{List, [], _∷_}
-use Prim.Native.Nat.{ℕ, zero, suc, _+_, _*_, _-_, _<_, _≤_}
+use mathlib.Core.Path.{_≡_, refl, sym, ap, _∙_}
+use mathlib.Core.Bool.{Bool, true, false, not, _&&_}
+use mathlib.Core.List.{List}
+use Prim.Native.Nat.{ℕ, _+_, _-_, _<_, _≤_}
 use native.Mathlib.Omega.{arith}
 use native.Mathlib.Decide.{decLt}
-use borrow.Author.Tests.{le-leb, lt-leb, le-ltb, lt-ltb, leb-true, eqb-true}
-use lib.Dec.{leb, ltb, eqb}
+use borrow.Author.Tests.{le-leb, lt-leb, le-ltb, lt-ltb}
+use lib.Dec.{leb, ltb}
 use lib.ListN.{length, getD, take, drop}
 use Rattle.base.specs.Lists.{all}
-use Rattle.format.specs.Book.{u16At, u32At, records, meetsEnd, sectionBytes, sectionCount, sectionEnd, sectionRecords, atomCount, layerCount, ruleSection, arrowRecords, ruleRecords}
+use Rattle.format.specs.Book.{u16At, u32At, records, sectionBytes, sectionCount, sectionEnd, atomCount, layerCount, ruleSection, arrowRecords, ruleRecords}
 use Rattle.book.specs.Causes.{within, arrowOk, ruleOk, isOutOfRange, hasBadRecord}
 use Rattle.format.proofs.SectionLaws.{Laid, arrow-part, rule-part}
 

@@ -3,17 +3,16 @@
 use Rattle.layers.specs.Layers.{Arrow, link, repeats, sameArrow}
 use mathlib.Core.Path.{_≡_, refl, sym, ap, subst, _∙_}
 use mathlib.Core.Bool.{Bool, true, false, not, _&&_, _||_, false≢true}
-use mathlib.Core.List.{List, [], _∷_, map, List·Memᴰ, Memᴰ·cast, Memᴰ·of-map}
-use Prim.Native.Nat.{ℕ, zero, suc, _+_, _-_, _<_, _≤_}
+use mathlib.Core.List.{List, map, Memᴰ·cast, Memᴰ·of-map}
+use Prim.Native.Nat.{ℕ, _+_, _-_, _<_, _≤_}
 use native.Mathlib.Omega.{arith}
 use borrow.Author.Tests.{eq-eqb, eqb-true, ltb-true, lt-ltb, leb-true}
 use lib.Dec.{T, eqb, ltb, leb, eqb→eq, eqb-refl}
 use lib.ListN.{length, getD, take, drop}
 use Rattle.base.specs.Lists.{all, any, upTo}
-use Rattle.format.specs.Book.{u32At, u16At, records, arrowOf, arrowRecords, ruleRecords, arrowsOf, atomCount, layerCount, sectionCount, ruleSection}
+use Rattle.format.specs.Book.{u32At, records, arrowOf, arrowRecords, ruleRecords, arrowsOf, atomCount, layerCount, sectionCount, ruleSection}
 use Rattle.layers.specs.Layers.{Path, single, longer, below}
 use Rattle.layers.specs.Masks.{bitOf, marked, Linked, Way, edge, join}
-use Rattle.format.specs.Sections.{hasBrokenSection}
 use Rattle.book.specs.Causes.{within, arrowOk, ruleOk, isOutOfRange, hasBadRecord, repeatsArrow, hasCycle}
 use Rattle.base.proofs.Members.{_∈_, and-left, and-right, and-both, all-at, all-of, any-at, any-of, same-test}
 use Rattle.base.proofs.UpTo.{passed, upTo-has}

@@ -1,14 +1,14 @@
 -- The verdict from the tests made so far: a test that applies decides, one that does not hands on. Used by the three `check` functions.
 -- Assumes nothing.
-use mathlib.Core.Path.{_≡_, refl, sym, ap, _∙_}
-use mathlib.Core.Bool.{Bool, true, false, not}
-use mathlib.Core.List.{List, _∷_}
+use mathlib.Core.Path.{_≡_, refl, sym, _∙_}
+use mathlib.Core.Bool.{Bool, true, false}
+use mathlib.Core.List.{List}
 use Prim.Native.Nat.{ℕ, _<_, _≤_}
 use borrow.Author.Tests.{lt-ltb, le-ltb, eq-eqb, ne-eqb}
 use lib.ListN.{length, getD, drop}
 use Rattle.format.specs.Book.{u32At, version, lengthField}
 use Rattle.format.specs.Sections.{hasBrokenSection}
-use Rattle.book.specs.Causes.{isTooShort, hasWrongVersion, hasWrongLength, isOutOfRange, hasBadRecord, repeatsArrow, hasCycle, Test, tests, verdictIf, firstOf, verdict}
+use Rattle.book.specs.Causes.{isTooShort, hasWrongVersion, hasWrongLength, isOutOfRange, hasBadRecord, repeatsArrow, hasCycle, tests, verdictIf, firstOf, verdict}
 use Rattle.book.specs.declared.Cause.the-variants.{TooShort, WrongVersion, WrongLength, BrokenSection, OutOfRange, BadRecord, RepeatedArrow, Cycle}
 use Rattle.book.specs.declared.Verdict.{Verdict}
 use Rattle.book.specs.declared.Verdict.the-variants.{Accepted, Refused}

@@ -1,9 +1,9 @@
 -- A row can displace exactly where its mask is not empty, so the marks of all rows are the branching facts. Assumes nothing.
 use mathlib.Core.Path.{_≡_, refl, sym, ap, ap₂, subst, _∙_}
-use mathlib.Core.Bool.{Bool, true, false, not, _&&_, _||_}
-use mathlib.Core.List.{List, [], _∷_, _++_, map}
-use Prim.Native.Nat.{ℕ, zero, suc, _+_, _*_, _-_, _/_, _%_, _^_, _<_, _≤_}
-use native.Mathlib.Nat.{div-one, div-div-eq-div-mul, pow-suc, mul-comm, zero-div}
+use mathlib.Core.Bool.{Bool, false, not, _||_}
+use mathlib.Core.List.{List, [], _∷_, map}
+use Prim.Native.Nat.{ℕ, zero, suc, _+_, _-_, _/_, _%_, _^_, _<_, _≤_}
+use native.Mathlib.Nat.{div-one, div-div-eq-div-mul, pow-suc, mul-comm}
 use native.Mathlib.Decide.{ℕ-discrete}
 use native.Mathlib.Numerals.{add-one}
 use native.Mathlib.Omega.{arith}
@@ -22,7 +22,6 @@ use Rattle.models.specs.StableModels.{atomHolds, overrides}
 use Rattle.models.specs.Branching.{canReject, branching}
 use Rattle.table.specs.Rows.{rowCount, bodyStart, bodyBytes, rowAt, rowsOf}
 use Rattle.table.specs.Table.{Tabulates}
-use Rattle.table.proofs.RowLaws.{row-of}
 use Rattle.branching.specs.Marks.{branchesIn, BodyMarked, BranchingMarks}
 
 -- a number that is not 0 has a bit that is set

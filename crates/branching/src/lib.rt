@@ -3,8 +3,6 @@ ghost use mathlib.Core.Path.{_≡_};
 ghost use mathlib.Core.Bool.{_&&_, _||_};
 ghost use Prim.Native.Nat.{_%_, _<_, _≤_};
 ghost use lib.Dec.{leb, ltb};
-ghost use lib.ListN.{length};
-ghost use Rattle.models.specs.StableModels.{WellFormed};
 ghost use Rattle.table.specs.Table.{programOf, Tabulates};
 ghost use Rattle.branching.specs.Marks.{BodyMarked, BranchingMarks, Listed};
 use base::wide;

@@ -1,6 +1,6 @@
 -- Records are taken one after the other: laws for a walk by offset.
 -- Assumes nothing.
-use mathlib.Core.Path.{_≡_, refl, sym, ap, subst, _∙_}
+use mathlib.Core.Path.{_≡_, refl, sym, ap, _∙_}
 use mathlib.Core.Bool.{Bool, true, false, _&&_}
 use mathlib.Core.List.{List, [], _∷_}
 use Prim.Native.Nat.{ℕ, zero, suc, _+_, _-_, _<_, _≤_, min}
@@ -9,8 +9,8 @@ use native.Mathlib.Decide.{decLt}
 use borrow.Author.Tests.{le-leb, lt-leb}
 use lib.Dec.{leb, eqb}
 use lib.ListN.{length, getD, take, drop, length-drop, drop-of-length-le}
-use lib.Seq.{drop-cons, drop-drop, take-nil, take-all}
-use Rattle.base.specs.Lists.{all, any}
+use lib.Seq.{drop-cons, drop-drop, take-all}
+use Rattle.base.specs.Lists.{all}
 use Rattle.format.specs.Book.{recordsIn, records, meetsEndIn, meetsEnd, recordEnd}
 
 -- more turns than bytes change nothing

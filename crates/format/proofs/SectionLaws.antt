@@ -1,15 +1,13 @@
 -- Laws for the sections: what the tests say of offsets.
 -- Assumes nothing.
-use mathlib.Core.Path.{_≡_, refl, sym, ap, subst, _∙_}
+use mathlib.Core.Path.{_≡_, refl, sym, ap, _∙_}
 use mathlib.Core.Bool.{Bool, true, false, not, _&&_, _||_, false≢true}
-use mathlib.Core.List.{List, [], _∷_}
-use Prim.Native.Nat.{ℕ, zero, suc, _+_, _*_, _-_, _<_, _≤_}
+use mathlib.Core.List.{List}
+use Prim.Native.Nat.{ℕ, _+_, _-_, _<_, _≤_}
 use native.Mathlib.Omega.{arith}
-use native.Mathlib.Decide.{decLt}
-use borrow.Author.Tests.{le-leb, lt-leb, le-ltb, lt-ltb, leb-true, eqb-true}
-use lib.Dec.{leb, ltb, eqb}
-use lib.ListN.{length, getD, take, drop}
-use Rattle.base.specs.Lists.{all}
+use borrow.Author.Tests.{le-leb, lt-leb, leb-true, eqb-true}
+use lib.Dec.{eqb}
+use lib.ListN.{length, take, drop}
 use Rattle.format.specs.Book.{u16At, u32At, records, meetsEnd, sectionBytes, sectionCount, sectionEnd, sectionRecords, ruleSection, arrowRecords, ruleRecords}
 use Rattle.format.specs.Sections.{wholeSection, hasBrokenSection}
 

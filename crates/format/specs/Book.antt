@@ -1,6 +1,6 @@
 -- Document 01, "The book": its fields, its two sections, their records, and the facts, layers, arrows and rules that they give.
 -- Each definition is total: a byte past the end reads as 0, and what that means is left to the causes. Assumes nothing.
-use mathlib.Core.Bool.{Bool, true, false, _&&_}
+use mathlib.Core.Bool.{Bool, true, _&&_}
 use mathlib.Core.List.{List, [], _∷_, map}
 use Prim.Native.Nat.{ℕ, zero, suc, _+_, _*_, _%_, min}
 use lib.Dec.{leb}

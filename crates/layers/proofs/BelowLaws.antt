@@ -1,13 +1,12 @@
 -- The test `below` passes exactly where there is a path.
 -- Assumes nothing.
 use Rattle.layers.specs.Layers.{Arrow}
-use mathlib.Core.Path.{_≡_, refl, sym, ap, subst, _∙_}
-use mathlib.Core.Bool.{Bool, true, false, not, _&&_, _||_}
-use mathlib.Core.List.{List, [], _∷_, _++_, map, List·Memᴰ, List·Memᴰ·head, List·Memᴰ·tail, List·Memᴰ·eq-of-singleton, Memᴰ·map, Memᴰ·of-map}
-use Prim.Native.Nat.{ℕ, zero, suc, _<_, _≤_}
+use mathlib.Core.Path.{_≡_, refl, sym, subst}
+use mathlib.Core.List.{List, map, List·Memᴰ·head, List·Memᴰ·eq-of-singleton, Memᴰ·map, Memᴰ·of-map}
+use Prim.Native.Nat.{ℕ}
 use lib.Dec.{T, eqb, eqb-refl, eqb→eq}
 use Rattle.base.specs.Lists.{filter}
-use Rattle.base.specs.Closure.{Clause, Consequence, given, by-clause, member, closure}
+use Rattle.base.specs.Closure.{Clause, Consequence, given, by-clause}
 use Rattle.layers.specs.Layers.{Path, single, longer, backwards, layersBelow, below}
 use Rattle.base.proofs.Members.{_∈_, filter-from, filter-into}
 use Rattle.base.proofs.ClosureLaws.{member-sound, member-complete, closure-sound, closure-complete}

@@ -1,22 +1,18 @@
 -- Two stable states that agree on the branching facts are equal.
 -- Assumes nothing.
-use mathlib.Core.Path.{_≡_, refl, sym, ap, ap₂, subst, _∙_}
-use mathlib.Core.Logic.{_⊎_, inl, inr}
-use mathlib.Core.Bool.{Bool, true, false, not, _&&_, _||_, false≢true}
-use mathlib.Core.List.{List, [], _∷_, List·Memᴰ}
-use Prim.Native.Nat.{ℕ, zero, suc, _<_, _≤_}
-use native.Mathlib.Omega.{arith}
+use mathlib.Core.Path.{_≡_, refl, sym, subst, _∙_}
+use mathlib.Core.Bool.{Bool, true, false, _&&_, _||_, false≢true}
+use Prim.Native.Nat.{ℕ, _<_}
 use lib.Dec.{T, T-not, not-T, eqb, eqb-refl}
-use lib.ListN.{length, getD}
 use lib.Seq.{ext-getD}
-use Rattle.base.specs.Lists.{all, any, filter}
+use Rattle.base.specs.Lists.{any}
 use Rattle.models.specs.Program.{Program}
 use Rattle.format.specs.Book.{Literal, Rule}
 use Rattle.models.specs.StableModels.{Interpretation, atomHolds, signed, holds, bodyHolds, overrides, rejected}
 use Rattle.models.specs.Branching.{canReject, branching}
 use Rattle.models.specs.Condition3.{BranchingDecides}
 use Rattle.models.specs.StableModels.{Derived, by-default, by-rule, StableModel, WellFormed}
-use Rattle.base.proofs.Members.{_∈_, and-left, and-right, and-both, or-left, or-right, filter-from, all-at, all-of, any-at, any-of, same-test}
+use Rattle.base.proofs.Members.{_∈_, and-left, and-right, and-both, or-right, all-at, all-of, any-at, any-of, same-test}
 
 module _ (P : Program) (w : WellFormed P) where
   -- a literal of a relevant rule's body that is negated, or whose rule may displace, names a branching fact

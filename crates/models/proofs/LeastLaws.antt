@@ -1,20 +1,17 @@
 -- The computed tests and the statements agree: `least` has exactly what is `Derived`, and `stable` is `StableModel`.
 -- Assumes nothing.
-use mathlib.Core.Path.{_≡_, refl, sym, ap, ap₂, subst, _∙_}
-use mathlib.Core.Logic.{_⊎_, inl, inr, _↔_}
-use mathlib.Core.Bool.{Bool, true, false, not, _&&_, _||_, Bool·beq}
-use mathlib.Core.List.{List, [], _∷_, _++_, map, List·Memᴰ, List·Memᴰ·head, List·Memᴰ·tail, List·Memᴰ·cases-cons, List·Memᴰ·not-nil, List·Memᴰ·append-cases, List·Memᴰ·eq-of-singleton, Memᴰ·append-left, Memᴰ·append-right, Memᴰ·map, Memᴰ·of-map, Memᴰ·cast}
-use Prim.Native.Nat.{ℕ, zero, suc, _<_, _≤_}
-use native.Mathlib.Omega.{arith}
-use native.Mathlib.Nat.{eq-or-lt-of-le, le-of-suc-le-suc}
+use mathlib.Core.Path.{_≡_, refl, sym, subst}
+use mathlib.Core.Bool.{Bool, true, false, not, _&&_, Bool·beq}
+use mathlib.Core.List.{List, map, Memᴰ·map, Memᴰ·of-map}
+use Prim.Native.Nat.{ℕ, _<_}
 use lib.Dec.{T, eqb, eqb-refl, eqb→eq}
-use lib.ListN.{length, getD}
-use Rattle.base.specs.Lists.{all, any, filter, upTo}
-use Rattle.base.specs.Closure.{Clause, Consequence, given, by-clause, member, closure}
+use lib.ListN.{length}
+use Rattle.base.specs.Lists.{filter, upTo}
+use Rattle.base.specs.Closure.{Clause, Consequence, given, by-clause, member}
 use Rattle.models.specs.Program.{Program}
 use Rattle.format.specs.Book.{Literal, Rule}
 use Rattle.models.specs.StableModels.{Interpretation, atomHolds, signed, holds, sameLiteral, rejected, default, defaults, activeRules, clauseOf, least, agreesAt, stable}
-use Rattle.models.specs.StableModels.{Derived, by-default, by-rule, StableModel, WellFormed}
+use Rattle.models.specs.StableModels.{Derived, by-default, by-rule, StableModel}
 use Rattle.base.proofs.Members.{_∈_, and-left, and-right, and-both, filter-from, filter-into, all-at, all-of, same-test}
 use Rattle.base.proofs.UpTo.{upTo-lt, upTo-has}
 use Rattle.base.proofs.ClosureLaws.{member-sound, member-complete, closure-sound, closure-complete}

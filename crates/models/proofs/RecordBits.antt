@@ -1,8 +1,8 @@
 -- A record's bits are the state's facts.
 -- Assumes nothing.
-use mathlib.Core.Path.{_≡_, refl, sym, ap, subst, _∙_}
+use mathlib.Core.Path.{_≡_, refl, ap, subst, _∙_}
 use mathlib.Core.Bool.{Bool, true, false, not}
-use mathlib.Core.List.{List, [], _∷_, map}
+use mathlib.Core.List.{[], _∷_}
 use Prim.Native.Nat.{ℕ, zero, suc, _+_, _*_, _-_, _/_, _%_, _^_, _<_, _≤_}
 use native.Mathlib.Nat.{zero-div, div-eq-of-lt, mul-add-div-right, pow-suc}
 use native.Mathlib.Omega.{arith}
@@ -10,7 +10,7 @@ use mathlib.Core.Logic.{_⊎_, inl, inr}
 use lib.Dec.{T, eqb, ltb, ltb→lt, nltb→le}
 use Rattle.base.proofs.Members.{test}
 use lib.Pow.{pow-pos, pow-add, high as digits}
-use lib.ListN.{length, getD, drop}
+use lib.ListN.{getD, drop}
 use lib.Seq.{getD-drop}
 use Rattle.models.specs.StableModels.{Interpretation, atomHolds}
 use Rattle.models.specs.Listing.{bitValue, bitsValue, packed, bitAt, recordOf, recordSize}

@@ -1,14 +1,14 @@
 -- The records of two states, compared as byte strings, are in the states' order; inserting a state keeps a list rising.
 -- Assumes nothing.
-use mathlib.Core.Path.{_≡_, refl, sym, ap, ap₂, subst, _∙_}
+use mathlib.Core.Path.{_≡_, subst}
 use mathlib.Core.Logic.{_⊎_, inl, inr}
-use mathlib.Core.Bool.{Bool, true, false}
+use mathlib.Core.Bool.{true, false}
 use mathlib.Core.List.{List, [], _∷_, _++_}
-use Prim.Native.Nat.{ℕ, zero, suc, _+_, _*_, _/_, _^_, _<_, _≤_}
+use Prim.Native.Nat.{ℕ, zero, suc, _<_}
 use native.Mathlib.Omega.{arith}
 use lib.ListN.{length, take, drop, take-append-drop, length-drop}
 use Rattle.models.specs.StableModels.{Interpretation}
-use Rattle.models.specs.Listing.{bitValue, bitsValue, packed, recordSize, recordOf}
+use Rattle.models.specs.Listing.{bitValue, bitsValue, packed}
 use Rattle.models.proofs.InterpretationLaws.{_⊏_}
 use Rattle.models.proofs.RecordLaws.{high-lt, high-same}
 

@@ -1,5 +1,5 @@
 -- Document 01's starred classroom examples, as one table and one theorem: the bytes of the listing, and g. Assumes nothing.
-use mathlib.Core.Bool.{Bool, true, false, not, _&&_, _||_}
+use mathlib.Core.Bool.{Bool, true, false, _&&_}
 use mathlib.Core.List.{List, [], _∷_, _++_, map}
 use Prim.Native.Nat.{ℕ}
 use lib.Dec.{T, eqb}

@@ -38,15 +38,18 @@ unfolding foundBy
 at-leaf leaf [] o e = refl
 at-leaf leaf (f ∷ fs) o e = absurd (omega arith)
 
-module _ (n : ℕ) (leaf : Interpretation → List Interpretation) (undecided : List ℕ) (o : Interpretation) where
-  module _ (empty : length undecided ≡ 0) (ok : Bool) (m : Interpretation) (is : leaf o ≡ consIf ok m []) where
-    pub leaf-met : ok ≡ true → (v : Visit) (p : List ℕ) (v′ : Visit) (p′ : List ℕ) → Met n m v p v′ p′ → Searched n (foundBy leaf undecided o) v p v′ p′
-    leaf-met y v p v′ p′ a =
-        subst (λ (ms : List Interpretation). Searched n ms v p v′ p′) (sym (at-leaf leaf undecided o empty ∙ is ∙ kept-yes ok m y)) (searched-one n m v p v′ p′ a)
+-- a setting whose model is known, or that has none
+module _ (n : ℕ) (ms : List Interpretation) (ok : Bool) (m : Interpretation) (is : ms ≡ consIf ok m []) where
+  pub setting-met : ok ≡ true → (v : Visit) (p : List ℕ) (v′ : Visit) (p′ : List ℕ) → Met n m v p v′ p′ → Searched n ms v p v′ p′
+  setting-met y v p v′ p′ a = subst (λ (l : List Interpretation). Searched n l v p v′ p′) (sym (is ∙ kept-yes ok m y)) (searched-one n m v p v′ p′ a)
 
-    pub leaf-empty : ok ≡ false → (v : Visit) (p : List ℕ) → Searched n (foundBy leaf undecided o) v p v p
-    leaf-empty y v p =
-        subst (λ (ms : List Interpretation). Searched n ms v p v p) (sym (at-leaf leaf undecided o empty ∙ is ∙ kept-no ok m y)) (searched-none n v p)
+  pub setting-empty : ok ≡ false → (v : Visit) (p : List ℕ) → Searched n ms v p v p
+  setting-empty y v p = subst (λ (l : List Interpretation). Searched n l v p v p) (sym (is ∙ kept-no ok m y)) (searched-none n v p)
+
+module _ (n : ℕ) (leaf : Interpretation → List Interpretation) (undecided : List ℕ) (o : Interpretation) where
+  -- no fact is left: the setting itself
+  pub leaf-searched : length undecided ≡ 0 → (v : Visit) (p : List ℕ) (v′ : Visit) (p′ : List ℕ) → Searched n (leaf o) v p v′ p′ → Searched n (foundBy leaf undecided o) v p v′ p′
+  leaf-searched empty v p v′ p′ s = subst (λ (l : List Interpretation). Searched n l v p v′ p′) (sym (at-leaf leaf undecided o empty)) s
 
   module _ (some : length undecided ≡ 0 → ⊥) where
     -- the undecided facts after the first, as the code cuts them

@@ -147,6 +147,29 @@ pub fn meet(state: [bool; 256], n: usize, part: &mut [u8], v: Visit) -> Visit
     }
 }
 
+// Visits the stable model of one setting, if there is one. It is a function of its own so that the recursion's frames stay small.
+pub fn visit_setting(
+    book: &[u8],
+    layer: usize,
+    rows: &[u16],
+    overridden: &[u32],
+    atoms: &[u8],
+    n: usize,
+    setting: [bool; 256],
+    part: &mut [u8],
+    v: Visit,
+) -> Visit
+    requires { ⌜ Searchable (now book) (now rows) (now overridden) (now atoms) layer n × Kept n v (now part) × (v .count < 4294967296) × (stopped v ≡ false) ⌝ }
+    ensures { λ r. ⌜ Searched n (atSetting (programOf (now (book .entry)) layer) (now (atoms .entry)) setting) v (now (part .entry)) r (now (part .exit)) ⌝ }
+{
+    let found = model_at(book, layer, rows, overridden, atoms, n, setting);
+    let state = found.state;
+    if found.ok {
+        return meet(state, n, part, v);
+    }
+    v
+}
+
 // Goes through the settings of the undecided branching facts, each once, and visits the stable model of each setting, if there
 // is one. The facts decided so far are in `setting`; `atoms` has all branching facts.
 pub fn search(
@@ -168,12 +191,7 @@ pub fn search(
         return v;
     }
     if undecided.len() == 0 {
-        let found = model_at(book, layer, rows, overridden, atoms, n, setting);
-        let state = found.state;
-        if found.ok {
-            return meet(state, n, part, v);
-        }
-        return v;
+        return visit_setting(book, layer, rows, overridden, atoms, n, setting, part, v);
     }
     let f = wide(undecided[0]);
     let rest = undecided.len();

@@ -1,5 +1,4 @@
 use Rattle.book.proofs.RecordLaws.{arrow-length, arrow-earlier, arrow-later}
-use native.Mathlib.Omega.{arith}
 use borrow.Author.Needs.{needs}
 use Rattle.book.proofs.arrow_ok.Statement.{statement}
 use Rattle.book.proofs.arrow_ok.Tie as tie

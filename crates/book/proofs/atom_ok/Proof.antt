@@ -1,7 +1,6 @@
 use mathlib.Core.Path.{refl}
 use Rattle.format.specs.Book.{literalOf}
 use Rattle.book.specs.Causes.{atomBelow}
-use native.Mathlib.Omega.{arith}
 use borrow.Author.Needs.{needs}
 use Rattle.book.proofs.atom_ok.Statement.{statement}
 use Rattle.book.proofs.atom_ok.Tie as tie

@@ -1,6 +1,5 @@
-use mathlib.Core.Path.{_≡_, refl, sym, _∙_}
 use borrow.Author.Tests.{not-true, not-false}
-use Rattle.format.proofs.SectionLaws.{Laid, laid}
+use Rattle.format.proofs.SectionLaws.{laid}
 use Rattle.book.proofs.RangeLaws.{six-arrows, six-rules}
 use native.Mathlib.Omega.{arith}
 use borrow.Author.Needs.{needs}

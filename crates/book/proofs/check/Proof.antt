@@ -1,7 +1,6 @@
 -- `check` meets its contract: the three tests on the frame, and then `check_sections`. Assumes nothing.
 use mathlib.Core.Path.{_∙_}
 use Rattle.book.proofs.VerdictLaws.{one-applies, two-applies, three-applies, framed}
-use native.Mathlib.Omega.{arith}
 use borrow.Author.Needs.{needs}
 use Rattle.book.proofs.check.Statement.{statement}
 use Rattle.book.proofs.check.Tie as tie

@@ -1,8 +1,5 @@
 -- `check_arrows` meets its contract: each test's answer is its cause's predicate. Assumes nothing.
-use mathlib.Core.Path.{sym, _∙_}
 use Rattle.book.proofs.VerdictLaws.{seven-applies, eight-applies, none-applies}
-use native.Mathlib.Omega.{arith}
-use borrow.Author.Needs.{needs}
 use Rattle.book.proofs.check_arrows.Statement.{statement}
 use Rattle.book.proofs.check_arrows.Tie as tie
 

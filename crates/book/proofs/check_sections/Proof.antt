@@ -1,7 +1,6 @@
 -- `check_sections` meets its contract: each test's answer is its cause's predicate, and the rest is `check_arrows`. Assumes nothing.
 use mathlib.Core.Path.{sym, _∙_}
 use Rattle.book.proofs.VerdictLaws.{four-applies, five-applies, six-applies, whole}
-use native.Mathlib.Omega.{arith}
 use borrow.Author.Needs.{needs}
 use Rattle.book.proofs.check_sections.Statement.{statement}
 use Rattle.book.proofs.check_sections.Tie as tie

@@ -7,7 +7,6 @@ use Rattle.format.specs.Book.{literalsOf}
 use Rattle.book.specs.Causes.{atomBelow}
 use Rattle.format.proofs.LiteralLaws.{literals-fail, literals-more, literals-done}
 use borrow.Author.Needs.{needs}
-use native.Mathlib.Omega.{arith}
 use Rattle.book.proofs.literals_ok.Statement.{statement}
 use Rattle.book.proofs.literals_ok.Tie as tie
 

@@ -1,5 +1,4 @@
-use mathlib.Core.Path.{_≡_, refl, sym, _∙_}
-use Rattle.format.proofs.SectionLaws.{Laid, laid}
+use Rattle.format.proofs.SectionLaws.{laid}
 use Rattle.book.proofs.RangeLaws.{five-facts, five-layers, five-arrows, five-rules}
 use native.Mathlib.Omega.{arith}
 use borrow.Author.Needs.{needs}

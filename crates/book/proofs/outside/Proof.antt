@@ -1,6 +1,4 @@
 use Rattle.book.proofs.RangeLaws.{out-low, out-high}
-use borrow.Author.Needs.{needs}
-use native.Mathlib.Omega.{arith}
 use Rattle.book.proofs.outside.Statement.{statement}
 use Rattle.book.proofs.outside.Tie as tie
 

@@ -1,7 +1,7 @@
 use Rattle.layers.specs.Layers.{repeats}
-use mathlib.Core.Path.{_≡_, refl, sym, _∙_}
+use mathlib.Core.Path.{_≡_, sym, _∙_}
 use mathlib.Core.List.{map}
-use Prim.Native.Nat.{ℕ, _≤_, _-_, _+_}
+use Prim.Native.Nat.{_-_, _+_}
 use lib.ListN.{length, drop}
 use Rattle.format.specs.Book.{records, arrowOf}
 use Rattle.book.proofs.MaskLaws.{Walked, ArrowAt, arrow-at, split-as, left-over, fresh, over-hit, over-next, over-end}

@@ -1,4 +1,3 @@
-use mathlib.Core.Path.{_≡_, refl}
 use Prim.Native.Nat.{_-_}
 use lib.ListN.{length, take, drop, length-drop}
 use lib.Seq.{take-all}

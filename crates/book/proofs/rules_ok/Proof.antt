@@ -3,7 +3,7 @@ use Prim.Native.Nat.{_≤_, _-_}
 use lib.ListN.{length, drop}
 use borrow.Author.Tests.{not-true, not-false}
 use Rattle.base.specs.Lists.{all}
-use Rattle.format.specs.Book.{records, recordEnd}
+use Rattle.format.specs.Book.{records}
 use Rattle.book.specs.Causes.{ruleOk}
 use Rattle.format.proofs.Offsets.{end-over, end-in, all-fails, all-more, all-done}
 use borrow.Author.Needs.{needs}

@@ -1,7 +1,5 @@
 -- `branches` meets its contract, one law for each answer. Assumes nothing.
 use Rattle.branching.proofs.MarkLaws.{not-small, negated-branches, plain-branches}
-use borrow.Author.Needs.{needs}
-use native.Mathlib.Omega.{arith}
 use Rattle.branching.proofs.branches.Statement.{statement}
 use Rattle.branching.proofs.branches.Tie as tie
 use Rattle.branching.proofs.branches.Reads as reads

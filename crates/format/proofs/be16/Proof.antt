@@ -1,5 +1,4 @@
 use Rattle.format.specs.Book.{u16At}
-use native.Mathlib.Omega.{arith}
 use borrow.Author.Needs.{needs}
 use Rattle.format.proofs.be16.Statement.{statement}
 use Rattle.format.proofs.be16.Tie as tie

@@ -1,5 +1,4 @@
 use Rattle.format.specs.Book.{u32At}
-use native.Mathlib.Omega.{arith}
 use borrow.Author.Needs.{needs}
 use Rattle.format.proofs.be32.Statement.{statement}
 use Rattle.format.proofs.be32.Tie as tie

@@ -1,4 +1,4 @@
-use mathlib.Core.Path.{_≡_, refl, sym, _∙_}
+use mathlib.Core.Path.{sym, _∙_}
 use borrow.Author.Tests.{not-true, not-false}
 use Rattle.format.proofs.SectionLaws.{sound-in, four-first, four-second, four-end}
 use native.Mathlib.Omega.{arith}

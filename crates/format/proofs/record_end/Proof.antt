@@ -1,5 +1,4 @@
 use Rattle.format.specs.Book.{recordEnd}
-use native.Mathlib.Omega.{arith}
 use borrow.Author.Needs.{needs}
 use Rattle.format.proofs.record_end.Statement.{statement}
 use Rattle.format.proofs.record_end.Tie as tie

@@ -2,7 +2,6 @@ use Prim.Native.Nat.{_-_}
 use lib.ListN.{length}
 use Rattle.format.proofs.Offsets.{Passed, passed-start, passed-fails, passed-more, passed-end}
 use borrow.Author.Needs.{needs}
-use native.Mathlib.Omega.{arith}
 use Rattle.format.proofs.whole_records.Statement.{statement}
 use Rattle.format.proofs.whole_records.Tie as tie
 

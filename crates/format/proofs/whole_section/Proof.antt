@@ -1,5 +1,4 @@
 use Rattle.format.proofs.SectionLaws.{sound-short, sound-over, sound-walk}
-use native.Mathlib.Omega.{arith}
 use borrow.Author.Needs.{needs}
 use Rattle.format.proofs.whole_section.Statement.{statement}
 use Rattle.format.proofs.whole_section.Tie as tie

@@ -1,10 +1,9 @@
-use mathlib.Core.Path.{_≡_, refl, ap}
+use mathlib.Core.Path.{ap}
 use Prim.Native.Nat.{ℕ}
 use lib.Dec.{eqb}
 use lib.ListN.{getD}
 use Rattle.layers.specs.Masks.{marked}
 use Rattle.layers.proofs.WarshallLaws.{test-bit}
-use native.Mathlib.Omega.{arith}
 use borrow.Author.Needs.{needs}
 use Rattle.layers.proofs.bit_of.Statement.{statement}
 use Rattle.layers.proofs.bit_of.Tie as tie

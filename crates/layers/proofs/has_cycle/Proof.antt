@@ -1,11 +1,10 @@
-use mathlib.Core.Path.{_≡_, refl, sym, _∙_}
+use mathlib.Core.Path.{_≡_, sym, _∙_}
 use mathlib.Core.Bool.{false}
 use Prim.Native.Nat.{_≤_, _-_}
 use Rattle.base.specs.Lists.{any, upTo}
 use Rattle.layers.specs.Masks.{marked}
 use Rattle.base.proofs.UpTo.{any-start, any-more, any-hit, any-end}
 use borrow.Author.Needs.{needs}
-use native.Mathlib.Omega.{arith}
 use Rattle.layers.proofs.has_cycle.Statement.{statement}
 use Rattle.layers.proofs.has_cycle.Tie as tie
 

@@ -1,7 +1,7 @@
-use mathlib.Core.Path.{_≡_, refl, sym, ap, _∙_}
+use mathlib.Core.Path.{_≡_, refl, sym, _∙_}
 use mathlib.Core.Logic.{⊎-elim}
-use Prim.Native.Nat.{ℕ, _+_, _-_, _<_, _≤_}
-use lib.ListN.{length, getD, set}
+use Prim.Native.Nat.{_-_, _≤_}
+use lib.ListN.{getD}
 use Rattle.layers.proofs.WarshallLaws.{Row, row-start, row-hit, row-miss, Turns, turns-start, turns-more, full, test-bit}
 use borrow.Author.Needs.{needs}
 use native.Mathlib.Omega.{arith}

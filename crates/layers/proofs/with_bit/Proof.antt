@@ -1,5 +1,4 @@
 use Rattle.layers.proofs.BitLaws.{with-bit}
-use native.Mathlib.Omega.{arith}
 use borrow.Author.Needs.{needs}
 use Rattle.layers.proofs.with_bit.Statement.{statement}
 use Rattle.layers.proofs.with_bit.Tie as tie

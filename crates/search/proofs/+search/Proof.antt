@@ -13,9 +13,8 @@ use Rattle.search.proofs.search.Reads as search′
 use Rattle.search.proofs.search.Kinds as search-kinds
 use Rattle.search.proofs.+search.Lts-search as search-lts
 use Rattle.base.proofs.wide.Reads as wide-reads
-use Rattle.search.proofs.meet.Reads as meet-reads
-use Rattle.search.proofs.model_at.Reads as model-at-reads
 use Rattle.search.proofs.stops.Reads as stops-reads
+use Rattle.search.proofs.visit_setting.Reads as visit-setting-reads
 use Rattle.search.proofs.+search.{statement}
 use Rattle.search.proofs.+search.Tie.{close}
 
@@ -31,10 +30,8 @@ search-below t = and 6 search-kinds.ps (falls 6 search-kinds.ps _<_ μ-search t)
 search-stops-requires : (t : ℕ) → search-lts.Need-stops-requires (
   stops-reads.Asked,
   stops-reads.Learnt,
-  model-at-reads.Asked,
-  model-at-reads.Learnt,
-  meet-reads.Asked,
-  meet-reads.Learnt,
+  visit-setting-reads.Asked,
+  visit-setting-reads.Learnt,
   wide-reads.Asked,
   wide-reads.Learnt,
   search-below t,
@@ -45,10 +42,8 @@ search-stops-requires t c κs = search needs
 search-returns : (t : ℕ) → search-lts.Need-returns (
   stops-reads.Asked,
   stops-reads.Learnt,
-  model-at-reads.Asked,
-  model-at-reads.Learnt,
-  meet-reads.Asked,
-  meet-reads.Learnt,
+  visit-setting-reads.Asked,
+  visit-setting-reads.Learnt,
   wide-reads.Asked,
   wide-reads.Learnt,
   search-below t,
@@ -56,41 +51,23 @@ search-returns : (t : ℕ) → search-lts.Need-returns (
 ) (search-at t) search′.Post
 search-returns t c = let s = c .before .before .before .before .before .before .before .before in let a = s .args in let q = s .pre .1 in visits.searched-stopped (a .n) _ (a .v) (a .part .now) (sym (c .before .stops .ensures) ∙ c .if1 .taken)
 
-search-model-at-requires : (t : ℕ) → search-lts.Need-model-at-requires (
+search-visit-setting-requires : (t : ℕ) → search-lts.Need-visit-setting-requires (
   stops-reads.Asked,
   stops-reads.Learnt,
-  model-at-reads.Asked,
-  model-at-reads.Learnt,
-  meet-reads.Asked,
-  meet-reads.Learnt,
+  visit-setting-reads.Asked,
+  visit-setting-reads.Learnt,
   wide-reads.Asked,
   wide-reads.Learnt,
   search-below t,
   search′.Post,
 ) (search-at t) search′.Post
-search-model-at-requires t c κs = c .before .before .before .before .before .before .before .before .before .pre .1 .0
-
-search-meet-requires : (t : ℕ) → search-lts.Need-meet-requires (
-  stops-reads.Asked,
-  stops-reads.Learnt,
-  model-at-reads.Asked,
-  model-at-reads.Learnt,
-  meet-reads.Asked,
-  meet-reads.Learnt,
-  wide-reads.Asked,
-  wide-reads.Learnt,
-  search-below t,
-  search′.Post,
-) (search-at t) search′.Post
-search-meet-requires t c κs = let s = c .before .before .before .before .before .before .before .before .before .before .before .before .before in let a = s .args in let q = s .pre .1 in (q .0 .some, q .0 .few, q .1, laws.count-fits (a .v .count) (length (a .undecided .now)) (q .2), sym (c .before .before .before .before .before .before .stops .ensures) ∙ c .before .before .before .before .before .if1 .left)
+search-visit-setting-requires t c κs = let s = c .before .before .before .before .before .before .before .before .before .before in let a = s .args in let q = s .pre .1 in (q .0, q .1, laws.count-fits (a .v .count) (length (a .undecided .now)) (q .2), sym (c .before .before .before .stops .ensures) ∙ c .before .before .if1 .left)
 
 search-same-length : (t : ℕ) → search-lts.Need-same-length (
   stops-reads.Asked,
   stops-reads.Learnt,
-  model-at-reads.Asked,
-  model-at-reads.Learnt,
-  meet-reads.Asked,
-  meet-reads.Learnt,
+  visit-setting-reads.Asked,
+  visit-setting-reads.Learnt,
   wide-reads.Asked,
   wide-reads.Learnt,
   search-below t,
@@ -101,38 +78,20 @@ search-same-length t c = search needs
 search-returns-2 : (t : ℕ) → search-lts.Need-returns-2 (
   stops-reads.Asked,
   stops-reads.Learnt,
-  model-at-reads.Asked,
-  model-at-reads.Learnt,
-  meet-reads.Asked,
-  meet-reads.Learnt,
+  visit-setting-reads.Asked,
+  visit-setting-reads.Learnt,
   wide-reads.Asked,
   wide-reads.Learnt,
   search-below t,
   search′.Post,
 ) (search-at t) search′.Post
-search-returns-2 t c = let s = c .before .before .before .before .before .before .before .before .before .before .before .before .before .before .before .before in let a = s .args in let q = s .pre .1 in laws.leaf-met (a .n) (laws.leafOf (a .book .now) (a .atoms .now) (a .layer)) (a .undecided .now) (a .setting) (c .before .before .before .before .before .before .before .if2 .taken) (c .before .before .before .before .before .before .model-at .result .ok) _ (c .before .before .before .before .before .before .model-at .ensures) (c .before .before .before .before .if3 .taken) (a .v) (a .part .now) _ _ (c .before .before .meet .ensures)
-
-search-returns-3 : (t : ℕ) → search-lts.Need-returns-3 (
-  stops-reads.Asked,
-  stops-reads.Learnt,
-  model-at-reads.Asked,
-  model-at-reads.Learnt,
-  meet-reads.Asked,
-  meet-reads.Learnt,
-  wide-reads.Asked,
-  wide-reads.Learnt,
-  search-below t,
-  search′.Post,
-) (search-at t) search′.Post
-search-returns-3 t c = let s = c .before .before .before .before .before .before .before .before .before .before .before .before in let a = s .args in let q = s .pre .1 in laws.leaf-empty (a .n) (laws.leafOf (a .book .now) (a .atoms .now) (a .layer)) (a .undecided .now) (a .setting) (c .before .before .before .if2 .taken) (c .before .before .model-at .result .ok) _ (c .before .before .model-at .ensures) (c .if3 .left) (a .v) (a .part .now)
+search-returns-2 t c = let s = c .before .before .before .before .before .before .before .before .before .before .before .before .before in let a = s .args in let q = s .pre .1 in laws.leaf-searched (a .n) (laws.leafOf (a .book .now) (a .atoms .now) (a .layer)) (a .undecided .now) (a .setting) (c .before .before .before .before .if2 .taken) (a .v) (a .part .now) _ _ (c .before .before .visit-setting .ensures)
 
 search-shared-slice-read-wide : (t : ℕ) → search-lts.Need-shared-slice-read-wide (
   stops-reads.Asked,
   stops-reads.Learnt,
-  model-at-reads.Asked,
-  model-at-reads.Learnt,
-  meet-reads.Asked,
-  meet-reads.Learnt,
+  visit-setting-reads.Asked,
+  visit-setting-reads.Learnt,
   wide-reads.Asked,
   wide-reads.Learnt,
   search-below t,
@@ -143,10 +102,8 @@ search-shared-slice-read-wide t c = search needs
 search-wide-requires : (t : ℕ) → search-lts.Need-wide-requires (
   stops-reads.Asked,
   stops-reads.Learnt,
-  model-at-reads.Asked,
-  model-at-reads.Learnt,
-  meet-reads.Asked,
-  meet-reads.Learnt,
+  visit-setting-reads.Asked,
+  visit-setting-reads.Learnt,
   wide-reads.Asked,
   wide-reads.Learnt,
   search-below t,
@@ -157,10 +114,8 @@ search-wide-requires t c κs = search needs
 search-array-write-decided : (t : ℕ) → search-lts.Need-array-write-decided (
   stops-reads.Asked,
   stops-reads.Learnt,
-  model-at-reads.Asked,
-  model-at-reads.Learnt,
-  meet-reads.Asked,
-  meet-reads.Learnt,
+  visit-setting-reads.Asked,
+  visit-setting-reads.Learnt,
   wide-reads.Asked,
   wide-reads.Learnt,
   search-below t,
@@ -171,10 +126,8 @@ search-array-write-decided t c = omega (arith, c .wide .ensures .1)
 search-sub-search : (t : ℕ) → search-lts.Need-sub-search (
   stops-reads.Asked,
   stops-reads.Learnt,
-  model-at-reads.Asked,
-  model-at-reads.Learnt,
-  meet-reads.Asked,
-  meet-reads.Learnt,
+  visit-setting-reads.Asked,
+  visit-setting-reads.Learnt,
   wide-reads.Asked,
   wide-reads.Learnt,
   search-below t,
@@ -185,10 +138,8 @@ search-sub-search t c = search needs
 search-part-search-start : (t : ℕ) → search-lts.Need-part-search-start (
   stops-reads.Asked,
   stops-reads.Learnt,
-  model-at-reads.Asked,
-  model-at-reads.Learnt,
-  meet-reads.Asked,
-  meet-reads.Learnt,
+  visit-setting-reads.Asked,
+  visit-setting-reads.Learnt,
   wide-reads.Asked,
   wide-reads.Learnt,
   search-below t,
@@ -199,10 +150,8 @@ search-part-search-start t c = search needs
 search-part-search-end : (t : ℕ) → search-lts.Need-part-search-end (
   stops-reads.Asked,
   stops-reads.Learnt,
-  model-at-reads.Asked,
-  model-at-reads.Learnt,
-  meet-reads.Asked,
-  meet-reads.Learnt,
+  visit-setting-reads.Asked,
+  visit-setting-reads.Learnt,
   wide-reads.Asked,
   wide-reads.Learnt,
   search-below t,
@@ -213,10 +162,8 @@ search-part-search-end t c = search needs
 search-search-requires : (t : ℕ) → search-lts.Need-search-requires (
   stops-reads.Asked,
   stops-reads.Learnt,
-  model-at-reads.Asked,
-  model-at-reads.Learnt,
-  meet-reads.Asked,
-  meet-reads.Learnt,
+  visit-setting-reads.Asked,
+  visit-setting-reads.Learnt,
   wide-reads.Asked,
   wide-reads.Learnt,
   search-below t,
@@ -227,10 +174,8 @@ search-search-requires t c κs = let s = c .before .before .before .before .befo
 search-array-write-decided-2 : (t : ℕ) → search-lts.Need-array-write-decided-2 (
   stops-reads.Asked,
   stops-reads.Learnt,
-  model-at-reads.Asked,
-  model-at-reads.Learnt,
-  meet-reads.Asked,
-  meet-reads.Learnt,
+  visit-setting-reads.Asked,
+  visit-setting-reads.Learnt,
   wide-reads.Asked,
   wide-reads.Learnt,
   search-below t,
@@ -241,10 +186,8 @@ search-array-write-decided-2 t c = omega (arith, c .before .before .before .befo
 search-sub-search-2 : (t : ℕ) → search-lts.Need-sub-search-2 (
   stops-reads.Asked,
   stops-reads.Learnt,
-  model-at-reads.Asked,
-  model-at-reads.Learnt,
-  meet-reads.Asked,
-  meet-reads.Learnt,
+  visit-setting-reads.Asked,
+  visit-setting-reads.Learnt,
   wide-reads.Asked,
   wide-reads.Learnt,
   search-below t,
@@ -255,10 +198,8 @@ search-sub-search-2 t c = search needs
 search-part-search-start-2 : (t : ℕ) → search-lts.Need-part-search-start-2 (
   stops-reads.Asked,
   stops-reads.Learnt,
-  model-at-reads.Asked,
-  model-at-reads.Learnt,
-  meet-reads.Asked,
-  meet-reads.Learnt,
+  visit-setting-reads.Asked,
+  visit-setting-reads.Learnt,
   wide-reads.Asked,
   wide-reads.Learnt,
   search-below t,
@@ -269,10 +210,8 @@ search-part-search-start-2 t c = search needs
 search-part-search-end-2 : (t : ℕ) → search-lts.Need-part-search-end-2 (
   stops-reads.Asked,
   stops-reads.Learnt,
-  model-at-reads.Asked,
-  model-at-reads.Learnt,
-  meet-reads.Asked,
-  meet-reads.Learnt,
+  visit-setting-reads.Asked,
+  visit-setting-reads.Learnt,
   wide-reads.Asked,
   wide-reads.Learnt,
   search-below t,
@@ -283,10 +222,8 @@ search-part-search-end-2 t c = search needs
 search-search-requires-2 : (t : ℕ) → search-lts.Need-search-requires-2 (
   stops-reads.Asked,
   stops-reads.Learnt,
-  model-at-reads.Asked,
-  model-at-reads.Learnt,
-  meet-reads.Asked,
-  meet-reads.Learnt,
+  visit-setting-reads.Asked,
+  visit-setting-reads.Learnt,
   wide-reads.Asked,
   wide-reads.Learnt,
   search-below t,
@@ -297,10 +234,8 @@ search-search-requires-2 t c κs = let s = c .before .before .before .before .be
 search-same-length-2 : (t : ℕ) → search-lts.Need-same-length-2 (
   stops-reads.Asked,
   stops-reads.Learnt,
-  model-at-reads.Asked,
-  model-at-reads.Learnt,
-  meet-reads.Asked,
-  meet-reads.Learnt,
+  visit-setting-reads.Asked,
+  visit-setting-reads.Learnt,
   wide-reads.Asked,
   wide-reads.Learnt,
   search-below t,
@@ -308,28 +243,24 @@ search-same-length-2 : (t : ℕ) → search-lts.Need-same-length-2 (
 ) (search-at t) search′.Post
 search-same-length-2 t c = search needs
 
-search-returns-4 : (t : ℕ) → search-lts.Need-returns-4 (
+search-returns-3 : (t : ℕ) → search-lts.Need-returns-3 (
   stops-reads.Asked,
   stops-reads.Learnt,
-  model-at-reads.Asked,
-  model-at-reads.Learnt,
-  meet-reads.Asked,
-  meet-reads.Learnt,
+  visit-setting-reads.Asked,
+  visit-setting-reads.Learnt,
   wide-reads.Asked,
   wide-reads.Learnt,
   search-below t,
   search′.Post,
 ) (search-at t) search′.Post
-search-returns-4 t c = let s = c .before .before .before .before .before .before .before .before .before .before .before .before .before .before .before .before .before .before .before .before .before in let a = s .args in let q = s .pre .1 in laws.both-halves (a .n) (laws.leafOf (a .book .now) (a .atoms .now) (a .layer)) (a .undecided .now) (a .setting) (c .before .before .before .before .before .before .before .before .before .before .before .before .if2 .left) (c .before .before .before .before .before .before .before .before .before .before .wide .result) (c .before .before .before .before .before .before .before .before .before .before .wide .ensures .0) (a .v) (a .part .now) _ _ _ _ (c .before .before .before .before .before .before .before .search .ensures) (c .before .before .search2 .ensures)
+search-returns-3 t c = let s = c .before .before .before .before .before .before .before .before .before .before .before .before .before .before .before .before .before .before .before .before .before in let a = s .args in let q = s .pre .1 in laws.both-halves (a .n) (laws.leafOf (a .book .now) (a .atoms .now) (a .layer)) (a .undecided .now) (a .setting) (c .before .before .before .before .before .before .before .before .before .before .before .before .if2 .left) (c .before .before .before .before .before .before .before .before .before .before .wide .result) (c .before .before .before .before .before .before .before .before .before .before .wide .ensures .0) (a .v) (a .part .now) _ _ _ _ (c .before .before .before .before .before .before .before .search .ensures) (c .before .before .search2 .ensures)
 
 pub +search-spec : {M : Type 1} → statement M
 +search-spec = close μ-search λ t. search-lts.spec (
   stops-reads.Asked,
   stops-reads.Learnt,
-  model-at-reads.Asked,
-  model-at-reads.Learnt,
-  meet-reads.Asked,
-  meet-reads.Learnt,
+  visit-setting-reads.Asked,
+  visit-setting-reads.Learnt,
   wide-reads.Asked,
   wide-reads.Learnt,
   search-below t,
@@ -339,11 +270,9 @@ pub +search-spec : {M : Type 1} → statement M
     search′.Post
     (search-stops-requires t)
     (search-returns t)
-    (search-model-at-requires t)
-    (search-meet-requires t)
+    (search-visit-setting-requires t)
     (search-same-length t)
     (search-returns-2 t)
-    (search-returns-3 t)
     (search-shared-slice-read-wide t)
     (search-wide-requires t)
     (search-array-write-decided t)
@@ -357,4 +286,4 @@ pub +search-spec : {M : Type 1} → statement M
     (search-part-search-end-2 t)
     (search-search-requires-2 t)
     (search-same-length-2 t)
-    (search-returns-4 t)
+    (search-returns-3 t)

@@ -1,0 +1,24 @@
+-- `visit_setting` meets its contract: the setting's model, if there is one, is met. Assumes nothing.
+use Rattle.search.proofs.StepLaws.{setting-met, setting-empty}
+use borrow.Author.Needs.{needs}
+use Rattle.search.proofs.visit_setting.Statement.{statement}
+use Rattle.search.proofs.visit_setting.Tie as tie
+
+model-at-requires : tie.Need-model-at-requires
+model-at-requires c κs = c .before .before .before .before .before .pre .0
+
+meet-requires : tie.Need-meet-requires
+meet-requires c κs = let q = c .before .before .before .before .before .before .before .before .before .pre in (q .0 .some, q .0 .few, q .1, q .2, q .3)
+
+same-length : tie.Need-same-length
+same-length c = search needs
+
+returns : tie.Need-returns
+returns c = let a = c .before .before .before .before .before .before .before .before .before .before .before .before .args in setting-met (a .n) _ (c .before .before .before .before .before .before .model-at .result .ok) _ (c .before .before .before .before .before .before .model-at .ensures) (c .before .before .before .before .if1 .taken) (a .v) (a .part .now) _ _ (c .before .before .meet .ensures)
+
+returns-2 : tie.Need-returns-2
+returns-2 c = let a = c .before .before .before .before .before .before .before .before .args in setting-empty (a .n) _ (c .before .before .model-at .result .ok) _ (c .before .before .model-at .ensures) (c .if1 .left) (a .v) (a .part .now)
+
+pub visit-setting-spec : {M : Type 1} → statement M
+visit-setting-spec =
+    tie.close (tie.spec model-at-requires meet-requires same-length returns returns-2)
