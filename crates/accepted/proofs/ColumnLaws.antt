@@ -2,46 +2,37 @@
 -- Assumes nothing.
 use mathlib.Core.Path.{_≡_, sym, subst, _∙_}
 use mathlib.Core.Logic.{_⊎_, inl, inr}
-use mathlib.Core.Bool.{Bool, true, false, false≢true}
 use mathlib.Core.List.{List}
-use Prim.Native.Nat.{ℕ, _+_, _*_, _%_, _^_, _<_, _≤_}
+use Prim.Native.Nat.{ℕ, _+_, _*_, _/_, _%_, _^_, _<_, _≤_}
 use native.Mathlib.Decide.{ℕ-discrete}
 use native.Mathlib.Nat.{eq-or-lt-of-le}
 use native.Mathlib.Omega.{arith}
-use borrow.Author.Tests.{eqb-true, eq-eqb}
-use lib.Bits.{bitOr}
+use lib.Bits.{bitOr, bitAnd}
 use lib.ListN.{length, getD, set, length-set}
 use lib.Seq.{getD-set-same, getD-set-other}
-use Rattle.layers.specs.Masks.{bitOf, marked, Linked}
+use Rattle.layers.specs.Masks.{bitOf, Linked}
+use Rattle.layers.proofs.WarshallLaws.{test-bit}
 use Rattle.layers.proofs.BitLaws.{pow-fits, bit-same, bit-other, or-cases, or-left, or-right, no-bit}
 use Rattle.accepted.specs.Accepted.{Column, Transposed}
 
 pub column-start : (m : List ℕ) (j : ℕ) → Column m j 0 0
 column-start m j = record { sound = λ i z. absurd (no-bit i z); full = λ i h z. absurd (omega arith) }
 
-linked-of : (m : List ℕ) (i j : ℕ) (t : Bool) → t ≡ marked m i j → t ≡ true → Linked m i j
-unfolding marked
-linked-of m i j t e q = eqb-true (bitOf (getD m i 0) j) 1 (sym e ∙ q)
-
-of-linked : (m : List ℕ) (i j : ℕ) (t : Bool) → t ≡ marked m i j → t ≡ false → Linked m i j → ⊥
-unfolding marked
-of-linked m i j t e q z = false≢true (sym q ∙ e ∙ eq-eqb (bitOf (getD m i 0) j) 1 z)
-
-module _ {m : List ℕ} {j mask n : ℕ} (w : Column m j mask n) (t : Bool) (e : t ≡ marked m n j) where
+module _ {m : List ℕ} {j mask n : ℕ} (w : Column m j mask n) where
   -- a bit that is not set
-  pub column-skip : t ≡ false → Column m j mask (n + 1)
+  pub column-skip : (bitAnd (getD m n 0 / 2 ^ j) 1 ≡ 1 → ⊥) → Column m j mask (n + 1)
   column-skip q = record { sound = w .sound; full = λ i h z. go i z (eq-or-lt-of-le (let u : i ≤ n = omega arith in u)) }
     where
       go : (i : ℕ) → Linked m i j → (i ≡ n) ⊎ (i < n) → bitOf mask i ≡ 1
-      go i z (inl x) = absurd (of-linked m n j t e q (subst (λ (k : ℕ). Linked m k j) x z))
+      go i z (inl x) = absurd (q (test-bit (getD m n 0) j ∙ subst (λ (k : ℕ). Linked m k j) x z))
       go i z (inr x) = w .full i x z
 
   -- a bit that is set
-  pub column-more : n < 32 → t ≡ true → Column m j (bitOr mask (1 * 2 ^ n % 4294967296)) (n + 1)
+  pub column-more : n < 32 → bitAnd (getD m n 0 / 2 ^ j) 1 ≡ 1 → Column m j (bitOr mask (1 * 2 ^ n % 4294967296)) (n + 1)
   column-more h q = rw (pow-fits n h) (record { sound = λ i z. from i (or-cases mask (2 ^ n) i z); full = λ i h z. into i z (eq-or-lt-of-le (let u : i ≤ n = omega arith in u)) })
     where
       itself : (i : ℕ) → Dec (n ≡ i) → bitOf (2 ^ n) i ≡ 1 → Linked m i j
-      itself i (yes x) z = subst (λ (k : ℕ). Linked m k j) x (linked-of m n j t e q)
+      itself i (yes x) z = subst (λ (k : ℕ). Linked m k j) x (sym (test-bit (getD m n 0) j) ∙ q)
       itself i (no x) z = absurd (omega (arith, bit-other n i x))
 
       from : (i : ℕ) → (bitOf mask i ≡ 1) ⊎ (bitOf (2 ^ n) i ≡ 1) → Linked m i j

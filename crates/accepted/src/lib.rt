@@ -15,7 +15,6 @@ use book::arrow_masks;
 use book::check;
 use format::be16;
 use format::be32;
-use layers::bit_of;
 use layers::transitive_closure;
 use table::RuleTable;
 use table::rule_table;
@@ -52,7 +51,7 @@ fn column(m: [u32; 32], j: usize) -> u32
     let mut mask = 0;
     let mut i = 0;
     while i < 32 {
-        if bit_of(m, i, j) {
+        if (m[i] >> (j as u32)) & 1 == 1 {
             mask = mask | (1 << (i as u32));
         }
         i += 1;
