@@ -49,7 +49,7 @@ fn column(m: [u32; 32], j: usize) -> u32
     ensures { λ r. ⌜ Column m j r 32 ⌝ }
 {
     let mut mask = 0;
-    let mut i = 0;
+    let mut i: usize = 0;
     while i < 32 {
         if (m[i] >> (j as u32)) & 1 == 1 {
             mask = mask | (1 << (i as u32));
