@@ -80,7 +80,8 @@ static inline bool lesson_is_stable(uint64_t answer)
     return (answer >> 16 & 1) != 0;
 }
 
-/* The number g of branching facts that an answer carries; 0 after a refusal. */
+/* The number g of the book's branching facts at the driven layer, those whose
+ * settings the engine goes through; 0 after a refusal. */
 static inline uint32_t lesson_branching_count(uint64_t answer)
 {
     return (uint32_t)(answer >> 8 & 0xFF);

@@ -44,6 +44,10 @@ impl Rng {
         (self.word() >> 56) as u8
     }
 
+    pub fn bytes(&mut self, length: usize) -> Vec<u8> {
+        (0..length).map(|_| self.byte()).collect()
+    }
+
     /// One of 0 to `end` - 1.
     pub fn below(&mut self, end: usize) -> usize {
         assert!(end > 0, "nothing to choose from");

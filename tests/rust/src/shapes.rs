@@ -1,6 +1,7 @@
 //! Books of every shape, lawful and not. The same generator state gives the same book.
 
 use crate::book::{framed, not, plain, set_length, Arrow, Book, Draft, Literal, Rule, Section};
+use crate::reader;
 use crate::rng::Rng;
 
 /// Book B, byte by byte as document 01 has it.
@@ -25,6 +26,10 @@ pub fn book_b() -> Book {
         .rule(1, plain(2), &[])
         .rule(2, not(0), &[plain(2)])
 }
+
+/// Driven layers that no book has, and that only an engine which takes a part of the number would
+/// find.
+pub const NO_LAYERS: [u32; 8] = [32, 255, 256, 257, 65_536, 1 << 31, u32::MAX - 255, u32::MAX];
 
 /// One fact, one layer, no records: 20 bytes.
 pub fn smallest() -> Book {
@@ -729,6 +734,18 @@ pub const EVERY_SHAPE: [Shape; 15] = [
     ("noise", noise),
     ("several causes", several_causes),
 ];
+
+/// A book of the shape that is refused, or whose search is short: of few facts, or of so many that
+/// where there are many rules, too many facts branch.
+pub fn quick(rng: &mut Rng, generate: fn(&mut Rng) -> Vec<u8>) -> Vec<u8> {
+    loop {
+        let bytes = generate(rng);
+        match reader::read(&bytes) {
+            Ok(book) if (13..40).contains(&book.atoms) && book.rules.len() > 20 => continue,
+            _ => return bytes,
+        }
+    }
+}
 
 /// A book to which each cause of `causes` applies (bit c - 1 for cause c), and none smaller than
 /// the smallest of them. With no cause the book is lawful.

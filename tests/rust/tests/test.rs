@@ -8,15 +8,11 @@ use lesson_tests::oracle::{self, Driven};
 use lesson_tests::plain as plain_rust;
 use lesson_tests::reader;
 use lesson_tests::rng::{seed, Rng};
-use lesson_tests::shapes::{self, Layering};
+use lesson_tests::shapes::{self, Layering, NO_LAYERS};
 use std::thread;
 
 const P: u16 = 0;
 const Q: u16 = 1;
-
-/// The driven layers that no book has, and some that only an engine that takes a part of the
-/// number would find.
-const NO_LAYERS: [u32; 8] = [32, 255, 256, 257, 65_536, 1 << 31, u32::MAX - 255, u32::MAX];
 
 /// Every state of so many facts.
 fn states(atoms: u16) -> impl Iterator<Item = Vec<bool>> {
@@ -86,7 +82,7 @@ fn sweep(shape: &str, number: usize, generate: impl Fn(&mut Rng) -> Book) -> Tal
                     false => tally.no += 1,
                 }
             }
-            if index % 4 == 0 && book.atoms <= 4 {
+            if index % 2 == 0 && book.atoms <= 4 {
                 count_told_apart(&mut tally, &book, layer);
             }
         }
@@ -111,8 +107,8 @@ fn count_told_apart(tally: &mut Tally, book: &Book, layer: u8) {
 /// Random books are worth their time only if both answers come up, and if they tell all the
 /// misreadings from the right reading, but those named.
 fn assert_telling(tally: &Tally, but: &[Misreading]) {
-    assert!(tally.yes > 2_000, "few stable states: {}", tally.yes);
-    assert!(tally.no > 2_000, "few that are not: {}", tally.no);
+    assert!(tally.yes > 1_000, "few stable states: {}", tally.yes);
+    assert!(tally.no > 1_000, "few that are not: {}", tally.no);
     for (misreading, &times) in misreadings::EVERY.iter().zip(&tally.told_apart) {
         assert!(
             times >= 10 || but.contains(misreading),
@@ -123,7 +119,7 @@ fn assert_telling(tally: &Tally, but: &[Misreading]) {
 
 #[test]
 fn every_state_of_books_in_chains_is_answered_as_by_the_oracle() {
-    let tally = sweep("test, chains", 5_000, |rng| {
+    let tally = sweep("test, chains", 3_000, |rng| {
         shapes::layered(rng, Layering::Chain)
     });
     assert_telling(&tally, &[UnrelatedLayers]);
@@ -131,7 +127,7 @@ fn every_state_of_books_in_chains_is_answered_as_by_the_oracle() {
 
 #[test]
 fn every_state_of_books_in_diamonds_is_answered_as_by_the_oracle() {
-    let tally = sweep("test, diamonds", 5_000, |rng| {
+    let tally = sweep("test, diamonds", 3_000, |rng| {
         shapes::layered(rng, Layering::Diamond)
     });
     assert_telling(&tally, &[]);
@@ -139,7 +135,7 @@ fn every_state_of_books_in_diamonds_is_answered_as_by_the_oracle() {
 
 #[test]
 fn every_state_of_books_in_unrelated_branches_is_answered_as_by_the_oracle() {
-    let tally = sweep("test, branches", 5_000, |rng| {
+    let tally = sweep("test, branches", 3_000, |rng| {
         shapes::layered(rng, Layering::Branches)
     });
     assert_telling(&tally, &[]);
@@ -147,7 +143,7 @@ fn every_state_of_books_in_unrelated_branches_is_answered_as_by_the_oracle() {
 
 #[test]
 fn every_state_of_books_with_any_arrows_is_answered_as_by_the_oracle() {
-    let tally = sweep("test, any arrows", 5_000, |rng| {
+    let tally = sweep("test, any arrows", 3_000, |rng| {
         shapes::layered(rng, Layering::Any)
     });
     assert_telling(&tally, &[]);
@@ -156,9 +152,9 @@ fn every_state_of_books_with_any_arrows_is_answered_as_by_the_oracle() {
 /// Books without the motifs of `layered`.
 #[test]
 fn every_state_of_plain_random_books_is_answered_as_by_the_oracle() {
-    let tally = sweep("test, small", 1_000, shapes::small);
+    let tally = sweep("test, small", 600, shapes::small);
     assert_telling(&tally, &misreadings::EVERY);
-    let tally = sweep("test, choices", 1_000, shapes::choices);
+    let tally = sweep("test, choices", 600, shapes::choices);
     assert_telling(&tally, &misreadings::EVERY);
 }
 
@@ -462,7 +458,7 @@ fn any_call(rng: &mut Rng, atoms: usize, layers: usize) -> (u32, Vec<u8>) {
             .pick(&NO_LAYERS)
             .min(layers as u32 + rng.below(3) as u32),
     };
-    let mut candidate: Vec<u8> = (0..atoms.div_ceil(8)).map(|_| rng.byte()).collect();
+    let mut candidate = rng.bytes(atoms.div_ceil(8));
     let spare = candidate.len() * 8 - atoms;
     if let Some(last) = candidate.last_mut() {
         *last &= 0xFF << spare;
