@@ -10,29 +10,26 @@ use lib.ListN.{length, take, drop, length-drop}
 use lib.Seq.{length-take-le}
 use Rattle.base.specs.Bounds.{maxAtoms, maxBranching}
 use Rattle.base.specs.Lists.{flat}
-use Rattle.format.specs.Book.{bookOf}
 use Rattle.book.specs.Causes.{verdictIf, firstOf}
 use Rattle.book.specs.declared.Cause.{Cause}
 use Rattle.book.specs.declared.Cause.the-variants.{TooManyBranching, BufferTooShort}
 use Rattle.book.specs.declared.Verdict.{Verdict}
 use Rattle.book.specs.declared.Verdict.the-variants.{Accepted, Refused}
-use Rattle.models.specs.Program.{Program, programAt}
+use Rattle.models.specs.Program.{Program}
 use Rattle.models.specs.Branching.{branchingCount}
 use Rattle.models.specs.Listing.{stableModels, recordSize, recordOf, be16, be32, listingOf, listing}
 use Rattle.models.proofs.RecordLaws.{listing-length}
 use Rattle.table.specs.Table.{programOf, TableMade}
-use Rattle.table.proofs.TableLaws.{lent-table}
 use Rattle.accepted.specs.Accepted.{IsAccepted}
 use Rattle.accepted.specs.Driven.{layerTests}
-use Rattle.accepted.proofs.RecordFacts.{accepted-formed}
 use Rattle.accepted.proofs.FirstLaws.{first-append, first-refused}
 use Rattle.branching.specs.Marks.{Listed}
 use Rattle.records.proofs.WrittenLaws.{records-fit, head-written}
 use Rattle.search.specs.declared.Goal.the-variants.{All}
 use Rattle.search.specs.Searchable.{Searchable}
-use Rattle.passes.specs.Limit.{hasTooManyBranching}
 use Rattle.passes.specs.Tallied.{Tallied}
 use Rattle.passes.proofs.PassLaws.{models-le, tallied-all}
+use Rattle.passes.proofs.SetUpLaws.{too-many, not-too-many}
 use Rattle.list_call.specs.declared.ListReply.{ListReply}
 use Rattle.list_call.specs.declared.ListReply.the-variants as reply
 use Rattle.list_call.specs.Reply.{roomTests, searchTests, listTests, replyOf, bufferOf, listReply, listBuffer, Answers}
@@ -93,37 +90,20 @@ module _ {book rows overridden atoms : List ℕ} {layer n : ℕ} (w : Searchable
                     ∙ ap₂ (λ (x y : ℕ). listingOf x (stableModels P) ++ drop y old) (w .size) size-is);
               }
 
--- ---- the layer's table and branching facts
-minus-zero : (n : ℕ) → n - 0 ≡ n
-minus-zero n = omega arith
-
+-- ---- cause 12
 module _ (book : List ℕ) (layer : ℕ) (ok : IsAccepted book) {rows overridden : List ℕ} {count : ℕ} (made : TableMade (programOf book layer) book rows overridden count)
     {atoms : List ℕ} {g : ℕ} (l : Listed (programOf book layer) atoms g) where
-  pub searchable : (n : ℕ) → n ≡ bookOf book .atoms → 0 < n → n ≤ maxAtoms → Searchable book (take (4 * count - 0) rows) (take (count - 0) overridden) (take (g - 0) atoms) layer n
-  unfolding programAt
-  searchable n e p b = record {
-    formed = accepted-formed book ok layer;
-    table = lent-table made;
-    listed = ap (λ (k : ℕ). take k atoms) (minus-zero g) ∙ l .atoms-are;
-    size = e;
-    some = p;
-    few = b;
-  }
-
-  pub atoms-lent : g ≤ 20 → length (take (g - 0) atoms) ≤ maxBranching
-  atoms-lent h = omega (arith, length-take-le (g - 0) atoms (omega (arith, l .few, l .size)))
-
   module _ (old : List ℕ) where
     pub branching-refused : 20 < g → Answers (firstOf (searchTests (programOf book layer) (length old))) (programOf book layer) old (reply.Refused TooManyBranching) old
-    unfolding firstOf verdictIf searchTests hasTooManyBranching replyOf bufferOf
+    unfolding firstOf verdictIf searchTests replyOf bufferOf
     branching-refused h =
-        let e : firstOf (searchTests (programOf book layer) (length old)) ≡ Refused TooManyBranching = rw (lt-ltb maxBranching (branchingCount (programOf book layer)) (omega (arith, l .count-is))) refl in
+        let e : firstOf (searchTests (programOf book layer) (length old)) ≡ Refused TooManyBranching = rw (too-many book layer ok made l h) refl in
         record { reply-is = rw e refl; buffer-is = rw e refl }
 
     pub branching-passes : g ≤ 20 → (r : ListReply) (new : List ℕ) → Answers (firstOf (roomTests (programOf book layer) (length old))) (programOf book layer) old r new
         → Answers (firstOf (searchTests (programOf book layer) (length old))) (programOf book layer) old r new
-    unfolding firstOf verdictIf searchTests hasTooManyBranching
-    branching-passes h r new a = rw (le-ltb maxBranching (branchingCount (programOf book layer)) (omega (arith, l .count-is))) a
+    unfolding firstOf verdictIf searchTests
+    branching-passes h r new a = rw (not-too-many book layer ok made l h) a
 
 -- ---- the call
 module _ (book : List ℕ) (layer : ℕ) (old : List ℕ) (v : Verdict) (e : v ≡ firstOf (layerTests book layer)) where

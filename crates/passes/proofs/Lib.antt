@@ -1,1 +1,3 @@
 pub mod PassLaws
+pub mod SetUpLaws
+pub mod StateLaws

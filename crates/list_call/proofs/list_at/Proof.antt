@@ -2,7 +2,8 @@
 -- Assumes nothing.
 use Rattle.models.specs.Program.{programAt}
 use Rattle.table.proofs.TableLaws.{lent-table}
-use Rattle.list_call.proofs.ListLaws.{searchable, atoms-lent, branching-refused, branching-passes}
+use Rattle.passes.proofs.SetUpLaws.{searchable, atoms-lent}
+use Rattle.list_call.proofs.ListLaws.{branching-refused, branching-passes}
 use borrow.Author.Needs.{needs}
 use Rattle.list_call.proofs.list_at.Statement.{statement}
 use Rattle.list_call.proofs.list_at.Tie as tie

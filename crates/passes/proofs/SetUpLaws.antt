@@ -1,0 +1,48 @@
+-- What a call works out before it searches: the layer's table and its branching facts, as the code lends them, and cause 12. The
+-- calls that search cite it. Assumes nothing.
+use mathlib.Core.Path.{_≡_, ap, _∙_}
+use mathlib.Core.Bool.{true, false}
+use mathlib.Core.List.{List}
+use Prim.Native.Nat.{ℕ, _-_, _*_, _<_, _≤_}
+use native.Mathlib.Omega.{arith}
+use borrow.Author.Tests.{lt-ltb, le-ltb}
+use lib.ListN.{length, take}
+use lib.Seq.{length-take-le}
+use Rattle.base.specs.Bounds.{maxAtoms, maxBranching}
+use Rattle.format.specs.Book.{bookOf}
+use Rattle.models.specs.Program.{programAt}
+use Rattle.models.specs.Branching.{branchingCount}
+use Rattle.table.specs.Table.{programOf, TableMade}
+use Rattle.table.proofs.TableLaws.{lent-table}
+use Rattle.accepted.specs.Accepted.{IsAccepted}
+use Rattle.accepted.proofs.RecordFacts.{accepted-formed}
+use Rattle.branching.specs.Marks.{Listed}
+use Rattle.search.specs.Searchable.{Searchable}
+use Rattle.passes.specs.Limit.{hasTooManyBranching}
+
+minus-zero : (n : ℕ) → n - 0 ≡ n
+minus-zero n = omega arith
+
+module _ (book : List ℕ) (layer : ℕ) (ok : IsAccepted book) {rows overridden : List ℕ} {count : ℕ} (made : TableMade (programOf book layer) book rows overridden count)
+    {atoms : List ℕ} {g : ℕ} (l : Listed (programOf book layer) atoms g) where
+  pub searchable : (n : ℕ) → n ≡ bookOf book .atoms → 0 < n → n ≤ maxAtoms → Searchable book (take (4 * count - 0) rows) (take (count - 0) overridden) (take (g - 0) atoms) layer n
+  unfolding programAt
+  searchable n e p b = record {
+    formed = accepted-formed book ok layer;
+    table = lent-table made;
+    listed = ap (λ (k : ℕ). take k atoms) (minus-zero g) ∙ l .atoms-are;
+    size = e;
+    some = p;
+    few = b;
+  }
+
+  pub atoms-lent : g ≤ 20 → length (take (g - 0) atoms) ≤ maxBranching
+  atoms-lent h = omega (arith, length-take-le (g - 0) atoms (omega (arith, l .few, l .size)))
+
+  pub too-many : 20 < g → hasTooManyBranching (programOf book layer) ≡ true
+  unfolding hasTooManyBranching
+  too-many h = lt-ltb maxBranching (branchingCount (programOf book layer)) (omega (arith, l .count-is))
+
+  pub not-too-many : g ≤ 20 → hasTooManyBranching (programOf book layer) ≡ false
+  unfolding hasTooManyBranching
+  not-too-many h = le-ltb maxBranching (branchingCount (programOf book layer)) (omega (arith, l .count-is))

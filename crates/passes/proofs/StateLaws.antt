@@ -1,0 +1,99 @@
+-- The stable models that a pass met are stable models by the inductive definition, and where it met none there is none. Assumes
+-- nothing.
+use mathlib.Core.Path.{_≡_, refl, sym, ap, ap₂, subst, _∙_}
+use mathlib.Core.Bool.{Bool, true, false}
+use mathlib.Core.List.{List, [], _∷_, _++_, List·Memᴰ·head, List·Memᴰ·not-nil, Memᴰ·append-left, append-nil}
+use Prim.Native.Nat.{ℕ, suc, _<_, _≤_}
+use native.Mathlib.Omega.{arith}
+use borrow.Author.Tests.{eqb-true, ne-eqb}
+use lib.Dec.{eqb}
+use lib.ListN.{length, replicate, length-replicate, length-append}
+use Rattle.base.specs.Bounds.{maxAtoms}
+use Rattle.base.specs.Lists.{filter}
+use Rattle.base.proofs.Members.{_∈_, filter-from, filter-into}
+use Rattle.models.specs.Program.{Program}
+use Rattle.models.specs.StableModels.{Interpretation, atomHolds, stable, StableModel, WellFormed}
+use Rattle.models.specs.Listing.{interpretations, stableModels}
+use Rattle.models.proofs.InterpretationLaws.{interpretations-length, interpretations-has}
+use Rattle.models.proofs.LeastLaws.{stable-sound, stable-complete}
+use Rattle.search.specs.declared.Goal.{Goal}
+use Rattle.search.specs.declared.Goal.the-variants.{All, First, Settle}
+use Rattle.search.specs.Visits.{reaches}
+use Rattle.search.proofs.FoundLaws.{found-stable, stable-found}
+use Rattle.passes.specs.Limit.{hasNoStableState}
+use Rattle.passes.specs.Tallied.{searched, Tallied}
+use Rattle.passes.proofs.PassLaws.{searched-length}
+
+-- ---- the list of the stable models, and the inductive definition
+module _ (P : Program) where
+  pub models-from : (m : Interpretation) → m ∈ stableModels P → StableModel P m
+  unfolding stableModels
+  models-from m k =
+      let w = filter-from (stable P) (interpretations (P .atoms)) k in
+      stable-sound P m (interpretations-length (P .atoms) m (w .0)) (w .1)
+
+  pub models-into : (m : Interpretation) → StableModel P m → m ∈ stableModels P
+  unfolding stableModels
+  models-into m s = filter-into (stable P) (interpretations-has (P .atoms) m (s .size)) (stable-complete P m s)
+
+  pub no-state : hasNoStableState P ≡ true → (m : Interpretation) → StableModel P m → ⊥
+  unfolding hasNoStableState
+  no-state e m s = go (stableModels P) (models-into m s) e
+    where
+      go : (ms : List Interpretation) → m ∈ ms → eqb (length ms) 0 ≡ true → ⊥
+      go [] k q = List·Memᴰ·not-nil k
+      go (x ∷ ms) k q = omega (arith, eqb-true (suc (length ms)) 0 q)
+
+  pub some-state : hasNoStableState P ≡ false → (m : Interpretation) × StableModel P m
+  unfolding hasNoStableState
+  some-state e = go (stableModels P) models-from e
+    where
+      go : (ms : List Interpretation) → ((m : Interpretation) → m ∈ ms → StableModel P m) → eqb (length ms) 0 ≡ false → (m : Interpretation) × StableModel P m
+      go [] f q = let z : _≡_ {A = ℕ} 0 1 = cc in absurd (omega arith)
+      go (x ∷ ms) f q = (x, f x (List·Memᴰ·head refl))
+
+  state-none : length (stableModels P) ≡ 0 → hasNoStableState P ≡ true
+  unfolding hasNoStableState
+  state-none e = rw e refl
+
+  state-some : 0 < length (stableModels P) → hasNoStableState P ≡ false
+  unfolding hasNoStableState
+  state-some h = ne-eqb (length (stableModels P)) 0 (λ e. omega arith)
+
+-- ---- what a pass met
+none-reaches : (goal : Goal) → reaches goal 0 0 ≡ false
+unfolding reaches
+none-reaches All = refl
+none-reaches First = refl
+none-reaches Settle = refl
+
+empty : (ms : List Interpretation) → length ms ≡ 0 → ms ≡ []
+empty [] e = refl
+empty (m ∷ ms) e = absurd (omega arith)
+
+module _ (P : Program) (w : WellFormed P) (few : P .atoms ≤ maxAtoms) where
+  pub searched-from : (m : Interpretation) → m ∈ searched P → StableModel P m
+  unfolding searched
+  searched-from m k = let f = found-stable P w (replicate 256 false) 256 (length-replicate {A = Bool} 256 false) few m k in stable-sound P m (f .0) (f .1)
+
+  pub searched-into : (m : Interpretation) → StableModel P m → m ∈ searched P
+  unfolding searched
+  searched-into m s = stable-found P w (replicate 256 false) 256 (length-replicate {A = Bool} 256 false) few m (s .size) (stable-complete P m s)
+
+  module _ {goal : Goal} {atom count standing : ℕ} (t : Tallied P goal atom count standing) where
+    pub seen-from : (m : Interpretation) → m ∈ t .seen → StableModel P m
+    seen-from m k = searched-from m (subst (λ (l : List Interpretation). m ∈ l) (sym (t .split)) (Memᴰ·append-left (t .rest) k))
+
+    pub seen-into : reaches goal count standing ≡ false → (m : Interpretation) → StableModel P m → m ∈ t .seen
+    seen-into e m s = subst (λ (l : List Interpretation). m ∈ l) (t .split ∙ ap (λ (l : List Interpretation). t .seen ++ l) (t .whole e) ∙ append-nil (t .seen)) (searched-into m s)
+
+    pub tallied-none : count ≡ 0 → hasNoStableState P ≡ true
+    unfolding filter
+    tallied-none e =
+        let s : t .seen ≡ [] = empty (t .seen) (sym (t .count-is) ∙ e) in
+        let z : standing ≡ 0 = t .standing-is ∙ ap (λ (l : List Interpretation). length (filter (λ m. atomHolds m atom) l)) s in
+        let r : t .rest ≡ [] = t .whole (rw (e, z) (none-reaches goal)) in
+        state-none P (sym (searched-length P w few) ∙ ap length (t .split ∙ ap₂ (λ (x y : List Interpretation). x ++ y) s r))
+
+    pub tallied-some : 0 < count → hasNoStableState P ≡ false
+    tallied-some h = state-some P (omega (arith, t .count-is, ap length (t .split), length-append (t .seen) (t .rest), searched-length P w few))

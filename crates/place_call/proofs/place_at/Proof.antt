@@ -1,0 +1,117 @@
+-- `place_at` meets its contract: cause 11, then cause 12, and where neither applies the table and the branching facts make the
+-- search possible. Assumes nothing.
+use Rattle.models.specs.Program.{programAt}
+use Rattle.table.proofs.TableLaws.{lent-table}
+use Rattle.passes.proofs.SetUpLaws.{searchable, atoms-lent, too-many, not-too-many}
+use Rattle.place_call.proofs.PlaceLaws.{fact-refused, branching-refused, branching-passes}
+use borrow.Author.Needs.{needs}
+use Rattle.place_call.proofs.place_at.Statement.{statement}
+use Rattle.place_call.proofs.place_at.Tie as tie
+use Rattle.place_call.proofs.place_at.Reads as reads
+use Rattle.place_call.proofs.place_at.Lts as lts
+use Rattle.accepted.proofs.atom_count.Reads as atom-count-reads
+use Rattle.accepted.proofs.prepare.Reads as prepare-reads
+use Rattle.branching.proofs.branching_atoms.Reads as branching-atoms-reads
+use Rattle.place_call.proofs.place_found.Reads as place-found-reads
+
+atom-count-requires : tie.Need-atom-count-requires
+atom-count-requires c κs = search needs
+
+returns : tie.Need-returns
+returns c = fact-refused (c .before .before .before .args .book .now) (c .before .before .before .args .layer) (c .before .before .before .args .fact) (c .before .atom-count .result) (c .before .atom-count .ensures .0) (c .if1 .taken)
+
+prepare-requires : tie.Need-prepare-requires
+prepare-requires c κs = search needs
+
+mul-branching-atoms : tie.Need-mul-branching-atoms
+mul-branching-atoms c = search needs
+
+sub-branching-atoms : tie.Need-sub-branching-atoms
+sub-branching-atoms c = search needs
+
+part-branching-atoms-start : tie.Need-part-branching-atoms-start
+part-branching-atoms-start c = search needs
+
+part-branching-atoms-end : tie.Need-part-branching-atoms-end
+part-branching-atoms-end c = search needs
+
+sub-branching-atoms-2 : tie.Need-sub-branching-atoms-2
+sub-branching-atoms-2 c = search needs
+
+part-branching-atoms-start-2 : tie.Need-part-branching-atoms-start-2
+part-branching-atoms-start-2 c = search needs
+
+part-branching-atoms-end-2 : tie.Need-part-branching-atoms-end-2
+part-branching-atoms-end-2 c = search needs
+
+branching-atoms-requires : tie.Need-branching-atoms-requires
+unfolding programAt
+branching-atoms-requires c κs = (lent-table (c .before .before .before .before .before .before .prepare .ensures), (c .before .before .before .before .before .before .before .before .atom-count .ensures .0, c .before .before .before .before .before .before .before .before .atom-count .ensures .2))
+
+returns-2 : tie.Need-returns-2
+returns-2 c = branching-refused (c .before .before .before .before .before .before .before .before .before .before .before .before .before .args .book .now) (c .before .before .before .before .before .before .before .before .before .before .before .before .before .args .layer) (c .before .before .before .before .before .before .before .before .before .before .before .before .before .args .fact) (c .before .before .before .before .before .before .before .before .before .before .before .atom-count .result) (c .before .before .before .before .before .before .before .before .before .before .before .atom-count .ensures .0) (c .before .before .before .before .before .before .before .before .before .before .if1 .left) (too-many (c .before .before .before .before .before .before .before .before .before .before .before .before .before .args .book .now) (c .before .before .before .before .before .before .before .before .before .before .before .before .before .args .layer) (c .before .before .before .before .before .before .before .before .before .before .before .before .before .pre .0) (c .before .before .before .before .before .before .before .before .before .prepare .ensures) (c .before .before .branching-atoms .ensures) (c .if2 .taken))
+
+mul-place-found : tie.Need-mul-place-found
+mul-place-found c = search needs
+
+sub-place-found : tie.Need-sub-place-found
+sub-place-found c = search needs
+
+part-place-found-start : tie.Need-part-place-found-start
+part-place-found-start c = search needs
+
+part-place-found-end : tie.Need-part-place-found-end
+part-place-found-end c = search needs
+
+sub-place-found-2 : tie.Need-sub-place-found-2
+sub-place-found-2 c = search needs
+
+part-place-found-start-2 : tie.Need-part-place-found-start-2
+part-place-found-start-2 c = search needs
+
+part-place-found-end-2 : tie.Need-part-place-found-end-2
+part-place-found-end-2 c = search needs
+
+sub-place-found-3 : tie.Need-sub-place-found-3
+sub-place-found-3 c = search needs
+
+part-place-found-start-3 : tie.Need-part-place-found-start-3
+part-place-found-start-3 c = search needs
+
+part-place-found-end-3 : tie.Need-part-place-found-end-3
+part-place-found-end-3 c = search needs
+
+place-found-requires : tie.Need-place-found-requires
+place-found-requires c κs = (searchable (c .before .before .before .before .before .before .before .before .before .before .before .before .before .before .before .before .before .before .before .args .book .now) (c .before .before .before .before .before .before .before .before .before .before .before .before .before .before .before .before .before .before .before .args .layer) (c .before .before .before .before .before .before .before .before .before .before .before .before .before .before .before .before .before .before .before .pre .0) (c .before .before .before .before .before .before .before .before .before .before .before .before .before .before .before .prepare .ensures) (c .before .before .before .before .before .before .before .before .branching-atoms .ensures) (c .before .before .before .before .before .before .before .before .before .before .before .before .before .before .before .before .before .atom-count .result) (c .before .before .before .before .before .before .before .before .before .before .before .before .before .before .before .before .before .atom-count .ensures .0) (c .before .before .before .before .before .before .before .before .before .before .before .before .before .before .before .before .before .atom-count .ensures .1) (c .before .before .before .before .before .before .before .before .before .before .before .before .before .before .before .before .before .atom-count .ensures .2), atoms-lent (c .before .before .before .before .before .before .before .before .before .before .before .before .before .before .before .before .before .before .before .args .book .now) (c .before .before .before .before .before .before .before .before .before .before .before .before .before .before .before .before .before .before .before .args .layer) (c .before .before .before .before .before .before .before .before .before .before .before .before .before .before .before .before .before .before .before .pre .0) (c .before .before .before .before .before .before .before .before .before .before .before .before .before .before .before .prepare .ensures) (c .before .before .before .before .before .before .before .before .branching-atoms .ensures) (c .before .before .before .before .before .before .if2 .left))
+
+returns-3 : tie.Need-returns-3
+returns-3 c = branching-passes (c .before .before .before .before .before .before .before .before .before .before .before .before .before .before .before .before .before .before .before .before .args .book .now) (c .before .before .before .before .before .before .before .before .before .before .before .before .before .before .before .before .before .before .before .before .args .layer) (c .before .before .before .before .before .before .before .before .before .before .before .before .before .before .before .before .before .before .before .before .args .fact) (c .before .before .before .before .before .before .before .before .before .before .before .before .before .before .before .before .before .before .atom-count .result) (c .before .before .before .before .before .before .before .before .before .before .before .before .before .before .before .before .before .before .atom-count .ensures .0) (c .before .before .before .before .before .before .before .before .before .before .before .before .before .before .before .before .before .if1 .left) (not-too-many (c .before .before .before .before .before .before .before .before .before .before .before .before .before .before .before .before .before .before .before .before .args .book .now) (c .before .before .before .before .before .before .before .before .before .before .before .before .before .before .before .before .before .before .before .before .args .layer) (c .before .before .before .before .before .before .before .before .before .before .before .before .before .before .before .before .before .before .before .before .pre .0) (c .before .before .before .before .before .before .before .before .before .before .before .before .before .before .before .before .prepare .ensures) (c .before .before .before .before .before .before .before .before .before .branching-atoms .ensures) (c .before .before .before .before .before .before .before .if2 .left)) _ (c .place-found .ensures)
+
+pub place-at-spec : {M : Type 1} → statement M
+place-at-spec =
+    tie.close
+    (tie.spec
+    atom-count-requires
+    returns
+    prepare-requires
+    mul-branching-atoms
+    sub-branching-atoms
+    part-branching-atoms-start
+    part-branching-atoms-end
+    sub-branching-atoms-2
+    part-branching-atoms-start-2
+    part-branching-atoms-end-2
+    branching-atoms-requires
+    returns-2
+    mul-place-found
+    sub-place-found
+    part-place-found-start
+    part-place-found-end
+    sub-place-found-2
+    part-place-found-start-2
+    part-place-found-end-2
+    sub-place-found-3
+    part-place-found-start-3
+    part-place-found-end-3
+    place-found-requires
+    returns-3)

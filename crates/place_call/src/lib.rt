@@ -1,0 +1,103 @@
+// The call that asks for a fact's place: the first of causes 1 to 9, 11, 12 and 14 that applies, or whether the fact stands in every
+// stable state of the driven layer, in some or in none, with g. It writes nothing.
+ghost use mathlib.Core.Path.{_≡_};
+ghost use Prim.Native.Nat.{_<_, _≤_};
+ghost use lib.ListN.{length};
+ghost use Rattle.base.specs.Bounds.{maxBranching};
+ghost use Rattle.format.specs.Book.{bookOf};
+ghost use Rattle.book.specs.Causes.{firstOf};
+ghost use Rattle.table.specs.Table.{programOf};
+ghost use Rattle.accepted.specs.Accepted.{IsAccepted};
+ghost use Rattle.search.specs.Searchable.{Searchable};
+ghost use Rattle.place_call.specs.Reply.{stateTests, factTests, replyOf, placeReply};
+use accepted::atom_count;
+use accepted::check_layer;
+use accepted::prepare;
+use book::Cause;
+use book::Verdict;
+use branching::branching_atoms;
+use passes::tally;
+use search::Goal;
+
+pub enum Place {
+    Every,
+    InSome,
+    Nowhere,
+}
+
+pub enum PlaceReply {
+    // the place and g
+    Placed(Place, usize),
+    Refused(Cause),
+}
+
+// One pass of the search, which stops once the fact stands in some but not in all of the stable models met.
+fn place_found(
+    book: &[u8],
+    layer: usize,
+    rows: &[u16],
+    overridden: &[u32],
+    atoms: &[u8],
+    n: usize,
+    fact: usize,
+) -> PlaceReply
+    requires { ⌜ Searchable (now book) (now rows) (now overridden) (now atoms) layer n ⌝ }
+    requires { ⌜ length (now atoms) ≤ maxBranching ⌝ }
+    ensures { λ r. ⌜ r ≡ replyOf (firstOf (stateTests (programOf (now (book .entry)) layer))) (programOf (now (book .entry)) layer) fact ⌝ }
+{
+    let counts = tally(book, layer, rows, overridden, atoms, n, Goal::Settle, fact);
+    let count = counts.count;
+    let standing = counts.standing;
+    if count == 0 {
+        return PlaceReply::Refused(Cause::NoStableState);
+    }
+    if standing == 0 {
+        return PlaceReply::Placed(Place::Nowhere, atoms.len());
+    }
+    if standing < count {
+        return PlaceReply::Placed(Place::InSome, atoms.len());
+    }
+    PlaceReply::Placed(Place::Every, atoms.len())
+}
+
+// The fact's place at a layer, once causes 1 to 9 are ruled out: what does not depend on a setting is worked out here.
+fn place_at(book: &[u8], layer: usize, fact: usize) -> PlaceReply
+    requires { ⌜ IsAccepted (now book) ⌝ }
+    requires { ⌜ layer < bookOf (now book) .layers ⌝ }
+    ensures { λ r. ⌜ r ≡ replyOf (firstOf (factTests (programOf (now (book .entry)) layer) fact)) (programOf (now (book .entry)) layer) fact ⌝ }
+{
+    let n = atom_count(book);
+    if n <= fact {
+        return PlaceReply::Refused(Cause::NoSuchFact);
+    }
+    let table = prepare(book, layer);
+    let rows = table.rows;
+    let overridden = table.overridden;
+    let count = table.count;
+    let listed = branching_atoms(book, layer, &rows[0..4 * count], &overridden[0..count], n);
+    let atoms = listed.atoms;
+    let g = listed.count;
+    if 20 < g {
+        return PlaceReply::Refused(Cause::TooManyBranching);
+    }
+    place_found(
+        book,
+        layer,
+        &rows[0..4 * count],
+        &overridden[0..count],
+        &atoms[0..g],
+        n,
+        fact,
+    )
+}
+
+// Where a fact stands among the stable states of the book at the driven layer.
+pub fn fact_place(book: &[u8], layer: u32, fact: u32) -> PlaceReply
+    ensures { λ r. ⌜ r ≡ placeReply (now (book .entry)) layer fact ⌝ }
+{
+    let v = check_layer(book, layer);
+    match v {
+        Verdict::Refused(c) => PlaceReply::Refused(c),
+        Verdict::Accepted => place_at(book, layer as usize, fact as usize),
+    }
+}
