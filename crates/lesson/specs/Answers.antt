@@ -6,6 +6,10 @@ use Rattle.book.specs.declared.Verdict.the-variants.{Accepted, Refused}
 use Rattle.book.specs.Numbers.{numberOf}
 use Rattle.list_call.specs.declared.ListReply.{ListReply}
 use Rattle.list_call.specs.declared.ListReply.the-variants as list
+use Rattle.place_call.specs.declared.Place.{Place}
+use Rattle.place_call.specs.declared.Place.the-variants.{Every, InSome, Nowhere}
+use Rattle.place_call.specs.declared.PlaceReply.{PlaceReply}
+use Rattle.place_call.specs.declared.PlaceReply.the-variants as place
 use Rattle.test_call.specs.declared.TestReply.{TestReply}
 use Rattle.test_call.specs.declared.TestReply.the-variants as reply
 
@@ -24,3 +28,13 @@ testAnswer (reply.Refused c) = numberOf c
 abbrev pub listAnswer : ListReply → ℕ
 listAnswer (list.Listed k g) = k * 65536 + g * 256
 listAnswer (list.Refused c) = numberOf c
+
+-- lesson_place: g in bits 8 to 15; bits 16 and 17 are 0 for none, 1 for some and 2 for every
+abbrev pub placeBits : Place → ℕ
+placeBits Nowhere = 0
+placeBits InSome = 65536
+placeBits Every = 131072
+
+abbrev pub placeAnswer : PlaceReply → ℕ
+placeAnswer (place.Placed p g) = placeBits p + g * 256
+placeAnswer (place.Refused c) = numberOf c

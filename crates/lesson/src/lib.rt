@@ -1,15 +1,20 @@
 // The calls of the C host (include/lesson.h). Each is thin: it calls the engine and turns the answer into document 01's number.
 // None has a `requires`: every input has an outcome.
 ghost use mathlib.Core.Path.{_≡_};
+ghost use Prim.Native.Nat.{_≤_};
 ghost use Rattle.book.specs.Causes.{verdict};
 ghost use Rattle.test_call.specs.Reply.{testReply};
 ghost use Rattle.list_call.specs.Reply.{listReply, listBuffer};
-ghost use Rattle.lesson.specs.Answers.{checkAnswer, testAnswer, listAnswer};
+ghost use Rattle.place_call.specs.Reply.{placeReply};
+ghost use Rattle.lesson.specs.Answers.{checkAnswer, testAnswer, listAnswer, placeBits, placeAnswer};
 use book::Verdict;
 use book::cause_number;
 use book::check;
 use list_call::ListReply;
 use list_call::list;
+use place_call::Place;
+use place_call::PlaceReply;
+use place_call::fact_place;
 use test_call::TestReply;
 use test_call::test;
 
@@ -59,5 +64,28 @@ pub extern "C" fn lesson_list(book: &[u8], layer: u32, buffer: &mut [u8]) -> u64
     match reply {
         ListReply::Listed(k, g) => (k as u64) * 65536 + (g as u64) * 256,
         ListReply::Refused(c) => cause_number(c),
+    }
+}
+
+fn place_bits(p: Place) -> u64
+    ensures { λ r. ⌜ (r ≡ placeBits p) × (r ≤ 131072) ⌝ }
+{
+    match p {
+        Place::Every => 131072,
+        Place::InSome => 65536,
+        Place::Nowhere => 0,
+    }
+}
+
+// Whether a fact stands in every stable state of a book at a layer, in some or in none, or the first of causes 1 to 9, 11, 12 and
+// 14 that applies. The answer carries the place and g.
+#[no_mangle]
+pub extern "C" fn lesson_place(book: &[u8], layer: u32, fact: u32) -> u64
+    ensures { λ r. ⌜ r ≡ placeAnswer (placeReply (now (book .entry)) layer fact) ⌝ }
+{
+    let reply = fact_place(book, layer, fact);
+    match reply {
+        PlaceReply::Placed(p, g) => place_bits(p) + (g as u64) * 256,
+        PlaceReply::Refused(c) => cause_number(c),
     }
 }

@@ -7,10 +7,10 @@ use mathlib.Core.List.{List, [], _∷_, List·Memᴰ·head, List·Memᴰ·tail, 
 use Prim.Native.Nat.{ℕ, suc, _<_, _≤_}
 use native.Mathlib.Decide.{decLt}
 use native.Mathlib.Omega.{arith}
-use borrow.Author.Tests.{lt-ltb, le-ltb}
+use borrow.Author.Tests.{lt-ltb, le-ltb, ltb-false}
 use lib.Dec.{T, T-not, not-T, ltb}
 use lib.ListN.{length}
-use Rattle.base.specs.Bounds.{maxAtoms}
+use Rattle.base.specs.Bounds.{maxAtoms, maxBranching}
 use Rattle.base.specs.Lists.{consIf, all, any, filter}
 use Rattle.base.proofs.Members.{_∈_, test, filter-from, filter-into, all-at, all-of, any-of, any-at}
 use Rattle.base.proofs.ClosureLaws.{filter-lt, filter-length}
@@ -275,3 +275,19 @@ module _ (book : List ℕ) (layer fact : ℕ) where
         (w .0, ((y .0, models-from Q (y .0) (y .1), y .2), (z .0, models-from Q (z .0) (z .1), z .2))),
     λ w. tells InSome (w .0) (place-in-some Q fact (w .1 .0 .0) (w .1 .0 .1) (w .1 .0 .2) (w .1 .1 .0) (w .1 .1 .1) (w .1 .1 .2)),
   )
+
+  -- a granted answer carries a g of at most 20
+  pub granted-small : (p : Place) (g : ℕ) → placeReply book layer fact ≡ reply.Placed p g → g ≤ 20
+  unfolding placeReply replyOf placeTests factTests searchTests hasTooManyBranching
+  granted-small p g e = go (firstOf (placeTests book layer fact)) refl e
+    where
+      go : (v : Verdict) → firstOf (placeTests book layer fact) ≡ v → replyOf v Q fact ≡ reply.Placed p g → g ≤ 20
+      go (Refused c) q f = let z : _≡_ {A = ℕ} 0 1 = cc in absurd (omega arith)
+      go Accepted q f =
+          let b : g ≡ branchingCount Q = cc in
+          omega (
+            arith,
+            b,
+            ltb-false maxBranching (branchingCount Q)
+                (accepted-none (placeTests book layer fact) .0 q (record { cause = TooManyBranching; applies = hasTooManyBranching Q }) (Memᴰ·append-right (layerTests book layer) (List·Memᴰ·tail (List·Memᴰ·head refl)))),
+          )
