@@ -93,6 +93,19 @@ static inline uint32_t lesson_state_count(uint64_t answer)
     return (uint32_t)(answer >> 16);
 }
 
+/* lesson_place: in which of the stable states a fact stands. */
+enum lesson_place_number {
+    LESSON_IN_NONE = 0,
+    LESSON_IN_SOME = 1, /* in one at least, but not in all */
+    LESSON_IN_EVERY = 2
+};
+
+/* lesson_place: the fact's place. It means nothing after a refusal. */
+static inline enum lesson_place_number lesson_place_of(uint64_t answer)
+{
+    return (enum lesson_place_number)(answer >> 16 & 3);
+}
+
 #ifdef __cplusplus
 extern "C" {
 #endif
@@ -149,6 +162,21 @@ uint64_t lesson_test(const uint8_t *book, size_t book_len, uint32_t layer, const
  */
 uint64_t lesson_list(const uint8_t *book, size_t book_len, uint32_t layer, uint8_t *buffer,
                      size_t buffer_len);
+
+/*
+ * Says whether a fact stands in every stable state of a book at the driven
+ * layer, in some or in none. Writes nothing.
+ *
+ * book, book_len: the book, any bytes.
+ * layer: the driven layer, counted from 0, any number.
+ * fact: the fact, counted from 0, any number.
+ *
+ * Answers the place in bits 16 and 17 (lesson_place_of) and g in bits 8 to 15
+ * (lesson_branching_count), or the first of LESSON_TOO_SHORT to
+ * LESSON_NO_SUCH_LAYER, LESSON_NO_SUCH_FACT, LESSON_TOO_MANY_BRANCHING and
+ * LESSON_NO_STABLE_STATE that applies. The time grows with 2 to the power g.
+ */
+uint64_t lesson_place(const uint8_t *book, size_t book_len, uint32_t layer, uint32_t fact);
 
 #ifdef __cplusplus
 }

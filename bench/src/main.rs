@@ -123,6 +123,32 @@ fn list_row(name: &str, known: &Known) {
     assert!(buffers[0] == buffers[1], "{name}: the listings differ");
 }
 
+/// A row for the place of a fact.
+fn place_row(name: &str, known: &Known, fact: u16) {
+    let book = known.book.bytes();
+    let layer = known.layer.into();
+    let expected = known.places()[usize::from(fact)];
+    let fact = fact.into();
+    let place = match expected >> 16 {
+        0 if known.count == 0 => "no state",
+        0 => "none",
+        1 => "some",
+        _ => "every",
+    };
+    row(
+        &format!("place, {name}, g = {}, {place}", known.branching),
+        &book,
+        &mut || {
+            let answer = ffi::place_in_place(black_box(&book), layer, fact);
+            assert_eq!(answer, expected);
+        },
+        &mut || {
+            let answer = plain::place(black_box(&book), layer, fact);
+            assert_eq!(answer, expected);
+        },
+    );
+}
+
 fn main() {
     let full = match env::args().nth(1).as_deref() {
         None => false,
@@ -176,6 +202,11 @@ fn main() {
     list_row("rising, 32 bytes", &known::free(14, 0, 256));
     list_row("falling, 32 bytes", &known::followed(14, 14, 256, falling));
     list_row("permuted, 4 bytes", &known::followed(10, 10, 28, reversed));
+    let no_state = known::quarrelled(known::pairs(10, 0));
+    place_row("pairs", &known::pairs(10, 0), 0);
+    place_row("pairs and a quarrel", &no_state, 0);
+    // The facts after the branching ones always stand.
+    place_row("largest lawful book", &busy(14), 14);
     if full {
         list_row("largest lawful book", &busy(16));
         list_row("largest lawful book", &busy(20));
@@ -189,5 +220,6 @@ fn main() {
         list_row("rising, 32 bytes", &known::free(20, 0, 256));
         list_row("falling, 32 bytes", &known::followed(20, 20, 256, falling));
         list_row("permuted, 4 bytes", &known::followed(14, 14, 28, reversed));
+        place_row("largest lawful book", &busy(20), 20);
     }
 }

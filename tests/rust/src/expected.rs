@@ -5,8 +5,10 @@ use crate::reader;
 
 pub const NO_SUCH_LAYER: u64 = 9;
 pub const BAD_CANDIDATE: u64 = 10;
+pub const NO_SUCH_FACT: u64 = 11;
 pub const TOO_MANY_BRANCHING: u64 = 12;
 pub const BUFFER_TOO_SHORT: u64 = 13;
+pub const NO_STABLE_STATE: u64 = 14;
 
 pub const MAX_BRANCHING: usize = 20;
 
@@ -20,12 +22,36 @@ pub const fn counts(branching: usize, states: usize) -> u64 {
     (branching as u64) << 8 | (states as u64) << 16
 }
 
+/// What `lesson_one` answers where it is granted.
+pub const fn branching(branching: usize) -> u64 {
+    (branching as u64) << 8
+}
+
+/// What `lesson_place` answers for a fact that stands in so many of the states, or cause 14.
+pub const fn place_of(branching: usize, standing: usize, states: usize) -> u64 {
+    let place = match standing {
+        _ if states == 0 => return NO_STABLE_STATE,
+        0 => 0,
+        some if some < states => 1,
+        _ => 2,
+    };
+    (branching as u64) << 8 | place << 16
+}
+
 /// The book at the driven layer, or the first of causes 1 to 9 that applies.
 fn driven(book: &[u8], layer: u32) -> Result<Driven, u64> {
     let book = reader::read(book)?;
     match u8::try_from(layer) {
         Ok(layer) if layer < book.layers => Ok(Driven::new(&book, layer)),
         _ => Err(NO_SUCH_LAYER),
+    }
+}
+
+/// The number of branching facts, or cause 12.
+fn searched(driven: &Driven) -> Result<usize, u64> {
+    match driven.branching_count() {
+        branching if branching > MAX_BRANCHING => Err(TOO_MANY_BRANCHING),
+        branching => Ok(branching),
     }
 }
 
@@ -43,14 +69,43 @@ pub fn test(book: &[u8], layer: u32, candidate: &[u8]) -> u64 {
 pub fn list(book: &[u8], layer: u32, buffer: &[u8]) -> (u64, Vec<u8>) {
     let mut after = buffer.to_vec();
     let answer = driven(book, layer).and_then(|driven| {
-        let branching = driven.branching_count();
-        if branching > MAX_BRANCHING {
-            return Err(TOO_MANY_BRANCHING);
-        }
+        let branching = searched(&driven)?;
         let listing = driven.listing();
         let place = after.get_mut(..listing.len()).ok_or(BUFFER_TOO_SHORT)?;
         place.copy_from_slice(&listing);
         Ok(counts(branching, oracle::count(&listing)))
     });
     (answer.unwrap_or_else(|cause| cause), after)
+}
+
+/// The answer of `lesson_one` and the records of which it may write any, or the cause. Every state
+/// is tried, so the book must be small, or refused.
+pub fn one(book: &[u8], layer: u32, buffer_len: usize) -> Result<(u64, Vec<Vec<u8>>), u64> {
+    let driven = driven(book, layer)?;
+    let answer = branching(searched(&driven)?);
+    if buffer_len < usize::from(driven.atoms()).div_ceil(8) {
+        return Err(BUFFER_TOO_SHORT);
+    }
+    let models = driven.stable_models();
+    match models.is_empty() {
+        true => Err(NO_STABLE_STATE),
+        false => Ok((
+            answer,
+            models.iter().map(|model| oracle::record(model)).collect(),
+        )),
+    }
+}
+
+/// The answer of `lesson_place`. Every state is tried, so the book must be small, or refused.
+pub fn place(book: &[u8], layer: u32, fact: u32) -> u64 {
+    let answer = driven(book, layer).and_then(|driven| {
+        if fact >= driven.atoms().into() {
+            return Err(NO_SUCH_FACT);
+        }
+        let branching = searched(&driven)?;
+        let models = driven.stable_models();
+        let standing = models.iter().filter(|model| model[fact as usize]);
+        Ok(place_of(branching, standing.count(), models.len()))
+    });
+    answer.unwrap_or_else(|cause| cause)
 }

@@ -22,6 +22,7 @@ extern "C" {
         buffer: *mut u8,
         buffer_len: usize,
     ) -> u64;
+    fn lesson_place(book: *const u8, book_len: usize, layer: u32, fact: u32) -> u64;
 }
 
 /// Odd, so that the slices are misaligned.
@@ -167,4 +168,20 @@ pub fn list_in_place(book: &[u8], layer: u32, buffer: &mut [u8]) -> u64 {
     let (at, length) = (buffer.as_mut_ptr(), buffer.len());
     // SAFETY: the pointers and the lengths are those of live slices, which do not overlap.
     unsafe { lesson_list(book.as_ptr(), book.len(), layer, at, length) }
+}
+
+/// `lesson_place` on a fenced copy.
+pub fn place(book: &[u8], layer: u32, fact: u32) -> u64 {
+    let call = |[book]: &[Lent; 1], _: &mut Lent| {
+        let (book, book_len) = book.slice();
+        // SAFETY: NULL with length 0, or a live slice, and the call only reads.
+        unsafe { lesson_place(book, book_len, layer, fact) }
+    };
+    fenced([book], &[], call).0
+}
+
+/// `lesson_place` on `book` itself.
+pub fn place_in_place(book: &[u8], layer: u32, fact: u32) -> u64 {
+    // SAFETY: the pointer and the length are those of a live slice, and the call only reads.
+    unsafe { lesson_place(book.as_ptr(), book.len(), layer, fact) }
 }

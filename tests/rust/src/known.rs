@@ -2,7 +2,7 @@
 //! too large for the oracle, and for the benchmark.
 
 use crate::book::{not, plain, Book, Literal};
-use crate::expected::counts;
+use crate::expected::{counts, place_of};
 use crate::oracle::{self, body_holds, Driven};
 use crate::rng::Rng;
 use crate::shapes::{all_arrows, hidden_order};
@@ -20,6 +20,11 @@ pub struct Known {
 }
 
 impl Known {
+    /// Whether a state is among the stable ones.
+    pub fn has(&self, record: &[u8]) -> bool {
+        (0..self.count).any(|number| oracle::record(&(self.state)(number)) == record)
+    }
+
     pub fn listing(&self) -> Vec<u8> {
         let mut records: Vec<Vec<u8>> = (0..self.count)
             .map(|number| oracle::record(&(self.state)(number)))
@@ -31,6 +36,18 @@ impl Known {
     /// What `lesson_list` answers.
     pub fn answer(&self) -> u64 {
         counts(self.branching, self.count)
+    }
+
+    /// What `lesson_place` answers, for each fact.
+    pub fn places(&self) -> Vec<u64> {
+        let mut standing = vec![0; self.book.atoms.into()];
+        for number in 0..self.count {
+            for (standing, stands) in standing.iter_mut().zip((self.state)(number)) {
+                *standing += usize::from(stands);
+            }
+        }
+        let place = |standing| place_of(self.branching, standing, self.count);
+        standing.into_iter().map(place).collect()
     }
 }
 
@@ -218,6 +235,44 @@ pub fn counted(count: usize, atoms: u16) -> Known {
                 .map(|atom| atom < choices && bit(number, at(atom)))
                 .collect()
         }),
+    }
+}
+
+/// So many branching facts, and one stable state: all of them stand, or none does. A search that
+/// sets them one way first comes to one of the two at the very end.
+pub fn single(branching: u16, stand: bool) -> Known {
+    let mut book = Book::new(branching + 1, 1);
+    for atom in 0..branching {
+        book = book.rule(0, plain(branching), &[not(atom), plain(branching)]);
+        if stand {
+            book = book.rule(0, plain(atom), &[]);
+        }
+    }
+    Known {
+        book,
+        layer: 0,
+        branching: branching.into(),
+        count: 1,
+        state: Box::new(move |_| {
+            (0..=branching)
+                .map(|atom| stand && atom < branching)
+                .collect()
+        }),
+    }
+}
+
+/// The same book with a quarrel about one fact more, and so without a stable state.
+pub fn quarrelled(known: Known) -> Known {
+    let (atom, layer) = (known.book.atoms, known.layer);
+    let mut book = known
+        .book
+        .rule(layer, plain(atom), &[])
+        .rule(layer, not(atom), &[]);
+    book.atoms += 1;
+    Known {
+        book,
+        count: 0,
+        ..known
     }
 }
 
@@ -434,6 +489,11 @@ mod tests {
         for count in 2..40 {
             assert_known("counted", &counted(count, 9));
         }
+        for stand in [true, false] {
+            assert_known("single", &single(5, stand));
+            assert_known("quarrelled", &quarrelled(single(5, stand)));
+        }
+        assert_known("quarrelled", &quarrelled(free(3, 0, 5)));
         for turn in 0..300 {
             let small = shapes::layered(&mut rng, Layering::Any);
             let layer = rng.below(small.layers.into()) as u8;

@@ -2,10 +2,11 @@
 //! and a second opinion on books that are too large for the oracle to try every state of.
 
 use crate::expected::{
-    counts, yes_or_no, BAD_CANDIDATE, BUFFER_TOO_SHORT, MAX_BRANCHING, NO_SUCH_LAYER,
-    TOO_MANY_BRANCHING,
+    branching, counts, place_of, yes_or_no, BAD_CANDIDATE, BUFFER_TOO_SHORT, MAX_BRANCHING,
+    NO_STABLE_STATE, NO_SUCH_FACT, NO_SUCH_LAYER, TOO_MANY_BRANCHING,
 };
 use crate::reader::{self, Parts};
+use std::ops::ControlFlow;
 
 const LAYERS: usize = 32;
 const NAMES: usize = 512;
@@ -143,8 +144,8 @@ impl Program {
         self.fill(&self.displaced(state), &mut reached) && reached == *state
     }
 
-    /// The branching facts, falling.
-    fn branching(&self) -> Vec<Name> {
+    /// The branching facts, falling, or cause 12.
+    fn branching(&self) -> Result<Vec<Name>, u64> {
         let mut branching = [false; 256];
         for row in &self.rows {
             for &name in self.body(row) {
@@ -154,7 +155,24 @@ impl Program {
             }
         }
         let branches = |&atom: &Name| branching[usize::from(atom)];
-        (0..256).rev().filter(branches).collect()
+        let branching: Vec<Name> = (0..256).rev().filter(branches).collect();
+        match branching.len() > MAX_BRANCHING {
+            true => Err(TOO_MANY_BRANCHING),
+            false => Ok(branching),
+        }
+    }
+
+    /// A record, with zeros behind it.
+    fn record(state: &Names) -> [u8; 32] {
+        let mut record = [0; 32];
+        for (atom, _) in state[..256]
+            .iter()
+            .enumerate()
+            .filter(|(_, &stands)| stands)
+        {
+            record[atom / 8] |= 0x80 >> (atom % 8);
+        }
+        record
     }
 
     /// The only state that can be stable and agree with the setting of the branching facts; where
@@ -178,9 +196,9 @@ impl Program {
         Some(reached)
     }
 
-    /// Visits every stable model once: each setting of the branching facts is gone through, those
-    /// in which an earlier fact does not stand first.
-    fn each_stable(&self, branching: &[Name], mut visit: impl FnMut(&Names)) {
+    /// Visits every stable model once, until the visitor has seen enough: each setting of the
+    /// branching facts is gone through, those in which an earlier fact does not stand first.
+    fn each_stable(&self, branching: &[Name], mut visit: impl FnMut(&Names) -> ControlFlow<()>) {
         let mut setting = NO_NAMES;
         for number in 0..1u32 << branching.len() {
             // Only the lowest bits have changed.
@@ -191,8 +209,8 @@ impl Program {
                 setting[usize::from(atom) + 256] = !stands;
             }
             if let Some(state) = self.candidate(branching, &setting) {
-                if self.stable(&state) {
-                    visit(&state);
+                if self.stable(&state) && visit(&state).is_break() {
+                    return;
                 }
             }
         }
@@ -200,33 +218,57 @@ impl Program {
 
     /// One pass to count, and one to write, as without a heap.
     fn list(&self, buffer: &mut [u8]) -> Result<u64, u64> {
-        let branching = self.branching();
-        if branching.len() > MAX_BRANCHING {
-            return Err(TOO_MANY_BRANCHING);
-        }
+        let branching = self.branching()?;
         let mut count = 0;
-        self.each_stable(&branching, |_| count += 1);
+        self.each_stable(&branching, |_| {
+            count += 1;
+            ControlFlow::Continue(())
+        });
         let width = self.atoms.div_ceil(8);
         let length = 11 + count * width;
         let listing = buffer.get_mut(..length).ok_or(BUFFER_TOO_SHORT)?;
         let (head, records) = listing.split_at_mut(11);
         let mut rising = Rising::new(records, width);
         self.each_stable(&branching, |state| {
-            let mut record = [0; 32];
-            for (atom, _) in state[..256]
-                .iter()
-                .enumerate()
-                .filter(|(_, &stands)| stands)
-            {
-                record[atom / 8] |= 0x80 >> (atom % 8);
-            }
-            rising.insert(&record[..width]);
+            rising.insert(&Program::record(state)[..width]);
+            ControlFlow::Continue(())
         });
         head[0] = 1;
         head[1..5].copy_from_slice(&(length as u32).to_be_bytes());
         head[5..7].copy_from_slice(&(self.atoms as u16).to_be_bytes());
         head[7..11].copy_from_slice(&(count as u32).to_be_bytes());
         Ok(counts(branching.len(), count))
+    }
+
+    fn one(&self, buffer: &mut [u8]) -> Result<u64, u64> {
+        let atoms = self.branching()?;
+        let width = self.atoms.div_ceil(8);
+        let place = buffer.get_mut(..width).ok_or(BUFFER_TOO_SHORT)?;
+        let mut answer = Err(NO_STABLE_STATE);
+        self.each_stable(&atoms, |state| {
+            place.copy_from_slice(&Program::record(state)[..width]);
+            answer = Ok(branching(atoms.len()));
+            ControlFlow::Break(())
+        });
+        answer
+    }
+
+    /// The search ends once both a state with the fact and one without it were seen.
+    fn place(&self, fact: u32) -> Result<u64, u64> {
+        if fact as usize >= self.atoms {
+            return Err(NO_SUCH_FACT);
+        }
+        let branching = self.branching()?;
+        let (mut standing, mut states) = (0, 0);
+        self.each_stable(&branching, |state| {
+            standing += usize::from(state[fact as usize]);
+            states += 1;
+            match (1..states).contains(&standing) {
+                true => ControlFlow::Break(()),
+                false => ControlFlow::Continue(()),
+            }
+        });
+        Ok(place_of(branching.len(), standing, states))
     }
 }
 
@@ -329,6 +371,20 @@ pub fn test(book: &[u8], layer: u32, candidate: &[u8]) -> u64 {
 pub fn list(book: &[u8], layer: u32, buffer: &mut [u8]) -> u64 {
     program(book, layer)
         .and_then(|program| program.list(buffer))
+        .unwrap_or_else(|cause| cause)
+}
+
+/// What `lesson_one` answers and does.
+pub fn one(book: &[u8], layer: u32, buffer: &mut [u8]) -> u64 {
+    program(book, layer)
+        .and_then(|program| program.one(buffer))
+        .unwrap_or_else(|cause| cause)
+}
+
+/// What `lesson_place` answers.
+pub fn place(book: &[u8], layer: u32, fact: u32) -> u64 {
+    program(book, layer)
+        .and_then(|program| program.place(fact))
         .unwrap_or_else(|cause| cause)
 }
 

@@ -1,0 +1,349 @@
+//! `lesson_place` of the compiled archive against the oracle, against books whose states are known,
+//! and against document 01's numbers.
+
+use lesson_tests::book::{hex, not, plain, Book};
+use lesson_tests::expected::{self, place_of, NO_STABLE_STATE, NO_SUCH_FACT};
+use lesson_tests::ffi;
+use lesson_tests::known::{self, Known, EVERY_FOLLOWING};
+use lesson_tests::oracle::Driven;
+use lesson_tests::plain as plain_rust;
+use lesson_tests::reader;
+use lesson_tests::rng::{seed, Rng};
+use lesson_tests::shapes::{self, Layering, B, NO_LAYERS};
+use std::thread;
+
+/// What to add to a fact's number so that only a part of it is the fact.
+const PARTS: [u32; 4] = [256, 32_768, 65_536, 1 << 31];
+
+/// The engine's answer on a fenced copy is the one expected.
+fn assert_answer(what: &str, book: &[u8], layer: u32, fact: u32, expected: u64) {
+    let engine = ffi::place(book, layer, fact);
+    assert!(
+        engine == expected,
+        "{what}, layer {layer}, fact {fact}: engine {engine:#X}, expected {expected:#X}\n{}",
+        hex(book)
+    );
+}
+
+/// Compares engine and oracle for every fact at every layer of `number` books.
+fn sweep(shape: &str, number: usize, generate: impl Fn(&mut Rng) -> Book) {
+    let seed = seed();
+    let mut rng = Rng::named(seed, shape);
+    let (mut places, mut without) = ([0; 3], 0);
+    for index in 0..number {
+        let book = generate(&mut rng);
+        let bytes = book.bytes();
+        let what = format!("seed {seed}, {shape}, book {index}");
+        let atoms = u32::from(book.atoms);
+        for layer in 0..book.layers {
+            let driven = Driven::new(&book, layer);
+            let (models, branching) = (driven.stable_models(), driven.branching_count());
+            for fact in 0..atoms {
+                let standing = models.iter().filter(|model| model[fact as usize]).count();
+                let expected = place_of(branching, standing, models.len());
+                assert_answer(&what, &bytes, layer.into(), fact, expected);
+                match expected {
+                    NO_STABLE_STATE => without += 1,
+                    granted => places[(granted >> 16) as usize] += 1,
+                }
+            }
+            let part = rng.pick(&PARTS) + rng.below(book.atoms.into()) as u32;
+            for fact in [atoms, part, u32::MAX] {
+                assert_answer(&what, &bytes, layer.into(), fact, NO_SUCH_FACT);
+            }
+        }
+    }
+    println!(
+        "seed {seed}, {shape}: {number} books, in none, some, every state: {places:?}, \
+         no state: {without}"
+    );
+    assert!(places.iter().all(|&times| times > 300), "{places:?}");
+    assert!(without > 300, "only {without} without a state");
+}
+
+#[test]
+fn places_in_books_in_chains_are_the_oracles() {
+    sweep("place, chains", 2_000, |rng| {
+        shapes::layered(rng, Layering::Chain)
+    });
+}
+
+#[test]
+fn places_in_books_in_diamonds_are_the_oracles() {
+    sweep("place, diamonds", 2_000, |rng| {
+        shapes::layered(rng, Layering::Diamond)
+    });
+}
+
+#[test]
+fn places_in_books_in_unrelated_branches_are_the_oracles() {
+    sweep("place, branches", 2_000, |rng| {
+        shapes::layered(rng, Layering::Branches)
+    });
+}
+
+#[test]
+fn places_in_books_with_any_arrows_are_the_oracles() {
+    sweep("place, any arrows", 2_000, |rng| {
+        shapes::layered(rng, Layering::Any)
+    });
+}
+
+#[test]
+fn places_in_books_with_many_states_are_the_oracles() {
+    sweep("place, many states", 700, |rng| {
+        shapes::crowded(rng, Layering::Diamond)
+    });
+}
+
+/// Every fact of a book whose states are known, and numbers that are none.
+fn assert_known(what: &str, known: &Known) {
+    let bytes = known.book.bytes();
+    let layer = known.layer.into();
+    let atoms = u32::from(known.book.atoms);
+    for (fact, place) in (0..atoms).zip(known.places()) {
+        assert_answer(what, &bytes, layer, fact, place);
+    }
+    for fact in [atoms, u32::MAX].into_iter().chain(PARTS) {
+        assert_answer(what, &bytes, layer, fact.max(atoms), NO_SUCH_FACT);
+    }
+}
+
+#[test]
+fn each_fact_is_placed_at_every_number_of_facts() {
+    let seed = seed();
+    let mut rng = Rng::named(seed, "place, spread");
+    let sizes = [8, 9, 16, 17, 64, 65, 255, 256];
+    for atoms in sizes {
+        for _ in 0..6 {
+            let small = shapes::crowded(&mut rng, Layering::Chain);
+            let layer = rng.below(small.layers.into()) as u8;
+            let known = known::spread(&mut rng, &small, layer, atoms);
+            assert_known(&format!("seed {seed}, spread over {atoms} facts"), &known);
+        }
+    }
+    println!("seed {seed}, place, spread: {} books", 6 * sizes.len());
+    for atoms in [1, 7, 8, 9, 255, 256] {
+        assert_known("last fact free", &known::free(1, atoms - 1, atoms));
+    }
+    for atoms in [1, 7, 8, 254, 255] {
+        assert_known("no state", &known::quarrelled(known::free(1, 0, atoms)));
+    }
+}
+
+/// In books of any number of states, some facts stand in all states but one, and some in one.
+#[test]
+fn the_last_state_found_may_decide() {
+    for count in [2, 3, 5, 9, 16, 17, 33] {
+        assert_known(&format!("{count} states"), &known::counted(count, 9));
+    }
+    for following in EVERY_FOLLOWING {
+        let known = known::followed(4, 4, 12, following);
+        assert_known(&format!("{following:?}"), &known);
+    }
+    for branching in [1, 2, 7] {
+        for stand in [true, false] {
+            assert_known("single", &known::single(branching, stand));
+        }
+    }
+}
+
+/// One call, for long searches.
+fn assert_known_once(what: &str, known: &Known, fact: u16, expected: u64) {
+    let answer = ffi::place_in_place(&known.book.bytes(), known.layer.into(), fact.into());
+    assert!(
+        answer == expected,
+        "{what}, fact {fact}: engine {answer:#X}, expected {expected:#X}"
+    );
+}
+
+#[test]
+fn twenty_branching_facts_are_searched_to_the_end() {
+    let single = known::single(20, true);
+    assert_known_once("all stand", &single, 7, place_of(20, 1, 1));
+    assert_known_once("and one does not", &single, 20, place_of(20, 0, 1));
+    let single = known::single(20, false);
+    assert_known_once("none stands", &single, 7, place_of(20, 0, 1));
+    let pairs = known::pairs(10, 0);
+    assert_known_once("one of two", &pairs, 19, place_of(20, 512, 1_024));
+    let none = known::quarrelled(pairs);
+    assert_known_once("a quarrel", &none, 0, NO_STABLE_STATE);
+}
+
+#[test]
+fn more_than_twenty_branching_facts_are_refused_12_and_no_fact_11_before() {
+    for known in [
+        known::pairs(10, 1),
+        known::displacing_pairs(10, 1),
+        known::single(21, true),
+        known::quarrelled(known::pairs(11, 0)),
+        known::pairs(128, 0),
+    ] {
+        let bytes = known.book.bytes();
+        let layer = known.layer.into();
+        let atoms = u32::from(known.book.atoms);
+        let what = format!("g = {}", known.branching);
+        for fact in [0, atoms - 1] {
+            assert_answer(&what, &bytes, layer, fact, 12);
+        }
+        for fact in [atoms, u32::MAX] {
+            assert_answer(&what, &bytes, layer, fact, 11);
+        }
+    }
+}
+
+#[test]
+fn a_book_without_states_is_refused_14_for_each_fact_and_only_then() {
+    let book = Book::new(3, 1)
+        .rule(0, plain(0), &[not(0)])
+        .rule(0, plain(1), &[]);
+    for fact in 0..3 {
+        assert_answer("p if not p", &book.bytes(), 0, fact, 14);
+    }
+    let book = book.rule(0, plain(0), &[]);
+    for (fact, standing) in [(0, 1), (1, 1), (2, 0)] {
+        let place = place_of(1, standing, 1);
+        assert_answer("and p", &book.bytes(), 0, fact, place);
+    }
+}
+
+/// In each layer other facts stand.
+#[test]
+fn layers_of_the_book_are_driven_and_all_others_are_refused_9() {
+    for layers in [1, 2, 31, 32] {
+        let mut book = Book::new(5, layers);
+        for layer in 0..layers {
+            for atom in (0..5).filter(|atom| layer >> atom & 1 == 1) {
+                book = book.rule(layer, plain(atom), &[]);
+            }
+        }
+        let bytes = book.bytes();
+        for layer in 0..layers {
+            for fact in 0..5 {
+                let place = place_of(0, (layer >> fact & 1).into(), 1);
+                assert_answer("a layer", &bytes, layer.into(), fact, place);
+            }
+        }
+        for layer in NO_LAYERS.into_iter().chain([layers.into()]) {
+            for fact in [0, 4, 5, u32::MAX] {
+                assert_answer("no layer", &bytes, layer, fact, 9);
+            }
+        }
+    }
+}
+
+#[test]
+fn book_b_at_its_layers() {
+    for (layer, standing, g) in [(1, [1, 0, 1], 1), (2, [1, 0, 0], 2), (3, [0, 0, 1], 2)] {
+        for (fact, standing) in (0..3).zip(standing) {
+            assert_answer("B", &B, layer, fact, place_of(g, standing, 1));
+        }
+    }
+}
+
+#[test]
+fn facts_of_the_largest_lawful_books_are_placed() {
+    let seed = seed();
+    let mut rng = Rng::named(seed, "place, busy");
+    for branching in [1, 8] {
+        let known = known::busy(&mut rng, branching);
+        let places = known.places();
+        for fact in (0..256).step_by(15) {
+            let what = format!("seed {seed}, g = {branching}");
+            assert_known_once(&what, &known, fact, places[usize::from(fact)]);
+        }
+    }
+    assert_known_once("a chain", &known::chained(2), 254, place_of(3, 4, 4));
+}
+
+#[test]
+fn any_bytes_are_answered_as_by_reader_and_oracle() {
+    let seed = seed();
+    let mut rng = Rng::named(seed, "place, any call");
+    let mut tally = [0; 15];
+    let mut books = 0;
+    for (shape, generate) in shapes::EVERY_SHAPE {
+        let number = match shape.starts_with("large") {
+            true => 150,
+            false => 1_500,
+        };
+        for index in 0..number {
+            let bytes = shapes::quick(&mut rng, generate);
+            let field = |at: usize| usize::from(bytes.get(at).copied().unwrap_or(1));
+            let layer = match rng.chance(85) {
+                true => rng.below(field(7).max(1)) as u32,
+                false => rng
+                    .pick(&NO_LAYERS)
+                    .min(field(7) as u32 + rng.below(3) as u32),
+            };
+            let facts = field(5) % 2 * 256 + field(6);
+            let fact = match rng.chance(80) {
+                true => rng.below(facts.max(1)) as u32,
+                false => facts as u32 + rng.pick(&[0, 1, 256, 65_536]),
+            };
+            let expected = match reader::read(&bytes) {
+                Ok(book) if book.atoms > 10 => plain_rust::place(&bytes, layer, fact),
+                _ => expected::place(&bytes, layer, fact),
+            };
+            let what = format!("seed {seed}, {shape}, book {index}");
+            assert_answer(&what, &bytes, layer, fact, expected);
+            tally[(expected & 0xFF) as usize] += 1;
+        }
+        books += number;
+    }
+    println!("seed {seed}, place, any call: {books} books, answers 0 to 14: {tally:?}");
+    for answer in [0, 1, 2, 3, 4, 5, 6, 7, 8, 9, 11, 12, 14] {
+        assert!(tally[answer] >= 50, "{answer} is rare: {tally:?}");
+    }
+    assert_eq!(tally[10] + tally[13], 0);
+}
+
+/// Bits 0 to 7 of `causes` for causes 1 to 8, then 9, 11, 12 and 14.
+#[test]
+fn of_several_causes_the_smallest_is_given() {
+    const CAUSES: [u64; 12] = [1, 2, 3, 4, 5, 6, 7, 8, 9, 11, 12, 14];
+    let seed = seed();
+    let mut rng = Rng::named(seed, "place, smallest cause");
+    for causes in 0..1 << CAUSES.len() {
+        let wanted = |at: usize| causes >> at & 1 == 1;
+        let mut known = match wanted(10) {
+            true => known::displacing_pairs(10, 1),
+            false => known::displacing_pairs(2, 0),
+        };
+        if wanted(11) {
+            known = known::quarrelled(known);
+        }
+        let bytes = shapes::broken(&mut rng, &known.book, causes as u8);
+        let layer = match wanted(8) {
+            true => rng.pick(&NO_LAYERS),
+            false => known.layer.into(),
+        };
+        let fact = match wanted(9) {
+            true => rng.pick(&[known.book.atoms.into(), 256, 65_536, u32::MAX]),
+            false => rng.below(4) as u32,
+        };
+        let expected = match (0..CAUSES.len()).find(|&at| wanted(at)) {
+            Some(smallest) => CAUSES[smallest],
+            None => known.places()[fact as usize],
+        };
+        let what = format!("seed {seed}, causes {causes:012b}");
+        assert_answer(&what, &bytes, layer, fact, expected);
+    }
+}
+
+#[test]
+fn four_threads_on_one_book_get_the_same_answers() {
+    let known = known::busy(&mut Rng::named(seed(), "place, threads"), 8);
+    let bytes = known.book.bytes();
+    let places = known.places();
+    thread::scope(|scope| {
+        for _ in 0..4 {
+            scope.spawn(|| {
+                for fact in [0, 3, 8, 100, 200, 255] {
+                    let answer = ffi::place_in_place(&bytes, known.layer.into(), fact);
+                    assert_eq!(answer, places[fact as usize]);
+                }
+            });
+        }
+    });
+}
