@@ -1,3 +1,4 @@
 pub mod PassLaws
 pub mod SetUpLaws
 pub mod StateLaws
+pub mod FirstLaws

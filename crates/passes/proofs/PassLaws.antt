@@ -51,7 +51,7 @@ module _ {book rows overridden atoms : List ℕ} {layer n : ℕ} (w : Searchable
   abbrev P : Program
   P = programOf book layer
 
-  found-is : foundBy (atSetting P atoms) atoms (replicate 256 false) ≡ searched P
+  pub found-is : foundBy (atSetting P atoms) atoms (replicate 256 false) ≡ searched P
   unfolding searched
   found-is = ap (λ (l : List ℕ). foundBy (atSetting P l) l (replicate 256 false)) (w .listed)
 

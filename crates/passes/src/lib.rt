@@ -8,6 +8,7 @@ ghost use Rattle.base.specs.Lists.{flat};
 ghost use Rattle.models.specs.Listing.{stableModels, recordSize, recordOf};
 ghost use Rattle.table.specs.Table.{programOf};
 ghost use Rattle.search.specs.Searchable.{Searchable};
+ghost use Rattle.passes.specs.First.{FirstWritten};
 ghost use Rattle.passes.specs.Tallied.{Tallied};
 use search::Goal;
 use search::Visit;
@@ -96,4 +97,43 @@ pub fn write_all(
         part,
         v,
     );
+}
+
+// Writes the record of the first stable model that the search meets into a part of a record's size, and says whether there is one.
+pub fn write_first(
+    book: &[u8],
+    layer: usize,
+    rows: &[u16],
+    overridden: &[u32],
+    atoms: &[u8],
+    n: usize,
+    part: &mut [u8],
+) -> bool
+    requires { ⌜ Searchable (now book) (now rows) (now overridden) (now atoms) layer n ⌝ }
+    requires { ⌜ length (now atoms) ≤ maxBranching ⌝ }
+    requires { ⌜ length (now part) ≡ recordSize n ⌝ }
+    ensures { λ r. ⌜ FirstWritten (programOf (now (book .entry)) layer) n (now (part .entry)) r (now (part .exit)) ⌝ }
+{
+    let size = part.len();
+    let v = Visit {
+        goal: Goal::First,
+        atom: 0,
+        count: 0,
+        standing: 0,
+        lo: 0,
+        hi: size,
+    };
+    let end = search(
+        book,
+        layer,
+        rows,
+        overridden,
+        atoms,
+        atoms,
+        n,
+        [false; 256],
+        part,
+        v,
+    );
+    0 < end.count
 }
