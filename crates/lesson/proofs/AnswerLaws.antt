@@ -6,6 +6,10 @@ use Rattle.list_call.specs.declared.ListReply.{ListReply}
 use Rattle.list_call.specs.declared.ListReply.the-variants.{Listed}
 use Rattle.list_call.specs.Reply.{listReply}
 use Rattle.list_call.proofs.Condition3Laws.{granted-small}
+use Rattle.one_call.specs.declared.OneReply.{OneReply}
+use Rattle.one_call.specs.declared.OneReply.the-variants.{Written}
+use Rattle.one_call.specs.Reply.{oneReply}
+use Rattle.one_call.proofs.OneLaws as one-laws
 use Rattle.place_call.specs.declared.Place.{Place}
 use Rattle.place_call.specs.declared.PlaceReply.{PlaceReply}
 use Rattle.place_call.specs.declared.PlaceReply.the-variants.{Placed}
@@ -15,6 +19,9 @@ use Rattle.lesson.specs.Answers.{placeBits, placeAnswer}
 
 pub list-small : (book : List ℕ) (layer : ℕ) (buffer : List ℕ) (r : ListReply) (k g : ℕ) → r ≡ listReply book layer buffer → r ≡ Listed k g → (k ≤ 1048576) × (g ≤ 20)
 list-small book layer buffer r k g e q = granted-small (record { book = book; layer = layer; buffer = buffer }) k g (sym e ∙ q)
+
+pub one-small : (book : List ℕ) (layer : ℕ) (buffer : List ℕ) (r : OneReply) (g : ℕ) → r ≡ oneReply book layer buffer → r ≡ Written g → g ≤ 20
+one-small book layer buffer r g e q = one-laws.granted-small book layer buffer g (sym e ∙ q)
 
 pub place-small : (book : List ℕ) (layer fact : ℕ) (r : PlaceReply) (p : Place) (g : ℕ) → r ≡ placeReply book layer fact → r ≡ Placed p g → g ≤ 20
 place-small book layer fact r p g e q = place-laws.granted-small book layer fact p g (sym e ∙ q)

@@ -6,6 +6,8 @@ use Rattle.book.specs.declared.Verdict.the-variants.{Accepted, Refused}
 use Rattle.book.specs.Numbers.{numberOf}
 use Rattle.list_call.specs.declared.ListReply.{ListReply}
 use Rattle.list_call.specs.declared.ListReply.the-variants as list
+use Rattle.one_call.specs.declared.OneReply.{OneReply}
+use Rattle.one_call.specs.declared.OneReply.the-variants as one
 use Rattle.place_call.specs.declared.Place.{Place}
 use Rattle.place_call.specs.declared.Place.the-variants.{Every, InSome, Nowhere}
 use Rattle.place_call.specs.declared.PlaceReply.{PlaceReply}
@@ -28,6 +30,11 @@ testAnswer (reply.Refused c) = numberOf c
 abbrev pub listAnswer : ListReply → ℕ
 listAnswer (list.Listed k g) = k * 65536 + g * 256
 listAnswer (list.Refused c) = numberOf c
+
+-- lesson_one: g in bits 8 to 15
+abbrev pub oneAnswer : OneReply → ℕ
+oneAnswer (one.Written g) = g * 256
+oneAnswer (one.Refused c) = numberOf c
 
 -- lesson_place: g in bits 8 to 15; bits 16 and 17 are 0 for none, 1 for some and 2 for every
 abbrev pub placeBits : Place → ℕ

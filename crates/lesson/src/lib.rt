@@ -5,13 +5,16 @@ ghost use Prim.Native.Nat.{_≤_};
 ghost use Rattle.book.specs.Causes.{verdict};
 ghost use Rattle.test_call.specs.Reply.{testReply};
 ghost use Rattle.list_call.specs.Reply.{listReply, listBuffer};
+ghost use Rattle.one_call.specs.Reply.{oneReply, OneBuffer};
 ghost use Rattle.place_call.specs.Reply.{placeReply};
-ghost use Rattle.lesson.specs.Answers.{checkAnswer, testAnswer, listAnswer, placeBits, placeAnswer};
+ghost use Rattle.lesson.specs.Answers.{checkAnswer, testAnswer, listAnswer, oneAnswer, placeBits, placeAnswer};
 use book::Verdict;
 use book::cause_number;
 use book::check;
 use list_call::ListReply;
 use list_call::list;
+use one_call::OneReply;
+use one_call::one;
 use place_call::Place;
 use place_call::PlaceReply;
 use place_call::fact_place;
@@ -64,6 +67,20 @@ pub extern "C" fn lesson_list(book: &[u8], layer: u32, buffer: &mut [u8]) -> u64
     match reply {
         ListReply::Listed(k, g) => (k as u64) * 65536 + (g as u64) * 256,
         ListReply::Refused(c) => cause_number(c),
+    }
+}
+
+// Writes the record of a stable state of a book at a layer into the buffer's first bytes, or names the first of causes 1 to 9, 12,
+// 13 and 14 that applies and leaves every byte. The answer carries g.
+#[no_mangle]
+pub extern "C" fn lesson_one(book: &[u8], layer: u32, buffer: &mut [u8]) -> u64
+    ensures answer { λ r. ⌜ r ≡ oneAnswer (oneReply (now (book .entry)) layer (now (buffer .entry))) ⌝ }
+    ensures bytes { λ _. ⌜ OneBuffer (now (book .entry)) layer (now (buffer .entry)) (now (buffer .exit)) ⌝ }
+{
+    let reply = one(book, layer, buffer);
+    match reply {
+        OneReply::Written(g) => (g as u64) * 256,
+        OneReply::Refused(c) => cause_number(c),
     }
 }
 

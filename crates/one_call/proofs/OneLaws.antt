@@ -1,0 +1,125 @@
+-- The call for one state, step by step: each refusal, and the buffer once a record is written. Assumes nothing.
+use mathlib.Core.Path.{_≡_, refl, sym, ap, ap₂, subst, _∙_}
+use mathlib.Core.Bool.{Bool, true, false}
+use mathlib.Core.List.{List, [], _∷_, _++_, List·Memᴰ·head, Memᴰ·append-right}
+use Prim.Native.Nat.{ℕ, _-_, _<_, _≤_}
+use native.Mathlib.Omega.{arith}
+use borrow.Author.Tests.{lt-ltb, le-ltb, ltb-false}
+use borrow.Rule.Slice.PartMut.{putMid}
+use lib.ListN.{length, take, drop, take-append-drop}
+use lib.Seq.{length-take-le}
+use Rattle.base.specs.Bounds.{maxBranching}
+use Rattle.book.specs.Causes.{verdictIf, firstOf}
+use Rattle.book.specs.declared.Cause.{Cause}
+use Rattle.book.specs.declared.Cause.the-variants.{TooManyBranching, BufferTooShort, NoStableState}
+use Rattle.book.specs.declared.Verdict.{Verdict}
+use Rattle.book.specs.declared.Verdict.the-variants.{Accepted, Refused}
+use Rattle.models.specs.Program.{Program}
+use Rattle.models.specs.StableModels.{Interpretation}
+use Rattle.models.specs.Branching.{branchingCount}
+use Rattle.models.specs.Listing.{recordSize, recordOf}
+use Rattle.table.specs.Table.{programOf, TableMade}
+use Rattle.accepted.specs.Accepted.{IsAccepted}
+use Rattle.accepted.specs.Driven.{layerTests}
+use Rattle.accepted.proofs.FirstLaws.{accepted-none, first-append, first-refused}
+use Rattle.branching.specs.Marks.{Listed}
+use Rattle.search.specs.Searchable.{Searchable}
+use Rattle.passes.specs.Limit.{hasTooManyBranching, hasNoStableState}
+use Rattle.passes.specs.First.{FirstWritten}
+use Rattle.passes.proofs.SetUpLaws.{too-many, not-too-many}
+use Rattle.one_call.specs.declared.OneReply.{OneReply}
+use Rattle.one_call.specs.declared.OneReply.the-variants as reply
+use Rattle.one_call.specs.Reply.{roomTests, searchTests, oneTests, replyOf, Holds, BufferOf, oneReply, OneBuffer, Answers}
+
+-- ---- room and search
+module _ {book rows overridden atoms : List ℕ} {layer n : ℕ} (w : Searchable book rows overridden atoms layer n) (size : ℕ) (e : size ≡ recordSize n) (old : List ℕ) where
+  abbrev P : Program
+  P = programOf book layer
+
+  g-is : length atoms ≡ branchingCount P
+  unfolding branchingCount
+  g-is = ap length (w .listed)
+
+  size-is : size ≡ recordSize (P .atoms)
+  size-is = e ∙ ap recordSize (w .size)
+
+  pub room-refused : length old < size → Answers (firstOf (roomTests P (length old))) P old (reply.Refused BufferTooShort) old
+  unfolding firstOf verdictIf roomTests replyOf
+  room-refused h =
+      let q : firstOf (roomTests P (length old)) ≡ Refused BufferTooShort = rw (lt-ltb (length old) (recordSize (P .atoms)) (omega (arith, size-is))) refl in
+      rw q (record { reply-is = refl; buffer-is = refl })
+
+  module _ (h : size ≤ length old) where
+    pub part-sized : length (take (size - 0) (drop 0 old)) ≡ recordSize n
+    part-sized = length-take-le (size - 0) (drop 0 old) (omega arith) ∙ omega (arith, e)
+
+    -- the part comes back in front of the rest
+    back : (part : List ℕ) → putMid 0 (size - 0) old part ≡ part ++ drop size old
+    back part = let z : size - 0 ≡ size = omega arith in ap (λ (x : ℕ). part ++ drop x old) z
+
+    module _ {found : Bool} {part : List ℕ} (f : FirstWritten P n (take (size - 0) (drop 0 old)) found part) where
+      pub state-refused : found ≡ false → Answers (firstOf (roomTests P (length old))) P old (reply.Refused NoStableState) (putMid 0 (size - 0) old part)
+      unfolding firstOf verdictIf roomTests replyOf
+      state-refused b =
+          let s = f .none b in
+          let q : firstOf (roomTests P (length old)) ≡ Refused NoStableState = rw (le-ltb (length old) (recordSize (P .atoms)) (omega (arith, size-is)), s .0) refl in
+          let z : size - 0 ≡ size = omega arith in
+          rw q (record { reply-is = refl; buffer-is = back part ∙ ap (λ (x : List ℕ). x ++ drop size old) (s .1 ∙ ap (λ (x : ℕ). take x old) z) ∙ take-append-drop size old })
+
+      pub state-written : found ≡ true → Answers (firstOf (roomTests P (length old))) P old (reply.Written (length atoms)) (putMid 0 (size - 0) old part)
+      unfolding firstOf verdictIf roomTests replyOf
+      state-written b =
+          let s = f .some b in
+          let q : firstOf (roomTests P (length old)) ≡ Accepted = rw (le-ltb (length old) (recordSize (P .atoms)) (omega (arith, size-is)), s .0) refl in
+          let m : Interpretation = s .1 .0 in
+          let r : part ≡ recordOf (P .atoms) m = s .1 .2 ∙ ap (λ (k : ℕ). recordOf k m) (w .size) in
+          rw q (record {
+            reply-is = ap reply.Written g-is;
+            buffer-is = record { state = m; stable = s .1 .1; bytes = back part ∙ ap₂ (λ (x : List ℕ) (k : ℕ). x ++ drop k old) r size-is };
+          })
+
+-- ---- cause 12
+module _ (book : List ℕ) (layer : ℕ) (ok : IsAccepted book) {rows overridden : List ℕ} {count : ℕ} (made : TableMade (programOf book layer) book rows overridden count)
+    {atoms : List ℕ} {g : ℕ} (l : Listed (programOf book layer) atoms g) where
+  module _ (old : List ℕ) where
+    pub branching-refused : 20 < g → Answers (firstOf (searchTests (programOf book layer) (length old))) (programOf book layer) old (reply.Refused TooManyBranching) old
+    unfolding firstOf verdictIf searchTests replyOf
+    branching-refused h =
+        let e : firstOf (searchTests (programOf book layer) (length old)) ≡ Refused TooManyBranching = rw (too-many book layer ok made l h) refl in
+        rw e (record { reply-is = refl; buffer-is = refl })
+
+    pub branching-passes : g ≤ 20 → (r : OneReply) (new : List ℕ) → Answers (firstOf (roomTests (programOf book layer) (length old))) (programOf book layer) old r new
+        → Answers (firstOf (searchTests (programOf book layer) (length old))) (programOf book layer) old r new
+    unfolding firstOf verdictIf searchTests
+    branching-passes h r new a = rw (not-too-many book layer ok made l h) a
+
+-- ---- the call
+module _ (book : List ℕ) (layer : ℕ) (old : List ℕ) (v : Verdict) (e : v ≡ firstOf (layerTests book layer)) where
+  pub call-refused : (c : Cause) → v ≡ Refused c → (reply.Refused c ≡ oneReply book layer old) × OneBuffer book layer old old
+  unfolding oneReply oneTests replyOf
+  call-refused c q =
+      let z : firstOf (layerTests book layer ++ searchTests (programOf book layer) (length old)) ≡ Refused c = first-refused (layerTests book layer) (searchTests (programOf book layer) (length old)) c (sym e ∙ q) in
+      (rw z refl, rw z refl)
+
+  pub call-answered : v ≡ Accepted → (r : OneReply) (new : List ℕ) → Answers (firstOf (searchTests (programOf book layer) (length old))) (programOf book layer) old r new
+      → (r ≡ oneReply book layer old) × OneBuffer book layer old new
+  unfolding oneReply oneTests
+  call-answered q r new a =
+      let z : firstOf (layerTests book layer ++ searchTests (programOf book layer) (length old)) ≡ firstOf (searchTests (programOf book layer) (length old)) = first-append (layerTests book layer) (searchTests (programOf book layer) (length old)) (sym e ∙ q) in
+      (rw z (a .reply-is), rw z (a .buffer-is))
+
+-- a granted answer carries a g of at most 20
+pub granted-small : (book : List ℕ) (layer : ℕ) (old : List ℕ) (g : ℕ) → oneReply book layer old ≡ reply.Written g → g ≤ 20
+unfolding oneReply replyOf oneTests searchTests hasTooManyBranching
+granted-small book layer old g e = go (firstOf (oneTests book layer (length old))) refl e
+  where
+    go : (v : Verdict) → firstOf (oneTests book layer (length old)) ≡ v → replyOf v (programOf book layer) ≡ reply.Written g → g ≤ 20
+    go (Refused c) q f = let z : _≡_ {A = ℕ} 0 1 = cc in absurd (omega arith)
+    go Accepted q f =
+        let b : g ≡ branchingCount (programOf book layer) = cc in
+        omega (
+          arith,
+          b,
+          ltb-false maxBranching (branchingCount (programOf book layer))
+              (accepted-none (oneTests book layer (length old)) .0 q (record { cause = TooManyBranching; applies = hasTooManyBranching (programOf book layer) }) (Memᴰ·append-right (layerTests book layer) (List·Memᴰ·head refl))),
+        )

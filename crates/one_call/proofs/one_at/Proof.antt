@@ -1,0 +1,117 @@
+-- `one_at` meets its contract: the table and the branching facts make the search possible; with more than 20 it is refused.
+-- Assumes nothing.
+use Rattle.models.specs.Program.{programAt}
+use Rattle.table.proofs.TableLaws.{lent-table}
+use Rattle.passes.proofs.SetUpLaws.{searchable, atoms-lent}
+use Rattle.one_call.proofs.OneLaws.{branching-refused, branching-passes}
+use borrow.Author.Needs.{needs}
+use Rattle.one_call.proofs.one_at.Statement.{statement}
+use Rattle.one_call.proofs.one_at.Tie as tie
+use Rattle.one_call.proofs.one_at.Reads as reads
+use Rattle.one_call.proofs.one_at.Lts as lts
+use Rattle.accepted.proofs.atom_count.Reads as atom-count-reads
+use Rattle.accepted.proofs.prepare.Reads as prepare-reads
+use Rattle.branching.proofs.branching_atoms.Reads as branching-atoms-reads
+use Rattle.one_call.proofs.one_found.Reads as one-found-reads
+
+atom-count-requires : tie.Need-atom-count-requires
+atom-count-requires c κs = search needs
+
+prepare-requires : tie.Need-prepare-requires
+prepare-requires c κs = search needs
+
+mul-branching-atoms : tie.Need-mul-branching-atoms
+mul-branching-atoms c = search needs
+
+sub-branching-atoms : tie.Need-sub-branching-atoms
+sub-branching-atoms c = search needs
+
+part-branching-atoms-start : tie.Need-part-branching-atoms-start
+part-branching-atoms-start c = search needs
+
+part-branching-atoms-end : tie.Need-part-branching-atoms-end
+part-branching-atoms-end c = search needs
+
+sub-branching-atoms-2 : tie.Need-sub-branching-atoms-2
+sub-branching-atoms-2 c = search needs
+
+part-branching-atoms-start-2 : tie.Need-part-branching-atoms-start-2
+part-branching-atoms-start-2 c = search needs
+
+part-branching-atoms-end-2 : tie.Need-part-branching-atoms-end-2
+part-branching-atoms-end-2 c = search needs
+
+branching-atoms-requires : tie.Need-branching-atoms-requires
+unfolding programAt
+branching-atoms-requires c κs = (lent-table (c .before .before .before .before .before .before .prepare .ensures), (c .before .before .before .before .before .before .before .atom-count .ensures .0, c .before .before .before .before .before .before .before .atom-count .ensures .2))
+
+returns : tie.Need-returns
+returns c = branching-refused (c .before .before .before .before .before .before .before .before .before .before .before .before .before .args .book .now) (c .before .before .before .before .before .before .before .before .before .before .before .before .before .args .layer) (c .before .before .before .before .before .before .before .before .before .before .before .before .before .pre .0) (c .before .before .before .before .before .before .before .before .before .prepare .ensures) (c .before .before .branching-atoms .ensures) (c .before .before .before .before .before .before .before .before .before .before .before .before .before .args .buffer .now) (c .if1 .taken)
+
+mul-one-found : tie.Need-mul-one-found
+mul-one-found c = search needs
+
+sub-one-found : tie.Need-sub-one-found
+sub-one-found c = search needs
+
+part-one-found-start : tie.Need-part-one-found-start
+part-one-found-start c = search needs
+
+part-one-found-end : tie.Need-part-one-found-end
+part-one-found-end c = search needs
+
+sub-one-found-2 : tie.Need-sub-one-found-2
+sub-one-found-2 c = search needs
+
+part-one-found-start-2 : tie.Need-part-one-found-start-2
+part-one-found-start-2 c = search needs
+
+part-one-found-end-2 : tie.Need-part-one-found-end-2
+part-one-found-end-2 c = search needs
+
+sub-one-found-3 : tie.Need-sub-one-found-3
+sub-one-found-3 c = search needs
+
+part-one-found-start-3 : tie.Need-part-one-found-start-3
+part-one-found-start-3 c = search needs
+
+part-one-found-end-3 : tie.Need-part-one-found-end-3
+part-one-found-end-3 c = search needs
+
+one-found-requires : tie.Need-one-found-requires
+one-found-requires c κs = let s = c .before .before .before .before .before .before .before .before .before .before .before .before .before .before .before .before .before .before .before .before in let a = s .args in (searchable (a .book .now) (a .layer) (s .pre .0) (c .before .before .before .before .before .before .before .before .before .before .before .before .before .before .before .before .prepare .ensures) (c .before .before .before .before .before .before .before .before .before .branching-atoms .ensures) (c .before .before .before .before .before .before .before .before .before .before .before .before .before .before .before .before .before .atom-count .result) (c .before .before .before .before .before .before .before .before .before .before .before .before .before .before .before .before .before .atom-count .ensures .0) (c .before .before .before .before .before .before .before .before .before .before .before .before .before .before .before .before .before .atom-count .ensures .1) (c .before .before .before .before .before .before .before .before .before .before .before .before .before .before .before .before .before .atom-count .ensures .2), atoms-lent (a .book .now) (a .layer) (s .pre .0) (c .before .before .before .before .before .before .before .before .before .before .before .before .before .before .before .before .prepare .ensures) (c .before .before .before .before .before .before .before .before .before .branching-atoms .ensures) (c .before .before .before .before .before .before .before .if1 .left))
+
+same-length : tie.Need-same-length
+same-length c = search needs
+
+returns-2 : tie.Need-returns-2
+returns-2 c = let s = c .before .before .before .before .before .before .before .before .before .before .before .before .before .before .before .before .before .before .before .before .before .before .before in let a = s .args in branching-passes (a .book .now) (a .layer) (s .pre .0) (c .before .before .before .before .before .before .before .before .before .before .before .before .before .before .before .before .before .before .before .prepare .ensures) (c .before .before .before .before .before .before .before .before .before .before .before .before .branching-atoms .ensures) (a .buffer .now) (c .before .before .before .before .before .before .before .before .before .before .if1 .left) _ _ (c .before .before .one-found .ensures)
+
+pub one-at-spec : {M : Type 1} → statement M
+one-at-spec =
+    tie.close
+    (tie.spec
+    atom-count-requires
+    prepare-requires
+    mul-branching-atoms
+    sub-branching-atoms
+    part-branching-atoms-start
+    part-branching-atoms-end
+    sub-branching-atoms-2
+    part-branching-atoms-start-2
+    part-branching-atoms-end-2
+    branching-atoms-requires
+    returns
+    mul-one-found
+    sub-one-found
+    part-one-found-start
+    part-one-found-end
+    sub-one-found-2
+    part-one-found-start-2
+    part-one-found-end-2
+    sub-one-found-3
+    part-one-found-start-3
+    part-one-found-end-3
+    one-found-requires
+    same-length
+    returns-2)

@@ -1,0 +1,60 @@
+-- Document 01: one state. Its causes in order of test, its answer, and the buffer afterwards: which stable state is written stays
+-- open, and everything else is an equation. Assumes nothing.
+use mathlib.Core.Path.{_≡_}
+use mathlib.Core.List.{List, [], _∷_, _++_}
+use Prim.Native.Nat.{ℕ}
+use lib.Dec.{ltb}
+use lib.ListN.{length, drop}
+use Rattle.models.specs.Program.{Program}
+use Rattle.models.specs.StableModels.{Interpretation, StableModel}
+use Rattle.models.specs.Branching.{branchingCount}
+use Rattle.models.specs.Listing.{recordSize, recordOf}
+use Rattle.table.specs.Table.{programOf}
+use Rattle.book.specs.Causes.{Test, firstOf}
+use Rattle.book.specs.declared.Cause.the-variants.{TooManyBranching, BufferTooShort, NoStableState}
+use Rattle.book.specs.declared.Verdict.{Verdict}
+use Rattle.book.specs.declared.Verdict.the-variants.{Accepted, Refused}
+use Rattle.accepted.specs.Driven.{layerTests}
+use Rattle.passes.specs.Limit.{hasTooManyBranching, hasNoStableState}
+use Rattle.one_call.specs.declared.OneReply.{OneReply}
+use Rattle.one_call.specs.declared.OneReply.the-variants as reply
+
+-- 13: the buffer, of so many bytes, is shorter than one record; then 14: no stable state
+unfoldable pub roomTests : Program → ℕ → List Test
+roomTests P room =
+    record { cause = BufferTooShort; applies = ltb room (recordSize (P .atoms)) } ∷ record { cause = NoStableState; applies = hasNoStableState P } ∷ []
+
+-- 12, then 13 and 14
+unfoldable pub searchTests : Program → ℕ → List Test
+searchTests P room = record { cause = TooManyBranching; applies = hasTooManyBranching P } ∷ roomTests P room
+
+-- the causes of the book and of the driven layer, then 12, 13 and 14
+unfoldable pub oneTests : List ℕ → ℕ → ℕ → List Test
+oneTests book layer room = layerTests book layer ++ searchTests (programOf book layer) room
+
+-- a refusal, or g
+unfoldable pub replyOf : Verdict → Program → OneReply
+replyOf (Refused c) P = reply.Refused c
+replyOf Accepted P = reply.Written (branchingCount P)
+
+-- the record of a stable state stands in front, and the bytes past it are untouched
+pub record Holds (P : Program) (old new : List ℕ) : Type 0 where
+  pub state : Interpretation
+  pub stable : StableModel P state
+  pub bytes : new ≡ recordOf (P .atoms) state ++ drop (recordSize (P .atoms)) old
+
+-- a refusal leaves every byte
+abbrev pub BufferOf : Verdict → Program → List ℕ → List ℕ → Type 0
+BufferOf (Refused c) P old new = new ≡ old
+BufferOf Accepted P old new = Holds P old new
+
+unfoldable pub oneReply : List ℕ → ℕ → List ℕ → OneReply
+oneReply book layer old = replyOf (firstOf (oneTests book layer (length old))) (programOf book layer)
+
+abbrev pub OneBuffer : List ℕ → ℕ → List ℕ → List ℕ → Type 0
+OneBuffer book layer old new = BufferOf (firstOf (oneTests book layer (length old))) (programOf book layer) old new
+
+-- the answer and the buffer that a verdict comes to
+pub record Answers (v : Verdict) (P : Program) (old : List ℕ) (r : OneReply) (new : List ℕ) : Type 0 where
+  pub reply-is : r ≡ replyOf v P
+  pub buffer-is : BufferOf v P old new

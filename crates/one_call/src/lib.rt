@@ -1,0 +1,98 @@
+// The call for one state: the first of causes 1 to 9, 12, 13 and 14 that applies, or the record of a stable state, with g.
+ghost use mathlib.Core.Path.{_≡_};
+ghost use Prim.Native.Nat.{_<_, _≤_};
+ghost use lib.ListN.{length};
+ghost use Rattle.base.specs.Bounds.{maxBranching};
+ghost use Rattle.format.specs.Book.{bookOf};
+ghost use Rattle.book.specs.Causes.{firstOf};
+ghost use Rattle.table.specs.Table.{programOf};
+ghost use Rattle.accepted.specs.Accepted.{IsAccepted};
+ghost use Rattle.search.specs.Searchable.{Searchable};
+ghost use Rattle.one_call.specs.Reply.{roomTests, searchTests, oneReply, OneBuffer, Answers};
+use accepted::atom_count;
+use accepted::check_layer;
+use accepted::prepare;
+use book::Cause;
+use book::Verdict;
+use branching::branching_atoms;
+use passes::write_first;
+use records::record_size;
+
+pub enum OneReply {
+    // g
+    Written(usize),
+    Refused(Cause),
+}
+
+// Room for a record comes first: a short buffer is 13 whether or not there is a state. The search stops at the first state.
+fn one_found(
+    book: &[u8],
+    layer: usize,
+    rows: &[u16],
+    overridden: &[u32],
+    atoms: &[u8],
+    n: usize,
+    buffer: &mut [u8],
+) -> OneReply
+    requires { ⌜ Searchable (now book) (now rows) (now overridden) (now atoms) layer n ⌝ }
+    requires { ⌜ length (now atoms) ≤ maxBranching ⌝ }
+    ensures { λ r. ⌜ Answers (firstOf (roomTests (programOf (now (book .entry)) layer) (length (now (buffer .entry))))) (programOf (now (book .entry)) layer) (now (buffer .entry)) r (now (buffer .exit)) ⌝ }
+{
+    let size = record_size(n);
+    if buffer.len() < size {
+        return OneReply::Refused(Cause::BufferTooShort);
+    }
+    let found = write_first(
+        book,
+        layer,
+        rows,
+        overridden,
+        atoms,
+        n,
+        &mut buffer[0..size],
+    );
+    if found {
+        return OneReply::Written(atoms.len());
+    }
+    OneReply::Refused(Cause::NoStableState)
+}
+
+// One state at a layer, once causes 1 to 9 are ruled out: what does not depend on a setting is worked out here.
+fn one_at(book: &[u8], layer: usize, buffer: &mut [u8]) -> OneReply
+    requires { ⌜ IsAccepted (now book) ⌝ }
+    requires { ⌜ layer < bookOf (now book) .layers ⌝ }
+    ensures { λ r. ⌜ Answers (firstOf (searchTests (programOf (now (book .entry)) layer) (length (now (buffer .entry))))) (programOf (now (book .entry)) layer) (now (buffer .entry)) r (now (buffer .exit)) ⌝ }
+{
+    let n = atom_count(book);
+    let table = prepare(book, layer);
+    let rows = table.rows;
+    let overridden = table.overridden;
+    let count = table.count;
+    let listed = branching_atoms(book, layer, &rows[0..4 * count], &overridden[0..count], n);
+    let atoms = listed.atoms;
+    let g = listed.count;
+    if 20 < g {
+        return OneReply::Refused(Cause::TooManyBranching);
+    }
+    one_found(
+        book,
+        layer,
+        &rows[0..4 * count],
+        &overridden[0..count],
+        &atoms[0..g],
+        n,
+        buffer,
+    )
+}
+
+// Writes the record of a stable state of the book at the driven layer into the buffer's first bytes.
+pub fn one(book: &[u8], layer: u32, buffer: &mut [u8]) -> OneReply
+    ensures answer { λ r. ⌜ r ≡ oneReply (now (book .entry)) layer (now (buffer .entry)) ⌝ }
+    ensures bytes { λ _. ⌜ OneBuffer (now (book .entry)) layer (now (buffer .entry)) (now (buffer .exit)) ⌝ }
+{
+    let v = check_layer(book, layer);
+    match v {
+        Verdict::Refused(c) => OneReply::Refused(c),
+        Verdict::Accepted => one_at(book, layer as usize, buffer),
+    }
+}
