@@ -164,6 +164,23 @@ uint64_t lesson_list(const uint8_t *book, size_t book_len, uint32_t layer, uint8
                      size_t buffer_len);
 
 /*
+ * Hands out one stable state of a book at the driven layer. Which one is the
+ * engine's choice.
+ *
+ * book, book_len: the book, any bytes.
+ * layer: the driven layer, counted from 0, any number.
+ * buffer, buffer_len: where the state goes, of any length. Where the call is
+ * granted, its first bytes are the state's record and the bytes past it are as
+ * they were.
+ *
+ * Answers g in bits 8 to 15 (lesson_branching_count), or the first of
+ * LESSON_TOO_SHORT to LESSON_NO_SUCH_LAYER and LESSON_TOO_MANY_BRANCHING to
+ * LESSON_NO_STABLE_STATE that applies. The time grows with 2 to the power g.
+ */
+uint64_t lesson_one(const uint8_t *book, size_t book_len, uint32_t layer, uint8_t *buffer,
+                    size_t buffer_len);
+
+/*
  * Says whether a fact stands in every stable state of a book at the driven
  * layer, in some or in none. Writes nothing.
  *

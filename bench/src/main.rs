@@ -2,6 +2,7 @@
 //! Run it with `cargo run --release`; with `-- --full` the books that take long come too.
 
 use lesson_tests::book::Book;
+use lesson_tests::expected::{branching, NO_STABLE_STATE};
 use lesson_tests::known::{self, Following, Known};
 use lesson_tests::rng::{seed, Rng};
 use lesson_tests::shapes::{self, Planted};
@@ -123,6 +124,30 @@ fn list_row(name: &str, known: &Known) {
     assert!(buffers[0] == buffers[1], "{name}: the listings differ");
 }
 
+/// A row for one state of the book, or for the search that finds none. How soon a state is found is
+/// up to the order of each search.
+fn one_row(name: &str, known: &Known) {
+    let book = known.book.bytes();
+    let layer = known.layer.into();
+    let expected = match known.count {
+        0 => NO_STABLE_STATE,
+        _ => branching(known.branching),
+    };
+    let mut record = [0; 32];
+    row(
+        &format!("one, {name}, g = {}, k = {}", known.branching, known.count),
+        &book,
+        &mut || {
+            let answer = ffi::one_in_place(black_box(&book), layer, &mut record);
+            assert_eq!(answer, expected);
+        },
+        &mut || {
+            let answer = plain::one(black_box(&book), layer, &mut [0; 32]);
+            assert_eq!(answer, expected);
+        },
+    );
+}
+
 /// A row for the place of a fact.
 fn place_row(name: &str, known: &Known, fact: u16) {
     let book = known.book.bytes();
@@ -203,6 +228,9 @@ fn main() {
     list_row("falling, 32 bytes", &known::followed(14, 14, 256, falling));
     list_row("permuted, 4 bytes", &known::followed(10, 10, 28, reversed));
     let no_state = known::quarrelled(known::pairs(10, 0));
+    one_row("pairs", &known::pairs(10, 0));
+    one_row("pairs and a quarrel", &no_state);
+    one_row("largest lawful book", &busy(14));
     place_row("pairs", &known::pairs(10, 0), 0);
     place_row("pairs and a quarrel", &no_state, 0);
     // The facts after the branching ones always stand.
@@ -220,6 +248,7 @@ fn main() {
         list_row("rising, 32 bytes", &known::free(20, 0, 256));
         list_row("falling, 32 bytes", &known::followed(20, 20, 256, falling));
         list_row("permuted, 4 bytes", &known::followed(14, 14, 28, reversed));
+        one_row("largest lawful book", &busy(20));
         place_row("largest lawful book", &busy(20), 20);
     }
 }

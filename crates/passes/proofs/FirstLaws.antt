@@ -68,9 +68,12 @@ module _ {book rows overridden atoms : List ℕ} {layer n : ℕ} (w : Searchable
   one-written : (ms : List Interpretation) → Visits n ms start part end part′ → 0 < length ms → (m : Interpretation) × (ms ≡ m ∷ []) × (part′ ≡ recordOf n m)
   one-written [] x h = absurd (omega arith)
   one-written (m ∷ []) x h =
-      let e : 1 * recordSize n ≡ recordSize n = omega arith in
-      (m, refl, full n (m ∷ []) (length part) part (end .lo) (end .hi) part′ (sized ∙ sym e) (omega arith)
-      (visits-added n (m ∷ []) start part end part′ x (start-kept w First 0 (length part) part (omega arith)) (omega (arith, sized, e))) ∙ sorted-one n m)
+      let e : 1 * recordSize n ≡ recordSize n = omega arith in (
+        m,
+        refl,
+        full n (m ∷ []) (length part) part (end .lo) (end .hi) part′ (sized ∙ sym e) (omega arith)
+            (visits-added n (m ∷ []) start part end part′ x (start-kept w First 0 (length part) part (omega arith)) (omega (arith, sized, e))) ∙ sorted-one n m,
+      )
   one-written (m ∷ k ∷ ms) x h = absurd (omega (arith, one-at-most n (m ∷ k ∷ ms) start part end part′ refl x))
 
   module _ (s : Searched n (foundBy (atSetting P atoms) atoms (replicate 256 false)) start part end part′) where

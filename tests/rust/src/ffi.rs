@@ -22,6 +22,13 @@ extern "C" {
         buffer: *mut u8,
         buffer_len: usize,
     ) -> u64;
+    fn lesson_one(
+        book: *const u8,
+        book_len: usize,
+        layer: u32,
+        buffer: *mut u8,
+        buffer_len: usize,
+    ) -> u64;
     fn lesson_place(book: *const u8, book_len: usize, layer: u32, fact: u32) -> u64;
 }
 
@@ -168,6 +175,23 @@ pub fn list_in_place(book: &[u8], layer: u32, buffer: &mut [u8]) -> u64 {
     let (at, length) = (buffer.as_mut_ptr(), buffer.len());
     // SAFETY: the pointers and the lengths are those of live slices, which do not overlap.
     unsafe { lesson_list(book.as_ptr(), book.len(), layer, at, length) }
+}
+
+/// `lesson_one` on fenced copies.
+pub fn one(book: &[u8], layer: u32, buffer: &[u8]) -> Outcome {
+    fenced([book], buffer, |[book], buffer| {
+        let (book, book_len) = book.slice();
+        let (buffer, buffer_len) = buffer.buffer();
+        // SAFETY: each is NULL with length 0, or a live slice, and the two do not overlap.
+        unsafe { lesson_one(book, book_len, layer, buffer, buffer_len) }
+    })
+}
+
+/// `lesson_one` on the slices themselves.
+pub fn one_in_place(book: &[u8], layer: u32, buffer: &mut [u8]) -> u64 {
+    let (at, length) = (buffer.as_mut_ptr(), buffer.len());
+    // SAFETY: the pointers and the lengths are those of live slices, which do not overlap.
+    unsafe { lesson_one(book.as_ptr(), book.len(), layer, at, length) }
 }
 
 /// `lesson_place` on a fenced copy.

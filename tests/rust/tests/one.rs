@@ -1,0 +1,406 @@
+//! `lesson_one` of the compiled archive: the state that it hands out is stable by the oracle, and
+//! everything else is as document 01 says.
+
+use lesson_tests::book::{hex, not, plain, Book};
+use lesson_tests::expected::{self, branching, BUFFER_TOO_SHORT, NO_STABLE_STATE};
+use lesson_tests::ffi;
+use lesson_tests::known::{self, Known};
+use lesson_tests::oracle::{self, Driven};
+use lesson_tests::plain as plain_rust;
+use lesson_tests::reader;
+use lesson_tests::rng::{seed, Rng};
+use lesson_tests::shapes::{self, Layering, B, NO_LAYERS};
+use std::thread;
+
+/// The engine's outcome on fenced copies is the refusal, with every byte as it was; or the answer,
+/// with a record of which `stable` is true, and later bytes as they were.
+fn assert_outcome(
+    what: &str,
+    book: &[u8],
+    layer: u32,
+    buffer: &[u8],
+    expected: Result<u64, u64>,
+    stable: impl Fn(&[u8]) -> bool,
+) {
+    let (answer, after) = ffi::one(book, layer, buffer);
+    let right = match expected {
+        Err(cause) => answer == cause && after == buffer,
+        Ok(granted) => {
+            let atoms = reader::read(book).map_or(0, |book| book.atoms);
+            let width = usize::from(atoms).div_ceil(8);
+            answer == granted && stable(&after[..width]) && after[width..] == buffer[width..]
+        }
+    };
+    assert!(
+        right,
+        "{what}, layer {layer}, buffer of {} bytes: engine {answer:#X}, expected {expected:X?}\n\
+         book {}\nafter  {}\nbefore {}",
+        buffer.len(),
+        hex(book),
+        hex(&after),
+        hex(buffer)
+    );
+}
+
+/// Engine and oracle agree; of a book that is too large for the oracle, plain Rust says whether
+/// there is a state, and the oracle whether the one handed out is stable. The cause is returned,
+/// or 0.
+fn agree(what: &str, book: &[u8], layer: u32, buffer: &[u8]) -> u64 {
+    let (expected, records) = match reader::read(book) {
+        Ok(read) if read.atoms > 10 => {
+            let answer = plain_rust::one(book, layer, &mut buffer.to_vec());
+            let granted = answer & 0xFF == 0;
+            (if granted { Ok(answer) } else { Err(answer) }, None)
+        }
+        _ => match expected::one(book, layer, buffer.len()) {
+            Ok((answer, records)) => (Ok(answer), Some(records)),
+            Err(cause) => (Err(cause), None),
+        },
+    };
+    assert_outcome(
+        what,
+        book,
+        layer,
+        buffer,
+        expected,
+        |record| match &records {
+            Some(records) => records.iter().any(|other| other == record),
+            None => expected::test(book, layer, record) == expected::yes_or_no(true),
+        },
+    );
+    expected.err().unwrap_or(0)
+}
+
+/// Compares engine and oracle at every layer of `number` books, with buffers from none to a record
+/// and some bytes more.
+fn sweep(shape: &str, number: usize, generate: impl Fn(&mut Rng) -> Book) {
+    let seed = seed();
+    let mut rng = Rng::named(seed, shape);
+    let mut tally = [0; 15];
+    for index in 0..number {
+        let book = generate(&mut rng);
+        let bytes = book.bytes();
+        for layer in 0..book.layers {
+            let driven = Driven::new(&book, layer);
+            let models = driven.stable_models();
+            for length in 0..4 {
+                let expected = match models.is_empty() {
+                    _ if length == 0 => Err(BUFFER_TOO_SHORT),
+                    true => Err(NO_STABLE_STATE),
+                    false => Ok(branching(driven.branching_count())),
+                };
+                let what = format!("seed {seed}, {shape}, book {index}");
+                let buffer = rng.bytes(length);
+                assert_outcome(&what, &bytes, layer.into(), &buffer, expected, |record| {
+                    models.iter().any(|model| oracle::record(model) == record)
+                });
+                tally[expected.err().unwrap_or(0) as usize] += 1;
+            }
+        }
+    }
+    println!("seed {seed}, {shape}: {number} books, answers 0 to 14: {tally:?}");
+    for answer in [0, 13, 14] {
+        assert!(tally[answer] > 300, "{answer} is rare: {tally:?}");
+    }
+}
+
+#[test]
+fn states_handed_out_for_books_in_chains_are_stable() {
+    sweep("one, chains", 2_000, |rng| {
+        shapes::layered(rng, Layering::Chain)
+    });
+}
+
+#[test]
+fn states_handed_out_for_books_in_diamonds_are_stable() {
+    sweep("one, diamonds", 2_000, |rng| {
+        shapes::layered(rng, Layering::Diamond)
+    });
+}
+
+#[test]
+fn states_handed_out_for_books_in_unrelated_branches_are_stable() {
+    sweep("one, branches", 2_000, |rng| {
+        shapes::layered(rng, Layering::Branches)
+    });
+}
+
+#[test]
+fn states_handed_out_for_books_with_any_arrows_are_stable() {
+    sweep("one, any arrows", 2_000, |rng| {
+        shapes::layered(rng, Layering::Any)
+    });
+}
+
+#[test]
+fn states_handed_out_for_books_with_many_states_are_stable() {
+    sweep("one, many states", 1_000, |rng| {
+        shapes::crowded(rng, Layering::Diamond)
+    });
+}
+
+/// A book whose states are known, in buffers from none to a record and some bytes more.
+fn assert_known(what: &str, known: &Known) {
+    let bytes = known.book.bytes();
+    let width = usize::from(known.book.atoms).div_ceil(8);
+    let driven = Driven::new(&known.book, known.layer);
+    for length in 0..width + 4 {
+        let buffer = Rng::new(length as u64).bytes(length);
+        let expected = match known.count {
+            _ if length < width => Err(BUFFER_TOO_SHORT),
+            0 => Err(NO_STABLE_STATE),
+            _ => Ok(branching(known.branching)),
+        };
+        assert_outcome(
+            what,
+            &bytes,
+            known.layer.into(),
+            &buffer,
+            expected,
+            |record| {
+                let state = oracle::state(record, known.book.atoms);
+                state.is_some_and(|state| driven.stable(&state))
+            },
+        );
+    }
+}
+
+#[test]
+fn records_have_their_length_at_every_number_of_facts() {
+    let seed = seed();
+    let mut rng = Rng::named(seed, "one, spread");
+    let mut empty = 0;
+    let sizes = [8, 9, 16, 17, 64, 65, 255, 256];
+    for atoms in sizes {
+        for index in 0..12 {
+            let small = match index % 2 {
+                0 => shapes::crowded(&mut rng, Layering::Chain),
+                _ => shapes::layered(&mut rng, Layering::Diamond),
+            };
+            let layer = rng.below(small.layers.into()) as u8;
+            let known = known::spread(&mut rng, &small, layer, atoms);
+            assert_known(&format!("seed {seed}, spread over {atoms} facts"), &known);
+            empty += usize::from(known.count == 0);
+        }
+    }
+    let number = 12 * sizes.len();
+    println!("seed {seed}, one, spread: {number} books, {empty} without a state");
+    assert!(empty > 5 && number - empty > 30);
+}
+
+#[test]
+fn a_state_is_found_wherever_the_search_comes_to_it() {
+    for branching in [0, 1, 2, 7, 10] {
+        for stand in [true, false] {
+            assert_known("single", &known::single(branching, stand));
+        }
+    }
+    assert_known("no facts that branch", &known::pairs(0, 0));
+    assert_known("pairs", &known::pairs(4, 1));
+    assert_known("displacing pairs", &known::displacing_pairs(4, 1));
+    assert_known("free", &known::free(6, 2, 17));
+    for following in known::EVERY_FOLLOWING {
+        assert_known("followed", &known::followed(4, 4, 20, following));
+    }
+    for count in [2, 3, 5, 17] {
+        assert_known("counted", &known::counted(count, 12));
+    }
+}
+
+/// One call, for long searches.
+fn assert_known_once(what: &str, known: &Known) {
+    let bytes = known.book.bytes();
+    let width = usize::from(known.book.atoms).div_ceil(8);
+    let mut buffer = vec![0xA5; width + 2];
+    let answer = ffi::one_in_place(&bytes, known.layer.into(), &mut buffer);
+    if known.count == 0 {
+        assert_eq!(answer, NO_STABLE_STATE, "{what}");
+        assert_eq!(buffer, vec![0xA5; width + 2], "{what}");
+    } else {
+        assert_eq!(answer, branching(known.branching), "{what}");
+        assert!(known.has(&buffer[..width]), "{what}: {}", hex(&buffer));
+        assert_eq!(buffer[width..], [0xA5; 2], "{what}");
+    }
+}
+
+#[test]
+fn twenty_branching_facts_are_searched_to_the_end() {
+    for stand in [true, false] {
+        assert_known_once("single", &known::single(20, stand));
+    }
+    assert_known_once("ten pairs", &known::pairs(10, 0));
+    let none = known::quarrelled(known::pairs(10, 0));
+    assert_known_once("ten pairs and a quarrel", &none);
+}
+
+#[test]
+fn more_than_twenty_branching_facts_are_refused_12() {
+    for known in [
+        known::pairs(10, 1),
+        known::displacing_pairs(10, 1),
+        known::single(21, true),
+        known::quarrelled(known::pairs(11, 0)),
+        known::pairs(128, 0),
+    ] {
+        for length in [0, 1, 2, 3, 40] {
+            let what = format!("g = {}", known.branching);
+            let buffer = vec![7; length];
+            let bytes = known.book.bytes();
+            assert_outcome(&what, &bytes, known.layer.into(), &buffer, Err(12), |_| {
+                false
+            });
+        }
+    }
+}
+
+#[test]
+fn a_book_without_states_is_refused_14_and_only_then() {
+    let book = Book::new(1, 1).rule(0, plain(0), &[not(0)]);
+    for length in 1..4 {
+        let buffer = vec![7; length];
+        assert_outcome("p if not p", &book.bytes(), 0, &buffer, Err(14), |_| false);
+    }
+    let book = book.rule(0, plain(0), &[]);
+    let granted = Ok(branching(1));
+    assert_outcome("and p", &book.bytes(), 0, &[7; 3], granted, |record| {
+        record == [0x80]
+    });
+}
+
+/// 13 whether or not there is a state.
+#[test]
+fn a_short_buffer_is_refused_13_before_14() {
+    for known in [
+        known::free(3, 5, 20),
+        known::quarrelled(known::free(3, 5, 20)),
+    ] {
+        for length in 0..3 {
+            let buffer = vec![7; length];
+            let bytes = known.book.bytes();
+            assert_outcome("short", &bytes, 1, &buffer, Err(13), |_| false);
+        }
+    }
+}
+
+#[test]
+fn book_b_at_its_layers() {
+    for (layer, record, g) in [(1, 0xA0, 1), (2, 0x80, 2), (3, 0x20, 2)] {
+        let granted = Ok(branching(g));
+        let stable = |given: &[u8]| given == [record];
+        assert_outcome("B", &B, layer, &[7; 1], granted, stable);
+        assert_outcome("B", &B, layer, &[7; 5], granted, stable);
+        assert_outcome("B", &B, layer, &[], Err(13), stable);
+    }
+}
+
+#[test]
+fn a_state_of_the_largest_lawful_books_is_handed_out() {
+    let seed = seed();
+    let mut rng = Rng::named(seed, "one, busy");
+    for branching in [1, 8, 11] {
+        let known = known::busy(&mut rng, branching);
+        let what = format!("seed {seed}, g = {branching}");
+        assert_known_once(&what, &known);
+        assert_known_once(&what, &known::chained(1));
+    }
+}
+
+#[test]
+fn any_bytes_come_to_what_reader_and_oracle_say() {
+    let seed = seed();
+    let mut rng = Rng::named(seed, "one, any call");
+    let mut tally = [0; 15];
+    let mut books = 0;
+    for (shape, generate) in shapes::EVERY_SHAPE {
+        let number = match shape.starts_with("large") {
+            true => 150,
+            false => 1_500,
+        };
+        for index in 0..number {
+            let bytes = shapes::quick(&mut rng, generate);
+            let layers = usize::from(bytes.get(7).copied().unwrap_or(1));
+            let layer = match rng.chance(85) {
+                true => rng.below(layers.max(1)) as u32,
+                false => rng
+                    .pick(&NO_LAYERS)
+                    .min(layers as u32 + rng.below(3) as u32),
+            };
+            let length = rng.pick(&[0, 1, 1, 2, 40]);
+            let buffer = rng.bytes(length);
+            let what = format!("seed {seed}, {shape}, book {index}");
+            tally[agree(&what, &bytes, layer, &buffer) as usize] += 1;
+        }
+        books += number;
+    }
+    println!("seed {seed}, one, any call: {books} books, answers 0 to 14: {tally:?}");
+    for answer in [0, 1, 2, 3, 4, 5, 6, 7, 8, 9, 12, 13, 14] {
+        assert!(tally[answer] >= 50, "{answer} is rare: {tally:?}");
+    }
+    assert_eq!(tally[10] + tally[11], 0);
+}
+
+/// Bits 0 to 7 of `causes` for causes 1 to 8, then 9, 12, 13 and 14.
+#[test]
+fn of_several_causes_the_smallest_is_given() {
+    const CAUSES: [u64; 12] = [1, 2, 3, 4, 5, 6, 7, 8, 9, 12, 13, 14];
+    let seed = seed();
+    let mut rng = Rng::named(seed, "one, smallest cause");
+    for causes in 0..1 << CAUSES.len() {
+        let wanted = |at: usize| causes >> at & 1 == 1;
+        let mut known = match wanted(9) {
+            true => known::displacing_pairs(10, 1),
+            false => known::displacing_pairs(2, 0),
+        };
+        known.book.atoms = 22;
+        if wanted(11) {
+            known = known::quarrelled(known);
+        }
+        let bytes = shapes::broken(&mut rng, &known.book, causes as u8);
+        let layer = match wanted(8) {
+            true => rng.pick(&NO_LAYERS),
+            false => known.layer.into(),
+        };
+        let length = match wanted(10) {
+            true => rng.below(3),
+            false => rng.range(3, 9),
+        };
+        let buffer = rng.bytes(length);
+        let expected = match (0..CAUSES.len()).find(|&at| wanted(at)) {
+            Some(smallest) => Err(CAUSES[smallest]),
+            None => Ok(branching(4)),
+        };
+        let what = format!("seed {seed}, causes {causes:012b}");
+        assert_outcome(&what, &bytes, layer, &buffer, expected, |record| {
+            let driven = Driven::new(&known.book, known.layer);
+            oracle::state(record, 22).is_some_and(|state| driven.stable(&state))
+        });
+    }
+}
+
+/// The low half of the length must not be all that is looked at.
+#[test]
+fn buffer_of_more_than_4_gib_is_long_enough() {
+    let mut buffer = vec![0; 1 << 32];
+    assert_eq!(ffi::one_in_place(&B, 3, &mut buffer), branching(2));
+    assert_eq!(buffer[..4], [0x20, 0, 0, 0]);
+}
+
+#[test]
+fn four_threads_on_one_book_get_a_state_each() {
+    let known = known::busy(&mut Rng::named(seed(), "one, threads"), 8);
+    let bytes = known.book.bytes();
+    thread::scope(|scope| {
+        for _ in 0..4 {
+            scope.spawn(|| {
+                for _ in 0..5 {
+                    let mut buffer = [7; 33];
+                    let answer = ffi::one_in_place(&bytes, known.layer.into(), &mut buffer);
+                    assert_eq!(answer, branching(8));
+                    let state = oracle::state(&buffer[..32], 256).expect("a record");
+                    assert!(Driven::new(&known.book, known.layer).stable(&state));
+                    assert_eq!(buffer[32], 7);
+                }
+            });
+        }
+    });
+}
