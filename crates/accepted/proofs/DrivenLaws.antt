@@ -8,8 +8,10 @@ use native.Mathlib.Omega.{arith}
 use borrow.Author.Tests.{ltb-true, lt-ltb, le-ltb, not-false}
 use lib.Dec.{ltb}
 use Rattle.base.proofs.Members.{_∈_}
-use Rattle.format.specs.Book.{layerCount, bookOf}
+use Rattle.layers.specs.Masks.{LowerMasks}
+use Rattle.format.specs.Book.{layerCount, arrowsOf, bookOf}
 use Rattle.book.specs.Causes.{Test, tests, verdictIf, firstOf, verdict}
+use Rattle.book.specs.Checks.{Checks}
 use Rattle.book.specs.declared.Cause.{Cause}
 use Rattle.book.specs.declared.Cause.the-variants.{NoSuchLayer}
 use Rattle.book.specs.declared.Verdict.{Verdict}
@@ -49,3 +51,8 @@ module _ (s : List ℕ) (layer : ℕ) where
         accepted-none (tests s) .1 (λ t k. h t (Memᴰ·append-left (nine ∷ []) k)),
         ltb-true layer (layerCount s) (not-false (ltb layer (layerCount s)) (h nine (Memᴰ·append-right (tests s) (List·Memᴰ·head refl)))),
       )
+
+  -- the same, with the masks, from what `check_layer` hands on
+  pub ready : {v : Verdict} {lower : List ℕ} → Checks (firstOf (layerTests s layer)) s v lower → v ≡ Accepted
+      → IsAccepted s × ((layer < bookOf s .layers) × LowerMasks (arrowsOf s) lower)
+  ready w q = let d : IsAccepted s × (layer < bookOf s .layers) = driven (sym (w .verdict-is) ∙ q) in (d .0, (d .1, w .masks q))

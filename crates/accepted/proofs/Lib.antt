@@ -1,6 +1,5 @@
 pub mod RangeFacts
 pub mod RecordFacts
 pub mod PreparedLaws
-pub mod ColumnLaws
 pub mod FirstLaws
 pub mod DrivenLaws

@@ -132,21 +132,31 @@ pub over-end : (m : List ℕ) (s : List ℕ) (at : ℕ) → length s ≤ at → 
 unfolding any repeats
 over-end m s at h = rw (records-done s at h) refl
 
--- the arrows as masks
+-- the arrows as masks, a bit for the earlier layer in the mask of the later one
 abbrev pub linked : List Arrow → ℕ → ℕ → Bool
 linked l x y = any (λ a. sameArrow a (link x y)) l
 
-pub mask-start : (l : List Arrow) (x y : ℕ) → linked l x y ≡ (marked (replicate 32 0) x y || linked l x y)
-mask-start l x y = sym (rw (none-marked x y) refl)
+pub mask-start : (l : List Arrow) (x y : ℕ) → linked l x y ≡ (marked (replicate 32 0) y x || linked l x y)
+mask-start l x y = sym (rw (none-marked y x) refl)
 
-pub mask-next : (m m′ : List ℕ) (l r : List Arrow) (i j : ℕ) → l ≡ link i j ∷ r → ((x y : ℕ) → marked m′ x y ≡ (marked m x y || sameArrow (link i j) (link x y)))
-    → (x y : ℕ) → (marked m x y || linked l x y) ≡ (marked m′ x y || linked r x y)
+turned : (i j x y : ℕ) → sameArrow (link j i) (link y x) ≡ sameArrow (link i j) (link x y)
+unfolding sameArrow
+turned i j x y = and-swap (eqb j y) (eqb i x)
+  where
+    and-swap : (a b : Bool) → (a && b) ≡ (b && a)
+    and-swap true true = refl
+    and-swap true false = refl
+    and-swap false true = refl
+    and-swap false false = refl
+
+pub mask-next : (m m′ : List ℕ) (l r : List Arrow) (i j : ℕ) → l ≡ link i j ∷ r → ((x y : ℕ) → marked m′ x y ≡ (marked m x y || sameArrow (link j i) (link x y)))
+    → (x y : ℕ) → (marked m y x || linked l x y) ≡ (marked m′ y x || linked r x y)
 unfolding any
 mask-next m m′ l r i j e h x y =
-    ap (λ (k : List Arrow). marked m x y || linked k x y) e
-    ∙ sym (or-assoc (marked m x y) (sameArrow (link i j) (link x y)) (linked r x y))
-    ∙ ap (λ (b : Bool). b || linked r x y) (sym (h x y))
+    ap (λ (k : List Arrow). marked m y x || linked k x y) e
+    ∙ sym (or-assoc (marked m y x) (sameArrow (link i j) (link x y)) (linked r x y))
+    ∙ ap (λ (b : Bool). b || linked r x y) (sym (h y x ∙ ap (λ (b : Bool). marked m y x || b) (turned i j x y)))
 
-pub mask-end : (m : List ℕ) (s : List ℕ) (at : ℕ) → length s ≤ at → (x y : ℕ) → (marked m x y || linked (map arrowOf (records (drop at s))) x y) ≡ marked m x y
+pub mask-end : (m : List ℕ) (s : List ℕ) (at : ℕ) → length s ≤ at → (x y : ℕ) → (marked m y x || linked (map arrowOf (records (drop at s))) x y) ≡ marked m y x
 unfolding any
-mask-end m s at h x y = rw (records-done s at h) (or-false (marked m x y))
+mask-end m s at h x y = rw (records-done s at h) (or-false (marked m y x))

@@ -1,4 +1,4 @@
--- A layer is below itself exactly where the closed masks have a bit on the diagonal.
+-- The closed masks have a bit exactly where a layer is below another; a layer is below itself where there is one on the diagonal.
 -- Assumes nothing.
 use Rattle.layers.specs.Layers.{Arrow, link, repeats, sameArrow}
 use mathlib.Core.Path.{_≡_, refl, sym, ap, subst, _∙_}
@@ -12,7 +12,7 @@ use lib.ListN.{length, getD, take, drop}
 use Rattle.base.specs.Lists.{all, any, upTo}
 use Rattle.format.specs.Book.{u32At, records, arrowOf, arrowRecords, ruleRecords, arrowsOf, atomCount, layerCount, sectionCount, ruleSection}
 use Rattle.layers.specs.Layers.{Path, single, longer, below}
-use Rattle.layers.specs.Masks.{bitOf, marked, Linked, Way, edge, join}
+use Rattle.layers.specs.Masks.{bitOf, marked, Linked, Way, edge, join, LowerMasks}
 use Rattle.book.specs.Causes.{within, arrowOk, ruleOk, isOutOfRange, hasBadRecord, repeatsArrow, hasCycle}
 use Rattle.base.proofs.Members.{_∈_, and-left, and-right, and-both, all-at, all-of, any-at, any-of, same-test}
 use Rattle.base.proofs.UpTo.{passed, upTo-has}
@@ -39,50 +39,56 @@ path-join : (links : List Arrow) (k j i : ℕ) → Path links k i → Path links
 path-join links k j i (single a m e) q = longer a m (subst (Path links j) (sym e) q)
 path-join links k j i (longer a m p) q = longer a m (path-join links k j (a .later) p q)
 
-module _ (links : List Arrow) (n : ℕ) (start m : List ℕ) (few : n ≤ 32)
-    (reads : (x y : ℕ) → marked start x y ≡ linked links x y)
-    (wholeSection : (i j : ℕ) → Linked m i j → Way start i j) (full : (i j : ℕ) → Way start i j → Linked m i j)
-    (low : (a : Arrow) → a ∈ links → (a .earlier < n) × (a .later < n)) where
-  linked-in : (i j : ℕ) → Linked start i j → link i j ∈ links
+-- masks that read the arrows, and their closure
+module _ (links : List Arrow) (start m : List ℕ) (reads : (x y : ℕ) → marked start y x ≡ linked links x y) where
+  linked-in : (i j : ℕ) → Linked start j i → link i j ∈ links
   unfolding marked
   linked-in i j e =
-      let t : T (linked links i j) = true-of (linked links i j) (sym (reads i j) ∙ eq-eqb (bitOf (getD start i 0) j) 1 e) in
+      let t : T (linked links i j) = true-of (linked links i j) (sym (reads i j) ∙ eq-eqb (bitOf (getD start j 0) i) 1 e) in
       let w : (a : Arrow) × a ∈ links × T (sameArrow a (link i j)) = any-at (λ a. sameArrow a (link i j)) links t in
       Memᴰ·cast (sym (same-is (w .0) (link i j) (w .2))) (w .1)
 
-  in-linked : (a : Arrow) → a ∈ links → Linked start (a .earlier) (a .later)
+  in-linked : (a : Arrow) → a ∈ links → Linked start (a .later) (a .earlier)
   unfolding marked
   in-linked a k =
-      eqb-true (bitOf (getD start (a .earlier) 0) (a .later)) 1
+      eqb-true (bitOf (getD start (a .later) 0) (a .earlier)) 1
       (reads (a .earlier) (a .later) ∙ passed (linked links (a .earlier) (a .later)) (any-of (λ b. sameArrow b (link (a .earlier) (a .later))) k (same-self a)))
 
-  pub way-path : (i j : ℕ) → Way start i j → Path links j i
-  way-path x y (edge i j e) = single (link i j) (linked-in i j e) refl
-  way-path x y (join i k j b p q) = path-join links k j i (way-path i k p) (way-path k j q)
+  way-path : (j i : ℕ) → Way start j i → Path links j i
+  way-path x y (edge j i e) = single (link i j) (linked-in i j e) refl
+  way-path x y (join j k i b p q) = path-join links k j i (way-path k i q) (way-path j k p)
 
-  pub path-way : (i j : ℕ) → Path links j i → Way start i j
-  path-way i j (single a k e) = subst (Way start (a .earlier)) e (edge (a .earlier) (a .later) (in-linked a k))
-  path-way i j (longer a k p) = join (a .earlier) (a .later) j (let h : a .later < n = low a k .1 in omega arith) (edge (a .earlier) (a .later) (in-linked a k)) (path-way (a .later) j p)
+  path-way : ((a : Arrow) → a ∈ links → a .later < 32) → (j i : ℕ) → Path links j i → Way start j i
+  path-way low j i (single a k e) = subst (λ (x : ℕ). Way start x (a .earlier)) e (edge (a .later) (a .earlier) (in-linked a k))
+  path-way low j i (longer a k p) = join j (a .later) (a .earlier) (low a k) (path-way low j (a .later) p) (edge (a .later) (a .earlier) (in-linked a k))
 
-  pub path-low : (i j : ℕ) → Path links j i → i < n
+  pub closed : ((a : Arrow) → a ∈ links → a .later < 32) → ((i j : ℕ) → Linked m i j → Way start i j) → ((i j : ℕ) → Way start i j → Linked m i j) → LowerMasks links m
+  closed low sound full = record {
+    sound = λ i j z. below-complete links i j (way-path j i (sound j i z));
+    full = λ i j t. full j i (path-way low j i (below-sound links i j t));
+  }
+
+-- a layer below itself is a bit on the diagonal
+module _ (links : List Arrow) (n : ℕ) (m : List ℕ) (few : n ≤ 32) (w : LowerMasks links m)
+    (low : (a : Arrow) → a ∈ links → (a .earlier < n) × (a .later < n)) where
+  path-low : (i j : ℕ) → Path links j i → i < n
   path-low i j (single a k e) = low a k .0
   path-low i j (longer a k p) = low a k .0
 
   to-below : T (any (λ i. marked m i i) (upTo 32)) → T (any (λ i. below links i i) (upTo n))
   unfolding marked
   to-below t =
-      let w : (i : ℕ) × i ∈ upTo 32 × T (marked m i i) = any-at (λ i. marked m i i) (upTo 32) t in
-      let p : Path links (w .0) (w .0) = way-path (w .0) (w .0) (wholeSection (w .0) (w .0) (eqb→eq (bitOf (getD m (w .0) 0) (w .0)) 1 (w .2))) in
-      any-of (λ i. below links i i) (upTo-has n (w .0) (path-low (w .0) (w .0) p)) (below-complete links (w .0) (w .0) p)
+      let f : (i : ℕ) × i ∈ upTo 32 × T (marked m i i) = any-at (λ i. marked m i i) (upTo 32) t in
+      let b : T (below links (f .0) (f .0)) = w .sound (f .0) (f .0) (eqb→eq (bitOf (getD m (f .0) 0) (f .0)) 1 (f .2)) in
+      any-of (λ i. below links i i) (upTo-has n (f .0) (path-low (f .0) (f .0) (below-sound links (f .0) (f .0) b))) b
 
   to-marked : T (any (λ i. below links i i) (upTo n)) → T (any (λ i. marked m i i) (upTo 32))
   unfolding marked
   to-marked t =
-      let w : (i : ℕ) × i ∈ upTo n × T (below links i i) = any-at (λ i. below links i i) (upTo n) t in
-      let p : Path links (w .0) (w .0) = below-sound links (w .0) (w .0) (w .2) in
-      let h : w .0 < n = path-low (w .0) (w .0) p in
-      any-of (λ i. marked m i i) (upTo-has 32 (w .0) (omega arith))
-      (true-of (marked m (w .0) (w .0)) (eq-eqb (bitOf (getD m (w .0) 0) (w .0)) 1 (full (w .0) (w .0) (path-way (w .0) (w .0) p))))
+      let f : (i : ℕ) × i ∈ upTo n × T (below links i i) = any-at (λ i. below links i i) (upTo n) t in
+      let h : f .0 < n = path-low (f .0) (f .0) (below-sound links (f .0) (f .0) (f .2)) in
+      any-of (λ i. marked m i i) (upTo-has 32 (f .0) (omega arith))
+      (true-of (marked m (f .0) (f .0)) (eq-eqb (bitOf (getD m (f .0) 0) (f .0)) 1 (w .full (f .0) (f .0) (f .2))))
 
   pub ring-is : any (λ i. marked m i i) (upTo 32) ≡ any (λ i. below links i i) (upTo n)
   ring-is = same-test (any (λ i. marked m i i) (upTo 32)) (any (λ i. below links i i) (upTo n)) to-below to-marked
@@ -140,8 +146,12 @@ module _ (s : List ℕ) (five : isOutOfRange s ≡ false) (six : hasBadRecord s 
     unfolding repeatsArrow arrowsOf
     seven-is t e = e ∙ ap (λ (l : List (List ℕ)). repeats (map arrowOf l)) (arrow-part s b eb)
 
-    pub eight-is : (start m : List ℕ) → ((x y : ℕ) → marked start x y ≡ linked (map arrowOf (records (take (14 + b - 14) (drop 14 s)))) x y)
-        → ((i j : ℕ) → Linked m i j → Way start i j) → ((i j : ℕ) → Way start i j → Linked m i j) → (t : Bool) → t ≡ any (λ i. marked m i i) (upTo 32) → t ≡ hasCycle s
-    unfolding hasCycle
-    eight-is start m reads wholeSection full t e =
-        e ∙ ring-is (arrowsOf s) (layerCount s) start m layers-few (λ x y. reads x y ∙ ap (λ (l : List Arrow). linked l x y) (arrows-are s b eb)) wholeSection full arrows-low
+    -- the closure of the arrows' masks, as the code makes it
+    pub masks-are : (start m : List ℕ) → ((x y : ℕ) → marked start y x ≡ linked (map arrowOf (records (take (14 + b - 14) (drop 14 s)))) x y)
+        → ((i j : ℕ) → Linked m i j → Way start i j) → ((i j : ℕ) → Way start i j → Linked m i j) → LowerMasks (arrowsOf s) m
+    masks-are start m reads sound full =
+        closed (arrowsOf s) start m (λ x y. reads x y ∙ ap (λ (l : List Arrow). linked l x y) (arrows-are s b eb)) (λ a k. let h : a .later < layerCount s = arrows-low a k .1 in omega (arith, layers-few)) sound full
+
+  pub eight-is : (m : List ℕ) → LowerMasks (arrowsOf s) m → (t : Bool) → t ≡ any (λ i. marked m i i) (upTo 32) → t ≡ hasCycle s
+  unfolding hasCycle
+  eight-is m w t e = e ∙ ring-is (arrowsOf s) (layerCount s) m layers-few w arrows-low

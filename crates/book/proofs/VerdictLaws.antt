@@ -1,14 +1,18 @@
--- The verdict from the tests made so far: a test that applies decides, one that does not hands on. Used by the three `check` functions.
+-- The verdict from the tests made so far: a test that applies decides, one that does not hands on. Used by the `check` functions.
 -- Assumes nothing.
 use mathlib.Core.Path.{_≡_, refl, sym, _∙_}
 use mathlib.Core.Bool.{Bool, true, false}
 use mathlib.Core.List.{List}
 use Prim.Native.Nat.{ℕ, _<_, _≤_}
 use borrow.Author.Tests.{lt-ltb, le-ltb, eq-eqb, ne-eqb}
+use native.Mathlib.Omega.{arith}
 use lib.ListN.{length, getD, drop}
-use Rattle.format.specs.Book.{u32At, version, lengthField}
+use Rattle.layers.specs.Masks.{LowerMasks}
+use Rattle.format.specs.Book.{u32At, version, lengthField, arrowsOf}
 use Rattle.format.specs.Sections.{hasBrokenSection}
 use Rattle.book.specs.Causes.{isTooShort, hasWrongVersion, hasWrongLength, isOutOfRange, hasBadRecord, repeatsArrow, hasCycle, tests, verdictIf, firstOf, verdict}
+use Rattle.book.specs.Checks.{Checks}
+use Rattle.book.specs.declared.Cause.{Cause}
 use Rattle.book.specs.declared.Cause.the-variants.{TooShort, WrongVersion, WrongLength, BrokenSection, OutOfRange, BadRecord, RepeatedArrow, Cycle}
 use Rattle.book.specs.declared.Verdict.{Verdict}
 use Rattle.book.specs.declared.Verdict.the-variants.{Accepted, Refused}
@@ -71,3 +75,14 @@ module _ (s : List ℕ) where
       pub none-applies : t8 ≡ false → Accepted ≡ fromSeven
       unfolding firstOf tests verdictIf
       none-applies q = sym (rw (← e7, f7, ← e8, q) refl)
+
+-- what the check hands on: a refusal has no masks to speak of
+module _ (s : List ℕ) {tested v : Verdict} {lower : List ℕ} where
+  pub checks-refused : (c : Cause) → v ≡ Refused c → Refused c ≡ tested → Checks tested s v lower
+  checks-refused c e t = record { verdict-is = e ∙ t; masks = λ (q : v ≡ Accepted). let z : _≡_ {A = ℕ} 0 1 = cc in absurd (omega arith) }
+
+  pub checks-same : {other : Verdict} → tested ≡ other → Checks tested s v lower → Checks other s v lower
+  checks-same t w = record { verdict-is = w .verdict-is ∙ t; masks = w .masks }
+
+pub checks-accepted : (s : List ℕ) {tested : Verdict} {lower : List ℕ} → Accepted ≡ tested → LowerMasks (arrowsOf s) lower → Checks tested s Accepted lower
+checks-accepted s t w = record { verdict-is = t; masks = λ q. w }

@@ -6,10 +6,12 @@ ghost use Prim.Native.Nat.{ℕ};
 ghost use lib.ListN.{drop};
 ghost use Rattle.base.specs.Lists.{all, any};
 ghost use Rattle.layers.specs.Layers.{link, repeats, sameArrow};
-ghost use Rattle.layers.specs.Masks.{marked};
-ghost use Rattle.format.specs.Book.{records, literalOf, literalsOf, arrowOf};
+ghost use Rattle.layers.specs.Masks.{marked, LowerMasks};
+ghost use Rattle.format.specs.Book.{records, literalOf, literalsOf, arrowOf, arrowsOf};
 ghost use Rattle.format.specs.Sections.{hasBrokenSection};
-ghost use Rattle.book.specs.Causes.{within, arrowOk, atomBelow, ruleOk, isOutOfRange, hasBadRecord, repeatsArrow, hasCycle, tests, firstOf, verdict};
+ghost use Rattle.book.specs.Causes.{within, arrowOk, atomBelow, ruleOk, isOutOfRange, hasBadRecord, repeatsArrow, tests, firstOf, verdict};
+ghost use Rattle.book.specs.Checks.{Checks};
+ghost use Rattle.book.specs.declared.Verdict.the-variants.{Refused};
 ghost use Rattle.book.specs.Numbers.{numberOf};
 use base::MAX_ARROWS;
 use base::MAX_ATOMS;
@@ -212,17 +214,17 @@ pub fn repeated(part: &[u8]) -> bool
     false
 }
 
-// The arrows as masks: bit j of mask i for an arrow from i to j.
-pub fn arrow_masks(part: &[u8]) -> [u32; 32]
+// The arrows as masks: bit i of mask j for an arrow from i to j.
+fn arrow_masks(part: &[u8]) -> [u32; 32]
     requires { ⌜ all (arrowOk 32) (records (now part)) ≡ true ⌝ }
-    ensures { λ r. ⌜ ((x y : ℕ) → marked r x y ≡ any (λ a. sameArrow a (link x y)) (map arrowOf (records (now (part .entry))))) ⌝ }
+    ensures { λ r. ⌜ ((x y : ℕ) → marked r y x ≡ any (λ a. sameArrow a (link x y)) (map arrowOf (records (now (part .entry))))) ⌝ }
 {
     let mut m: [u32; 32] = [0; 32];
     let mut at: usize = 0;
     while at < part.len() {
         let i = wide(part[at + 1]);
         let j = wide(part[at + 2]);
-        let next = layers::with_bit(m, i, j);
+        let next = layers::with_bit(m, j, i);
         m = next;
         at += 3;
     }
@@ -238,57 +240,85 @@ pub fn repeated_arrow(book: &[u8]) -> bool
     repeated(&book[14..second])
 }
 
-// Cause 8, once causes 4 to 6 are ruled out: some layer reaches itself in the closure of the arrows.
-pub fn cyclic(book: &[u8]) -> bool
+// Each layer's mask of the layers below it, once causes 4 to 6 are ruled out: the closure of the arrows.
+fn lower_masks(book: &[u8]) -> [u32; 32]
     requires { ⌜ (hasBrokenSection (now book) ≡ false) × (isOutOfRange (now book) ≡ false) × (hasBadRecord (now book) ≡ false) ⌝ }
-    ensures { λ r. ⌜ r ≡ hasCycle (now (book .entry)) ⌝ }
+    ensures { λ r. ⌜ LowerMasks (arrowsOf (now (book .entry))) r ⌝ }
 {
     let second = 14 + be32(book, 8);
-    layers::has_cycle(layers::transitive_closure(arrow_masks(&book[14..second])))
+    layers::transitive_closure(arrow_masks(&book[14..second]))
+}
+
+// The verdict on a book and, where it is accepted, each layer's mask of the layers below it: the test of cause 8 needs these
+// masks, and so does every call that drives a layer.
+pub struct Checked {
+    pub verdict: Verdict,
+    pub lower: [u32; 32],
+}
+
+fn refused(cause: Cause) -> Checked
+    ensures { λ r. ⌜ r .verdict ≡ Refused cause ⌝ }
+{
+    Checked {
+        verdict: Verdict::Refused(cause),
+        lower: [0; 32],
+    }
 }
 
 // The tests from cause 7 on.
-fn check_arrows(book: &[u8]) -> Verdict
+fn check_arrows(book: &[u8]) -> Checked
     requires { ⌜ (hasBrokenSection (now book) ≡ false) × (isOutOfRange (now book) ≡ false) × (hasBadRecord (now book) ≡ false) ⌝ }
-    ensures { λ r. ⌜ r ≡ firstOf (drop 6 (tests (now (book .entry)))) ⌝ }
+    ensures { λ r. ⌜ Checks (firstOf (drop 6 (tests (now (book .entry))))) (now (book .entry)) (r .verdict) (r .lower) ⌝ }
 {
     if repeated_arrow(book) {
-        return Verdict::Refused(Cause::RepeatedArrow);
+        return refused(Cause::RepeatedArrow);
     }
-    if cyclic(book) {
-        return Verdict::Refused(Cause::Cycle);
+    let lower = lower_masks(book);
+    if layers::has_cycle(lower) {
+        return refused(Cause::Cycle);
     }
-    Verdict::Accepted
+    Checked {
+        verdict: Verdict::Accepted,
+        lower,
+    }
 }
 
 // The tests from cause 4 on.
-fn check_sections(book: &[u8]) -> Verdict
-    ensures { λ r. ⌜ r ≡ firstOf (drop 3 (tests (now (book .entry)))) ⌝ }
+fn check_sections(book: &[u8]) -> Checked
+    ensures { λ r. ⌜ Checks (firstOf (drop 3 (tests (now (book .entry))))) (now (book .entry)) (r .verdict) (r .lower) ⌝ }
 {
     if broken_section(book) {
-        return Verdict::Refused(Cause::BrokenSection);
+        return refused(Cause::BrokenSection);
     }
     if out_of_range(book) {
-        return Verdict::Refused(Cause::OutOfRange);
+        return refused(Cause::OutOfRange);
     }
     if bad_record(book) {
-        return Verdict::Refused(Cause::BadRecord);
+        return refused(Cause::BadRecord);
     }
     check_arrows(book)
 }
 
-// Accepted, or refused for the first of causes 1 to 8 that applies.
+// Accepted, with the masks, or refused for the first of causes 1 to 8 that applies.
+pub fn check_book(book: &[u8]) -> Checked
+    ensures { λ r. ⌜ Checks (verdict (now (book .entry))) (now (book .entry)) (r .verdict) (r .lower) ⌝ }
+{
+    if book.len() < 20 {
+        return refused(Cause::TooShort);
+    }
+    if book[0] != 1 {
+        return refused(Cause::WrongVersion);
+    }
+    if be32(book, 1) != book.len() {
+        return refused(Cause::WrongLength);
+    }
+    check_sections(book)
+}
+
+// The verdict alone.
 pub fn check(book: &[u8]) -> Verdict
     ensures { λ r. ⌜ r ≡ verdict (now (book .entry)) ⌝ }
 {
-    if book.len() < 20 {
-        return Verdict::Refused(Cause::TooShort);
-    }
-    if book[0] != 1 {
-        return Verdict::Refused(Cause::WrongVersion);
-    }
-    if be32(book, 1) != book.len() {
-        return Verdict::Refused(Cause::WrongLength);
-    }
-    check_sections(book)
+    let checked = check_book(book);
+    checked.verdict
 }

@@ -3,7 +3,8 @@ ghost use mathlib.Core.Path.{_≡_};
 ghost use Prim.Native.Nat.{_<_, _≤_};
 ghost use lib.ListN.{length};
 ghost use Rattle.base.specs.Bounds.{maxBranching};
-ghost use Rattle.format.specs.Book.{bookOf};
+ghost use Rattle.layers.specs.Masks.{LowerMasks};
+ghost use Rattle.format.specs.Book.{arrowsOf, bookOf};
 ghost use Rattle.book.specs.Causes.{firstOf};
 ghost use Rattle.table.specs.Table.{programOf};
 ghost use Rattle.accepted.specs.Accepted.{IsAccepted};
@@ -61,13 +62,14 @@ fn list_models(
 }
 
 // The listing at a layer, once causes 1 to 9 are ruled out: what does not depend on a setting is worked out here.
-fn list_at(book: &[u8], layer: usize, buffer: &mut [u8]) -> ListReply
+fn list_at(book: &[u8], layer: usize, lower: [u32; 32], buffer: &mut [u8]) -> ListReply
     requires { ⌜ IsAccepted (now book) ⌝ }
     requires { ⌜ layer < bookOf (now book) .layers ⌝ }
+    requires { ⌜ LowerMasks (arrowsOf (now book)) lower ⌝ }
     ensures { λ r. ⌜ Answers (firstOf (searchTests (programOf (now (book .entry)) layer) (length (now (buffer .entry))))) (programOf (now (book .entry)) layer) (now (buffer .entry)) r (now (buffer .exit)) ⌝ }
 {
     let n = atom_count(book);
-    let table = prepare(book, layer);
+    let table = prepare(book, layer, lower);
     let rows = table.rows;
     let overridden = table.overridden;
     let count = table.count;
@@ -93,9 +95,11 @@ pub fn list(book: &[u8], layer: u32, buffer: &mut [u8]) -> ListReply
     ensures answer { λ r. ⌜ r ≡ listReply (now (book .entry)) layer (now (buffer .entry)) ⌝ }
     ensures bytes { λ _. ⌜ now (buffer .exit) ≡ listBuffer (now (book .entry)) layer (now (buffer .entry)) ⌝ }
 {
-    let v = check_layer(book, layer);
+    let checked = check_layer(book, layer);
+    let lower = checked.lower;
+    let v = checked.verdict;
     match v {
         Verdict::Refused(c) => ListReply::Refused(c),
-        Verdict::Accepted => list_at(book, layer as usize, buffer),
+        Verdict::Accepted => list_at(book, layer as usize, lower, buffer),
     }
 }

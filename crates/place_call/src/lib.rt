@@ -4,7 +4,8 @@ ghost use mathlib.Core.Path.{_≡_};
 ghost use Prim.Native.Nat.{_<_, _≤_};
 ghost use lib.ListN.{length};
 ghost use Rattle.base.specs.Bounds.{maxBranching};
-ghost use Rattle.format.specs.Book.{bookOf};
+ghost use Rattle.layers.specs.Masks.{LowerMasks};
+ghost use Rattle.format.specs.Book.{arrowsOf, bookOf};
 ghost use Rattle.book.specs.Causes.{firstOf};
 ghost use Rattle.table.specs.Table.{programOf};
 ghost use Rattle.accepted.specs.Accepted.{IsAccepted};
@@ -61,16 +62,17 @@ fn place_found(
 }
 
 // The fact's place at a layer, once causes 1 to 9 are ruled out: what does not depend on a setting is worked out here.
-fn place_at(book: &[u8], layer: usize, fact: usize) -> PlaceReply
+fn place_at(book: &[u8], layer: usize, lower: [u32; 32], fact: usize) -> PlaceReply
     requires { ⌜ IsAccepted (now book) ⌝ }
     requires { ⌜ layer < bookOf (now book) .layers ⌝ }
+    requires { ⌜ LowerMasks (arrowsOf (now book)) lower ⌝ }
     ensures { λ r. ⌜ r ≡ replyOf (firstOf (factTests (programOf (now (book .entry)) layer) fact)) (programOf (now (book .entry)) layer) fact ⌝ }
 {
     let n = atom_count(book);
     if n <= fact {
         return PlaceReply::Refused(Cause::NoSuchFact);
     }
-    let table = prepare(book, layer);
+    let table = prepare(book, layer, lower);
     let rows = table.rows;
     let overridden = table.overridden;
     let count = table.count;
@@ -95,9 +97,11 @@ fn place_at(book: &[u8], layer: usize, fact: usize) -> PlaceReply
 pub fn fact_place(book: &[u8], layer: u32, fact: u32) -> PlaceReply
     ensures { λ r. ⌜ r ≡ placeReply (now (book .entry)) layer fact ⌝ }
 {
-    let v = check_layer(book, layer);
+    let checked = check_layer(book, layer);
+    let lower = checked.lower;
+    let v = checked.verdict;
     match v {
         Verdict::Refused(c) => PlaceReply::Refused(c),
-        Verdict::Accepted => place_at(book, layer as usize, fact as usize),
+        Verdict::Accepted => place_at(book, layer as usize, lower, fact as usize),
     }
 }

@@ -4,7 +4,8 @@ ghost use mathlib.Core.Path.{_≡_};
 ghost use mathlib.Core.Bool.{false};
 ghost use Prim.Native.Nat.{_<_, _≤_};
 ghost use Rattle.base.specs.Bounds.{maxAtoms};
-ghost use Rattle.format.specs.Book.{bookOf};
+ghost use Rattle.layers.specs.Masks.{LowerMasks};
+ghost use Rattle.format.specs.Book.{arrowsOf, bookOf};
 ghost use Rattle.models.specs.StableModels.{stable};
 ghost use Rattle.models.specs.Listing.{interpretationOf};
 ghost use Rattle.table.specs.Table.{programOf};
@@ -27,15 +28,16 @@ pub enum TestReply {
 }
 
 // Whether a candidate's state is stable, once no cause applies: the table is made once, then the test fills from it.
-fn candidate_stable(book: &[u8], layer: usize, candidate: &[u8], n: usize) -> bool
+fn candidate_stable(book: &[u8], layer: usize, lower: [u32; 32], candidate: &[u8], n: usize) -> bool
     requires { ⌜ IsAccepted (now book) ⌝ }
     requires { ⌜ layer < bookOf (now book) .layers ⌝ }
+    requires { ⌜ LowerMasks (arrowsOf (now book)) lower ⌝ }
     requires { ⌜ (n ≡ bookOf (now book) .atoms) × (n ≤ maxAtoms) ⌝ }
     requires { ⌜ isBadCandidate n (now candidate) ≡ false ⌝ }
     ensures { λ r. ⌜ r ≡ stable (programOf (now (book .entry)) layer) (interpretationOf n (now (candidate .entry))) ⌝ }
 {
     let m = read_candidate(candidate, n);
-    let table = prepare(book, layer);
+    let table = prepare(book, layer, lower);
     let rows = table.rows;
     let overridden = table.overridden;
     let count = table.count;
@@ -53,7 +55,9 @@ fn candidate_stable(book: &[u8], layer: usize, candidate: &[u8], n: usize) -> bo
 pub fn test(book: &[u8], layer: u32, candidate: &[u8]) -> TestReply
     ensures { λ r. ⌜ r ≡ testReply (now (book .entry)) layer (now (candidate .entry)) ⌝ }
 {
-    let v = check_layer(book, layer);
+    let checked = check_layer(book, layer);
+    let lower = checked.lower;
+    let v = checked.verdict;
     match v {
         Verdict::Refused(c) => TestReply::Refused(c),
         Verdict::Accepted => {
@@ -61,7 +65,7 @@ pub fn test(book: &[u8], layer: u32, candidate: &[u8]) -> TestReply
             if bad_candidate(candidate, n) {
                 return TestReply::Refused(Cause::BadCandidate);
             }
-            if candidate_stable(book, layer as usize, candidate, n) {
+            if candidate_stable(book, layer as usize, lower, candidate, n) {
                 return TestReply::Stable;
             }
             TestReply::NotStable

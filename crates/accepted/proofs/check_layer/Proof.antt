@@ -1,12 +1,13 @@
--- The verdict on the book decides where it refuses; else cause 9 does.
-use mathlib.Core.Path.{sym, _∙_}
+-- `check_layer` meets its contract: the verdict on the book decides where it refuses; else cause 9 does. Assumes nothing.
+use mathlib.Core.Path.{refl, sym, _∙_}
+use Rattle.book.proofs.VerdictLaws.{checks-refused, checks-accepted}
 use Rattle.accepted.proofs.DrivenLaws.{book-refused, layer-refused, layer-accepted}
 use borrow.Author.Needs.{needs}
 use Rattle.accepted.proofs.check_layer.Statement.{statement}
 use Rattle.accepted.proofs.check_layer.Tie as tie
 
-check-requires : tie.Need-check-requires
-check-requires c κs = search needs
+check-book-requires : tie.Need-check-book-requires
+check-book-requires c κs = search needs
 
 enum-known-v : tie.Need-enum-known-v
 enum-known-v c = search needs
@@ -15,25 +16,28 @@ enum-told : tie.Need-enum-told
 enum-told c = search needs
 
 layer-count-requires : tie.Need-layer-count-requires
-layer-count-requires c κs = sym (c .before .before .check .ensures) ∙ c .enum-told .given .1
+layer-count-requires c κs = sym (c .before .before .before .check-book .ensures .verdict-is) ∙ c .enum-told .given .1
 
 returns : tie.Need-returns
 returns c =
-    layer-refused (c .before .before .before .before .before .before .args .book .now) (c .before .before .before .before .before .before .args .layer) (c .before .before .before .before .check .result) (c .before .before .before .before .check .ensures) (c .before .before .enum-told .given .1) (c .before .layer-count .result) (c .before .layer-count .ensures .0) (c .if1 .taken)
+    let s = c .before .before .before .before .before .before .before .args in
+    checks-refused (s .book .now) _ refl (layer-refused (s .book .now) (s .layer) (c .before .before .before .before .before .check-book .result .verdict) (c .before .before .before .before .before .check-book .ensures .verdict-is) (c .before .before .enum-told .given .1) (c .before .layer-count .result) (c .before .layer-count .ensures .0) (c .if1 .taken))
 
 returns-2 : tie.Need-returns-2
 returns-2 c =
-    book-refused (c .before .before .before .before .before .args .book .now) (c .before .before .before .before .before .args .layer) (c .before .before .before .check .result) (c .before .before .before .check .ensures) _ (c .before .v .given .1)
+    let s = c .before .before .before .before .before .before .args in
+    checks-refused (s .book .now) _ refl (book-refused (s .book .now) (s .layer) (c .before .before .before .before .check-book .result .verdict) (c .before .before .before .before .check-book .ensures .verdict-is) _ (c .before .v .given .1))
 
 returns-3 : tie.Need-returns-3
 returns-3 c =
-    layer-accepted (c .before .before .before .before .before .before .args .book .now) (c .before .before .before .before .before .before .args .layer) (c .before .before .before .before .check .result) (c .before .before .before .before .check .ensures) (c .before .before .enum-told .given .1) (c .before .layer-count .result) (c .before .layer-count .ensures .0) (c .if1 .left)
+    let s = c .before .before .before .before .before .before .before .args in
+    checks-accepted (s .book .now) (layer-accepted (s .book .now) (s .layer) (c .before .before .before .before .before .check-book .result .verdict) (c .before .before .before .before .before .check-book .ensures .verdict-is) (c .before .before .enum-told .given .1) (c .before .layer-count .result) (c .before .layer-count .ensures .0) (c .if1 .left)) (c .before .before .before .before .before .check-book .ensures .masks (c .before .before .enum-told .given .1))
 
 pub check-layer-spec : {M : Type 1} → statement M
 check-layer-spec =
     tie.close
     (tie.spec
-    check-requires
+    check-book-requires
     enum-known-v
     enum-told
     layer-count-requires

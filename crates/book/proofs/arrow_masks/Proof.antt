@@ -1,3 +1,4 @@
+-- `arrow_masks` meets its contract: what the masks and the arrows not yet walked have together stays the same. Assumes nothing.
 use mathlib.Core.Path.{_≡_, sym, _∙_}
 use mathlib.Core.Bool.{_||_}
 use mathlib.Core.List.{map}
@@ -12,7 +13,7 @@ use Rattle.book.proofs.arrow_masks.Statement.{statement}
 use Rattle.book.proofs.arrow_masks.Tie as tie
 
 abbrev Inv-loop : tie.InvT-loop
-Inv-loop part m₀ at₀ m at = Walked part at × ((x y : ℕ) → linked (map arrowOf (records part)) x y ≡ (marked m x y || linked (map arrowOf (records (drop at part))) x y))
+Inv-loop part m₀ at₀ m at = Walked part at × ((x y : ℕ) → linked (map arrowOf (records part)) x y ≡ (marked m y x || linked (map arrowOf (records (drop at part))) x y))
 
 abbrev μ-loop : tie.MeasureT-loop
 μ-loop part m₀ at₀ m at = length part - at
@@ -41,7 +42,7 @@ wide-requires-2 c κs = search needs
 with-bit-requires : tie.Need-with-bit-requires Inv-loop μ-loop
 with-bit-requires c κs =
     let w : ArrowAt (c .before .before .before .before .before .before .before .args .part .now) (c .before .before .before .before .before .loop .at) = arrow-at (c .before .before .before .before .before .before .before .args .part .now) (c .before .before .before .before .before .loop .at) (search needs) (c .before .before .before .before .before .loop .inv .0 .good) in
-    (omega (arith, c .before .before .wide .ensures .0, w .earlier), omega (arith, c .wide2 .ensures .0, w .later))
+    (omega (arith, c .wide2 .ensures .0, w .later), omega (arith, c .before .before .wide .ensures .0, w .earlier))
 
 add-at : tie.Need-add-at Inv-loop μ-loop
 add-at c = omega (arith, arrow-at (c .before .before .before .before .before .before .before .before .args .part .now) (c .before .before .before .before .before .before .loop .at) (search needs) (c .before .before .before .before .before .before .loop .inv .0 .good) .room)

@@ -1,6 +1,6 @@
 -- `check_sections` meets its contract: each test's answer is its cause's predicate, and the rest is `check_arrows`. Assumes nothing.
 use mathlib.Core.Path.{sym, _∙_}
-use Rattle.book.proofs.VerdictLaws.{four-applies, five-applies, six-applies, whole}
+use Rattle.book.proofs.VerdictLaws.{four-applies, five-applies, six-applies, whole, checks-refused, checks-same}
 use borrow.Author.Needs.{needs}
 use Rattle.book.proofs.check_sections.Statement.{statement}
 use Rattle.book.proofs.check_sections.Tie as tie
@@ -8,36 +8,48 @@ use Rattle.book.proofs.check_sections.Tie as tie
 broken-section-requires : tie.Need-broken-section-requires
 broken-section-requires c κs = search needs
 
+refused-requires : tie.Need-refused-requires
+refused-requires c κs = search needs
+
 returns : tie.Need-returns
-returns c = four-applies (c .before .before .before .args .book .now) (c .before .broken-section .result) (c .before .broken-section .ensures) (c .if1 .taken)
+returns c = checks-refused (c .before .before .before .before .args .book .now) _ (c .refused .ensures) (four-applies (c .before .before .before .before .args .book .now) (c .before .before .broken-section .result) (c .before .before .broken-section .ensures) (c .before .if1 .taken))
 
 out-of-range-requires : tie.Need-out-of-range-requires
 out-of-range-requires c κs = sym (c .before .broken-section .ensures) ∙ c .if1 .left
 
+refused-requires-2 : tie.Need-refused-requires-2
+refused-requires-2 c κs = search needs
+
 returns-2 : tie.Need-returns-2
-returns-2 c = five-applies (c .before .before .before .before .before .args .book .now) (c .before .before .before .broken-section .result) (c .before .before .before .broken-section .ensures) (c .before .before .if1 .left) (c .before .out-of-range .result) (c .before .out-of-range .ensures) (c .if2 .taken)
+returns-2 c = checks-refused (c .before .before .before .before .before .before .args .book .now) _ (c .refused2 .ensures) (five-applies (c .before .before .before .before .before .before .args .book .now) (c .before .before .before .before .broken-section .result) (c .before .before .before .before .broken-section .ensures) (c .before .before .before .if1 .left) (c .before .before .out-of-range .result) (c .before .before .out-of-range .ensures) (c .before .if2 .taken))
 
 bad-record-requires : tie.Need-bad-record-requires
 bad-record-requires c κs = sym (c .before .before .before .broken-section .ensures) ∙ c .before .before .if1 .left
 
+refused-requires-3 : tie.Need-refused-requires-3
+refused-requires-3 c κs = search needs
+
 returns-3 : tie.Need-returns-3
-returns-3 c = six-applies (c .before .before .before .before .before .before .before .args .book .now) (c .before .before .before .before .before .broken-section .result) (c .before .before .before .before .before .broken-section .ensures) (c .before .before .before .before .if1 .left) (c .before .before .before .out-of-range .result) (c .before .before .before .out-of-range .ensures) (c .before .before .if2 .left) (c .before .bad-record .result) (c .before .bad-record .ensures) (c .if3 .taken)
+returns-3 c = checks-refused (c .before .before .before .before .before .before .before .before .args .book .now) _ (c .refused3 .ensures) (six-applies (c .before .before .before .before .before .before .before .before .args .book .now) (c .before .before .before .before .before .before .broken-section .result) (c .before .before .before .before .before .before .broken-section .ensures) (c .before .before .before .before .before .if1 .left) (c .before .before .before .before .out-of-range .result) (c .before .before .before .before .out-of-range .ensures) (c .before .before .before .if2 .left) (c .before .before .bad-record .result) (c .before .before .bad-record .ensures) (c .before .if3 .taken))
 
 check-arrows-requires : tie.Need-check-arrows-requires
 check-arrows-requires c κs = (sym (c .before .before .before .before .before .broken-section .ensures) ∙ c .before .before .before .before .if1 .left, sym (c .before .before .before .out-of-range .ensures) ∙ c .before .before .if2 .left, sym (c .before .bad-record .ensures) ∙ c .if3 .left)
 
 returns-4 : tie.Need-returns-4
-returns-4 c = c .check-arrows .ensures ∙ whole (c .before .before .before .before .before .before .before .before .args .book .now) (c .before .before .before .before .before .before .broken-section .result) (c .before .before .before .before .before .before .broken-section .ensures) (c .before .before .before .before .before .if1 .left) (c .before .before .before .before .out-of-range .result) (c .before .before .before .before .out-of-range .ensures) (c .before .before .before .if2 .left) (c .before .before .bad-record .result) (c .before .before .bad-record .ensures) (c .before .if3 .left)
+returns-4 c = checks-same (c .before .before .before .before .before .before .before .before .args .book .now) (whole (c .before .before .before .before .before .before .before .before .args .book .now) (c .before .before .before .before .before .before .broken-section .result) (c .before .before .before .before .before .before .broken-section .ensures) (c .before .before .before .before .before .if1 .left) (c .before .before .before .before .out-of-range .result) (c .before .before .before .before .out-of-range .ensures) (c .before .before .before .if2 .left) (c .before .before .bad-record .result) (c .before .before .bad-record .ensures) (c .before .if3 .left)) (c .check-arrows .ensures)
 
 pub check-sections-spec : {M : Type 1} → statement M
 check-sections-spec =
     tie.close
     (tie.spec
     broken-section-requires
+    refused-requires
     returns
     out-of-range-requires
+    refused-requires-2
     returns-2
     bad-record-requires
+    refused-requires-3
     returns-3
     check-arrows-requires
     returns-4)

@@ -1,6 +1,5 @@
 -- `one` meets its contract: a refusal by the book or the layer leaves the buffer, and the rest is `one_at`. Assumes nothing.
-use mathlib.Core.Path.{sym, _∙_}
-use Rattle.accepted.proofs.DrivenLaws.{driven}
+use Rattle.accepted.proofs.DrivenLaws.{ready}
 use Rattle.one_call.proofs.OneLaws.{call-refused, call-answered}
 use borrow.Author.Needs.{needs}
 use Rattle.one_call.proofs.one.Statement.{statement}
@@ -20,16 +19,16 @@ enum-told : tie.Need-enum-told
 enum-told c = search needs
 
 one-at-requires : tie.Need-one-at-requires
-one-at-requires c κs = driven (c .before .before .before .before .before .before .args .book .now) (c .before .before .before .before .before .before .args .layer) (sym (c .before .before .before .check-layer .ensures) ∙ c .before .enum-told .given .1)
+one-at-requires c κs = ready (c .before .before .before .before .before .before .before .args .book .now) (c .before .before .before .before .before .before .before .args .layer) (c .before .before .before .before .check-layer .ensures) (c .before .enum-told .given .1)
 
 returns : tie.Need-returns
-returns c = call-refused (c .before .before .before .before .before .before .args .book .now) (c .before .before .before .before .before .before .args .layer) (c .before .before .before .before .before .before .args .buffer .now) (c .before .before .before .check-layer .result) (c .before .before .before .check-layer .ensures) _ (c .before .v .given .1)
+returns c = call-refused (c .before .before .before .before .before .before .before .args .book .now) (c .before .before .before .before .before .before .before .args .layer) (c .before .before .before .before .before .before .before .args .buffer .now) (c .before .before .before .before .check-layer .result .verdict) (c .before .before .before .before .check-layer .ensures .verdict-is) _ (c .before .v .given .1)
 
 same-length : tie.Need-same-length
 same-length c = search needs
 
 returns-2 : tie.Need-returns-2
-returns-2 c = call-answered (c .before .before .before .before .before .before .before .before .before .args .book .now) (c .before .before .before .before .before .before .before .before .before .args .layer) (c .before .before .before .before .before .before .before .before .before .args .buffer .now) (c .before .before .before .before .before .before .check-layer .result) (c .before .before .before .before .before .before .check-layer .ensures) (c .before .before .before .before .enum-told .given .1) _ _ (c .before .before .one-at .ensures)
+returns-2 c = call-answered (c .before .before .before .before .before .before .before .before .before .before .args .book .now) (c .before .before .before .before .before .before .before .before .before .before .args .layer) (c .before .before .before .before .before .before .before .before .before .before .args .buffer .now) (c .before .before .before .before .before .before .before .check-layer .result .verdict) (c .before .before .before .before .before .before .before .check-layer .ensures .verdict-is) (c .before .before .before .before .enum-told .given .1) _ _ (c .before .before .one-at .ensures)
 
 pub one-spec : {M : Type 1} → statement M
 one-spec =

@@ -13,7 +13,7 @@ use Rattle.test_call.proofs.candidate_stable.Tie as tie
 
 read-candidate-requires : tie.Need-read-candidate-requires
 read-candidate-requires c κs =
-    (c .before .before .pre .1 .1 .0 .1, ok-length (c .before .before .args .n) (c .before .before .args .candidate .now) (c .before .before .pre .1 .1 .1))
+    (c .before .before .pre .1 .1 .1 .0 .1, ok-length (c .before .before .args .n) (c .before .before .args .candidate .now) (c .before .before .pre .1 .1 .1 .1))
 
 prepare-requires : tie.Need-prepare-requires
 prepare-requires c κs = search needs
@@ -47,7 +47,7 @@ part-is-stable-start-3 c = search needs
 
 part-is-stable-end-3 : tie.Need-part-is-stable-end-3
 part-is-stable-end-3 c =
-    omega (arith, c .before .before .before .before .before .before .before .before .before .before .before .pre .1 .1 .0 .1)
+    omega (arith, c .before .before .before .before .before .before .before .before .before .before .before .pre .1 .1 .1 .0 .1)
 
 is-stable-requires : tie.Need-is-stable-requires
 is-stable-requires c κs =
@@ -56,7 +56,7 @@ is-stable-requires c κs =
       accepted-formed (e .book .now) (h .0) (e .layer),
       (
         lent-table (c .before .before .before .before .before .before .before .before .prepare .ensures),
-        (program-atoms (e .book .now) (e .layer) (e .n) (h .1 .1 .0 .0), (h .1 .1 .0 .1, lent-size (e .n) (e .candidate .now) (c .before .before .before .before .before .before .before .before .before .read-candidate .result) (c .before .before .before .before .before .before .before .before .before .read-candidate .ensures))),
+        (program-atoms (e .book .now) (e .layer) (e .n) (h .1 .1 .1 .0 .0), (h .1 .1 .1 .0 .1, lent-size (e .n) (e .candidate .now) (c .before .before .before .before .before .before .before .before .before .read-candidate .result) (c .before .before .before .before .before .before .before .before .before .read-candidate .ensures))),
       ),
     )
 

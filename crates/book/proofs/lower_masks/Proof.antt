@@ -1,9 +1,10 @@
+-- `lower_masks` meets its contract: the closure of the arrows' masks has a bit exactly where a layer is below another. Assumes nothing.
 use Rattle.format.proofs.SectionLaws.{laid}
-use Rattle.book.proofs.RingLaws.{part-good, eight-is}
+use Rattle.book.proofs.RingLaws.{part-good, masks-are}
 use native.Mathlib.Omega.{arith}
 use borrow.Author.Needs.{needs}
-use Rattle.book.proofs.cyclic.Statement.{statement}
-use Rattle.book.proofs.cyclic.Tie as tie
+use Rattle.book.proofs.lower_masks.Statement.{statement}
+use Rattle.book.proofs.lower_masks.Tie as tie
 
 be32-requires : tie.Need-be32-requires
 be32-requires c κs = omega (arith, laid (c .before .args .book .now) (c .before .pre .0) .first-in)
@@ -26,14 +27,13 @@ arrow-masks-requires c κs = part-good (c .before .before .before .args .book .n
 transitive-closure-requires : tie.Need-transitive-closure-requires
 transitive-closure-requires c κs = search needs
 
-has-cycle-requires : tie.Need-has-cycle-requires
-has-cycle-requires c κs = search needs
-
 returns : tie.Need-returns
-returns c = eight-is (c .before .before .before .before .before .before .args .book .now) (c .before .before .before .before .before .before .pre .1) (c .before .before .before .before .before .before .pre .2) (c .before .before .before .before .be32 .result) (c .before .before .before .before .be32 .ensures .0) (c .before .before .arrow-masks .result) (c .before .transitive-closure .result) (c .before .before .arrow-masks .ensures) (c .before .transitive-closure .ensures .0) (c .before .transitive-closure .ensures .1) (c .has-cycle .result) (c .has-cycle .ensures)
+returns c =
+    let s = c .before .before .before .before .before in
+    masks-are (s .args .book .now) (s .pre .1) (s .pre .2) (c .before .before .before .be32 .result) (c .before .before .before .be32 .ensures .0) (c .before .arrow-masks .result) (c .transitive-closure .result) (c .before .arrow-masks .ensures) (c .transitive-closure .ensures .0) (c .transitive-closure .ensures .1)
 
-pub cyclic-spec : {M : Type 1} → statement M
-cyclic-spec =
+pub lower-masks-spec : {M : Type 1} → statement M
+lower-masks-spec =
     tie.close
     (tie.spec
     be32-requires
@@ -43,5 +43,4 @@ cyclic-spec =
     part-arrow-masks-end
     arrow-masks-requires
     transitive-closure-requires
-    has-cycle-requires
     returns)
