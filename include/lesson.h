@@ -2,7 +2,7 @@
  * lesson.h: the lesson engine, for C11 and C++.
  *
  * Link with liblesson.a (64-bit x86, Linux); it needs nothing beyond the C
- * library. examples/check.c is a host to copy from.
+ * library. examples/host.c is a host to copy from.
  *
  * What holds for every call:
  *

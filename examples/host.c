@@ -1,0 +1,138 @@
+/*
+ * A host to copy from: loads a book, lists its states, tests two, and asks each fact's place.
+ *
+ *   gcc -std=c11 -Iinclude examples/host.c target/staticlib/liblesson.a -o target/host
+ *   target/host BOOK [LAYER]
+ *
+ * LAYER counts from 0; without it the last is driven. Ends with 0, with 1 if a call was refused, or
+ * with 2 if the book could not be read or the answers not printed.
+ */
+#include "lesson.h"
+
+#include <stdio.h>
+#include <stdlib.h>
+
+static uint8_t book[38372 + 1]; /* the largest and a byte, so that a longer file is no book */
+static size_t book_len;
+static uint8_t listing[33554443]; /* holds every listing; only the pages written take memory */
+
+/* The causes of a refusal in words, by number. */
+static const char *const words[] = {
+    [LESSON_TOO_SHORT] = "fewer than 20 bytes",
+    [LESSON_WRONG_VERSION] = "version is not 1",
+    [LESSON_WRONG_LENGTH] = "length field differs from the file's length",
+    [LESSON_BROKEN_SECTION] = "sections, records and counts disagree",
+    [LESSON_OUT_OF_RANGE] = "number of facts, layers, arrows or rules out of range",
+    [LESSON_BAD_RECORD] = "a record of the wrong length, or an unknown layer or fact",
+    [LESSON_REPEATED_ARROW] = "two equal arrows",
+    [LESSON_CYCLE] = "arrows lead in a circle",
+    [LESSON_NO_SUCH_LAYER] = "the book does not have this layer",
+    [LESSON_BAD_CANDIDATE] = "candidate of another length, or a spare bit set",
+    [LESSON_NO_SUCH_FACT] = "the book does not have this fact",
+    [LESSON_TOO_MANY_BRANCHING] = "more than 20 branching facts",
+    [LESSON_BUFFER_TOO_SHORT] = "buffer too short",
+    [LESSON_NO_STABLE_STATE] = "no stable state at this layer",
+};
+
+/* Whether a call was granted. Says in words why it was not. */
+static bool granted(const char *call, uint64_t answer)
+{
+    size_t cause = lesson_cause(answer);
+
+    if (!lesson_granted(answer))
+        printf("%s refused %zu: %s\n", call, cause,
+               cause < sizeof words / sizeof *words ? words[cause] : "unknown cause");
+    return lesson_granted(answer);
+}
+
+/* Prints every state as a line of 0s and 1s, a digit for each fact. */
+static bool list(uint32_t layer, unsigned facts)
+{
+    uint64_t answer = lesson_list(book, book_len, layer, listing, sizeof listing);
+    const uint8_t *record = listing + 11;
+
+    if (!granted("listing", answer))
+        return false;
+    printf("states %u, branching facts %u\n", (unsigned)lesson_state_count(answer),
+           (unsigned)lesson_branching_count(answer));
+    for (uint32_t state = 0; state < lesson_state_count(answer); state++) {
+        for (unsigned fact = 0; fact < facts; fact++)
+            putchar(record[fact / 8] >> (7 - fact % 8) & 1 ? '1' : '0');
+        putchar('\n');
+        record += (facts + 7) / 8;
+    }
+    return true;
+}
+
+/* Has the engine hand out a state, and tests it; then once more with fact 0 the other way. */
+static bool test(uint32_t layer, unsigned facts)
+{
+    uint8_t record[32]; /* the longest */
+
+    if (!granted("one state", lesson_one(book, book_len, layer, record, sizeof record)))
+        return false;
+    for (int flipped = 0; flipped <= 1; flipped++) {
+        uint64_t answer = lesson_test(book, book_len, layer, record, (facts + 7) / 8);
+
+        if (!granted("test", answer))
+            return false;
+        printf("%s: %s\n", flipped ? "fact 0 the other way" : "a state handed out",
+               lesson_is_stable(answer) ? "stable" : "not stable");
+        record[0] ^= 0x80;
+    }
+    return true;
+}
+
+/* Prints whether each fact stands in every state, in some or in none. */
+static bool place(uint32_t layer, unsigned facts)
+{
+    for (unsigned fact = 0; fact < facts; fact++) {
+        uint64_t answer = lesson_place(book, book_len, layer, fact);
+        enum lesson_place_number in = lesson_place_of(answer);
+
+        if (!granted("place", answer))
+            return false;
+        printf("fact %u: %s\n", fact,
+               in == LESSON_IN_EVERY ? "every" : in == LESSON_IN_SOME ? "some" : "none");
+    }
+    return true;
+}
+
+static bool load(const char *name)
+{
+    FILE *file = fopen(name, "rb");
+    bool loaded = file != NULL;
+
+    if (loaded) {
+        book_len = fread(book, 1, sizeof book, file);
+        loaded = !ferror(file);
+        fclose(file);
+    }
+    return loaded;
+}
+
+int main(int argc, char **argv)
+{
+    char *end = "";
+    unsigned long layer = argc == 3 ? strtoul(argv[2], &end, 10) : 0;
+
+    if (argc < 2 || argc > 3 || end == argv[2] || *end != '\0' || layer > UINT32_MAX) {
+        fprintf(stderr, "usage: host BOOK [LAYER]\n");
+        return 2;
+    }
+    if (!load(argv[1])) {
+        perror(argv[1]);
+        return 2;
+    }
+    if (!granted("book", lesson_check(book, book_len)))
+        return 1;
+    puts("accepted");
+
+    /* An accepted book's fields can be relied on. */
+    unsigned facts = (unsigned)book[5] << 8 | book[6];
+    uint32_t driven = argc == 3 ? (uint32_t)layer : book[7] - 1u;
+
+    if (!list(driven, facts) || !test(driven, facts) || !place(driven, facts))
+        return 1;
+    return fflush(stdout) != 0 || ferror(stdout) ? 2 : 0;
+}
