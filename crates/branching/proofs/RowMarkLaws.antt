@@ -2,8 +2,7 @@
 use mathlib.Core.Path.{_≡_, refl, sym, ap, ap₂, subst, _∙_}
 use mathlib.Core.Bool.{Bool, false, not, _||_}
 use mathlib.Core.List.{List, [], _∷_, map}
-use Prim.Native.Nat.{ℕ, zero, suc, _+_, _-_, _/_, _%_, _^_, _<_, _≤_}
-use native.Mathlib.Nat.{div-one, div-div-eq-div-mul, pow-suc, mul-comm}
+use Prim.Native.Nat.{ℕ, zero, suc, _+_, _-_, _<_, _≤_}
 use native.Mathlib.Decide.{ℕ-discrete}
 use native.Mathlib.Numerals.{add-one}
 use native.Mathlib.Omega.{arith}
@@ -15,7 +14,7 @@ use Rattle.base.specs.Lists.{any, upTo}
 use Rattle.base.proofs.Members.{_∈_, any-at, any-of, same-test}
 use Rattle.base.proofs.UpTo.{any-append}
 use Rattle.layers.specs.Masks.{bitOf}
-use Rattle.layers.proofs.BitLaws.{or-false, no-bit}
+use Rattle.layers.proofs.BitLaws.{or-false, no-bit, some-bit}
 use Rattle.format.specs.Book.{Rule, literalsOf}
 use Rattle.models.specs.Program.{Program}
 use Rattle.models.specs.StableModels.{atomHolds, overrides}
@@ -23,17 +22,6 @@ use Rattle.models.specs.Branching.{canReject, branching}
 use Rattle.table.specs.Rows.{rowCount, bodyStart, bodyBytes, rowAt, rowsOf}
 use Rattle.table.specs.Table.{Tabulates}
 use Rattle.branching.specs.Marks.{branchesIn, BodyMarked, BranchingMarks}
-
--- a number that is not 0 has a bit that is set
-some-bit : (k a : ℕ) → a < k → 0 < a → (i : ℕ) × (bitOf a i ≡ 1)
-some-bit zero a h p = absurd (omega arith)
-some-bit (suc k) a h p = go (ℕ-discrete (a % 2) 1) (λ u v. some-bit k (a / 2) u v)
-  where
-    go : Dec (a % 2 ≡ 1) → (a / 2 < k → 0 < a / 2 → (i : ℕ) × (bitOf (a / 2) i ≡ 1)) → (i : ℕ) × (bitOf a i ≡ 1)
-    go (yes e) f = (0, ap (λ (x : ℕ). x % 2) (div-one a) ∙ e)
-    go (no n) f =
-        let r = f (omega arith) (omega arith) in
-        (suc (r .0), ap (λ (x : ℕ). a / x % 2) (pow-suc 2 (r .0) ∙ mul-comm (2 ^ r .0) 2) ∙ ap (λ (x : ℕ). x % 2) (sym (div-div-eq-div-mul a 2 (2 ^ r .0))) ∙ r .1)
 
 module _ (P : Program) (book rows : List ℕ) where
   -- the facts that the first rows make branch

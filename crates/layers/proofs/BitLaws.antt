@@ -7,7 +7,7 @@ use mathlib.Core.Logic.{_⊎_, inl, inr}
 use mathlib.Core.List.{List}
 use Prim.Native.Nat.{ℕ, zero, suc, _+_, _*_, _-_, _/_, _%_, _^_, _<_, min, max}
 use native.Mathlib.Omega.{arith}
-use native.Mathlib.Nat.{zero-div, div-eq-of-lt, div-self, mod-eq-of-lt, mul-div-cancel, pow-suc}
+use native.Mathlib.Nat.{zero-div, div-one, div-eq-of-lt, div-self, div-div-eq-div-mul, mod-eq-of-lt, mul-comm, mul-div-cancel, pow-suc}
 use native.Mathlib.Decide.{decLt, ℕ-discrete}
 use borrow.Author.Tests.{eq-eqb, ne-eqb}
 use lib.Pow.{pow-pos, pow-lt, pow-add}
@@ -113,6 +113,17 @@ no-bits (suc n) (suc x) = no-bits n x
 
 pub no-bit : (i : ℕ) → bitOf 0 i ≡ 1 → ⊥
 no-bit i e = omega (arith, e, zero-div (2 ^ i))
+
+-- a number that is not 0 has a bit that is set
+pub some-bit : (k a : ℕ) → a < k → 0 < a → (i : ℕ) × (bitOf a i ≡ 1)
+some-bit zero a h p = absurd (omega arith)
+some-bit (suc k) a h p = go (ℕ-discrete (a % 2) 1) (λ u v. some-bit k (a / 2) u v)
+  where
+    go : Dec (a % 2 ≡ 1) → (a / 2 < k → 0 < a / 2 → (i : ℕ) × (bitOf (a / 2) i ≡ 1)) → (i : ℕ) × (bitOf a i ≡ 1)
+    go (yes e) f = (0, ap (λ (x : ℕ). x % 2) (div-one a) ∙ e)
+    go (no n) f =
+        let r = f (omega arith) (omega arith) in
+        (suc (r .0), ap (λ (x : ℕ). a / x % 2) (pow-suc 2 (r .0) ∙ mul-comm (2 ^ r .0) 2) ∙ ap (λ (x : ℕ). x % 2) (sym (div-div-eq-div-mul a 2 (2 ^ r .0))) ∙ r .1)
 
 -- no bit is set yet
 pub none-marked : (x y : ℕ) → marked (replicate 32 0) x y ≡ false

@@ -35,7 +35,7 @@ use Rattle.list_call.specs.declared.ListReply.the-variants as reply
 use Rattle.list_call.specs.Reply.{roomTests, searchTests, listTests, replyOf, bufferOf, listReply, listBuffer, Answers}
 
 -- ---- counting and writing
-module _ {book rows overridden atoms : List ℕ} {layer n : ℕ} (w : Searchable book rows overridden atoms layer n) (few : length atoms ≤ maxBranching) where
+module _ {book rows overridden atoms : List ℕ} {layer n : ℕ} (w : Searchable book rows overridden atoms layer n) where
   abbrev P : Program
   P = programOf book layer
 
@@ -51,7 +51,7 @@ module _ {book rows overridden atoms : List ℕ} {layer n : ℕ} (w : Searchable
     k-is = tallied-all P (w .formed) atoms-few 0 k standing t
 
     k-le : k ≤ 2 ^ maxBranching
-    k-le = omega (arith, k-is, models-le P (w .formed) atoms-few, pow-le-pow-right {n = 2} (omega arith) (subst (λ (x : ℕ). x ≤ maxBranching) g-is few))
+    k-le = omega (arith, k-is, models-le P (w .formed) atoms-few, pow-le-pow-right {n = 2} (omega arith) (subst (λ (x : ℕ). x ≤ maxBranching) g-is (w .atoms-few)))
 
     module _ (width : ℕ) (e : width ≡ recordSize n) where
       pub bytes-fit : k * width ≤ 33554432

@@ -2,7 +2,6 @@
 ghost use mathlib.Core.Path.{_≡_};
 ghost use Prim.Native.Nat.{_<_, _≤_};
 ghost use lib.ListN.{length};
-ghost use Rattle.base.specs.Bounds.{maxBranching};
 ghost use Rattle.layers.specs.Masks.{LowerMasks};
 ghost use Rattle.format.specs.Book.{arrowsOf, bookOf};
 ghost use Rattle.book.specs.Causes.{firstOf};
@@ -21,6 +20,7 @@ use passes::write_all;
 use records::put_head;
 use records::record_size;
 use search::Goal;
+use setting::rule_masks;
 
 pub enum ListReply {
     // k and g
@@ -39,10 +39,20 @@ fn list_models(
     buffer: &mut [u8],
 ) -> ListReply
     requires { ⌜ Searchable (now book) (now rows) (now overridden) (now atoms) layer n ⌝ }
-    requires { ⌜ length (now atoms) ≤ maxBranching ⌝ }
     ensures { λ r. ⌜ Answers (firstOf (roomTests (programOf (now (book .entry)) layer) (length (now (buffer .entry))))) (programOf (now (book .entry)) layer) (now (buffer .entry)) r (now (buffer .exit)) ⌝ }
 {
-    let counts = tally(book, layer, rows, overridden, atoms, n, Goal::All, 0);
+    let masks = rule_masks(book, rows, atoms);
+    let counts = tally(
+        book,
+        layer,
+        rows,
+        overridden,
+        &masks,
+        atoms,
+        n,
+        Goal::All,
+        0,
+    );
     let k = counts.count;
     let size = 11 + k * record_size(n);
     if buffer.len() < size {
@@ -53,6 +63,7 @@ fn list_models(
         layer,
         rows,
         overridden,
+        &masks,
         atoms,
         n,
         &mut buffer[11..size],

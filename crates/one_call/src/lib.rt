@@ -2,7 +2,6 @@
 ghost use mathlib.Core.Path.{_≡_};
 ghost use Prim.Native.Nat.{_<_, _≤_};
 ghost use lib.ListN.{length};
-ghost use Rattle.base.specs.Bounds.{maxBranching};
 ghost use Rattle.layers.specs.Masks.{LowerMasks};
 ghost use Rattle.format.specs.Book.{arrowsOf, bookOf};
 ghost use Rattle.book.specs.Causes.{firstOf};
@@ -18,6 +17,7 @@ use book::Verdict;
 use branching::branching_atoms;
 use passes::write_first;
 use records::record_size;
+use setting::rule_masks;
 
 pub enum OneReply {
     // g
@@ -36,18 +36,19 @@ fn one_found(
     buffer: &mut [u8],
 ) -> OneReply
     requires { ⌜ Searchable (now book) (now rows) (now overridden) (now atoms) layer n ⌝ }
-    requires { ⌜ length (now atoms) ≤ maxBranching ⌝ }
     ensures { λ r. ⌜ Answers (firstOf (roomTests (programOf (now (book .entry)) layer) (length (now (buffer .entry))))) (programOf (now (book .entry)) layer) (now (buffer .entry)) r (now (buffer .exit)) ⌝ }
 {
     let size = record_size(n);
     if buffer.len() < size {
         return OneReply::Refused(Cause::BufferTooShort);
     }
+    let masks = rule_masks(book, rows, atoms);
     let found = write_first(
         book,
         layer,
         rows,
         overridden,
+        &masks,
         atoms,
         n,
         &mut buffer[0..size],

@@ -55,8 +55,8 @@ module _ {book rows overridden atoms : List ℕ} {layer n : ℕ} (w : Searchable
   unfolding searched
   found-is = ap (λ (l : List ℕ). foundBy (atSetting P l) l (replicate 256 false)) (w .listed)
 
-  pub start-fits : length atoms ≤ maxBranching → 0 + 2 ^ length atoms ≤ 4294967296
-  start-fits h = omega (arith, pow-le-pow-right {n = 2} (omega arith) h)
+  pub start-fits : 0 + 2 ^ length atoms ≤ 4294967296
+  start-fits = omega (arith, pow-le-pow-right {n = 2} (omega arith) (w .atoms-few))
 
   pub start-kept : (goal : Goal) (atom hi : ℕ) (part : List ℕ) → hi ≤ length part → Kept n (record { goal = goal; atom = atom; count = 0; standing = 0; lo = 0; hi = hi }) part
   start-kept goal atom hi part h = record { order = omega arith; fits = h; whole = mult-zero (recordSize n); few = omega arith }

@@ -25,19 +25,18 @@ minus-zero n = omega arith
 
 module _ (book : List ℕ) (layer : ℕ) (ok : IsAccepted book) {rows overridden : List ℕ} {count : ℕ} (made : TableMade (programOf book layer) book rows overridden count)
     {atoms : List ℕ} {g : ℕ} (l : Listed (programOf book layer) atoms g) where
-  pub searchable : (n : ℕ) → n ≡ bookOf book .atoms → 0 < n → n ≤ maxAtoms → Searchable book (take (4 * count - 0) rows) (take (count - 0) overridden) (take (g - 0) atoms) layer n
+  pub searchable : g ≤ 20 → (n : ℕ) → n ≡ bookOf book .atoms → 0 < n → n ≤ maxAtoms → Searchable book (take (4 * count - 0) rows) (take (count - 0) overridden) (take (g - 0) atoms) layer n
   unfolding programAt
-  searchable n e p b = record {
+  searchable h n e p b = record {
     formed = accepted-formed book ok layer;
     table = lent-table made;
     listed = ap (λ (k : ℕ). take k atoms) (minus-zero g) ∙ l .atoms-are;
+    rows-few = let s : length (take (4 * count - 0) rows) ≡ 4 * count - 0 = length-take-le (4 * count - 0) rows (omega (arith, made .room, made .row-size)) in omega (arith, made .room);
+    atoms-few = omega (arith, length-take-le (g - 0) atoms (omega (arith, l .few, l .size)));
     size = e;
     some = p;
     few = b;
   }
-
-  pub atoms-lent : g ≤ 20 → length (take (g - 0) atoms) ≤ maxBranching
-  atoms-lent h = omega (arith, length-take-le (g - 0) atoms (omega (arith, l .few, l .size)))
 
   pub too-many : 20 < g → hasTooManyBranching (programOf book layer) ≡ true
   unfolding hasTooManyBranching

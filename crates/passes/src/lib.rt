@@ -1,12 +1,14 @@
-// Passes of the search: one that counts, and one that writes. Document 01: "a listing may take one such pass to count and one to write".
+// Passes of the search: one that counts, one that writes every record and one that writes the first. Document 01: "a listing may take
+// one such pass to count and one to write".
 ghost use mathlib.Core.Path.{_≡_};
 ghost use mathlib.Core.List.{map};
 ghost use Prim.Native.Nat.{_*_, _≤_};
 ghost use lib.ListN.{length};
-ghost use Rattle.base.specs.Bounds.{maxBranching};
 ghost use Rattle.base.specs.Lists.{flat};
 ghost use Rattle.models.specs.Listing.{stableModels, recordSize, recordOf};
+ghost use Rattle.table.specs.Rows.{rowCount};
 ghost use Rattle.table.specs.Table.{programOf};
+ghost use Rattle.setting.specs.RuleMasks.{RuleMasks};
 ghost use Rattle.search.specs.Searchable.{Searchable};
 ghost use Rattle.passes.specs.First.{FirstWritten};
 ghost use Rattle.passes.specs.Tallied.{Tallied};
@@ -25,13 +27,14 @@ pub fn tally(
     layer: usize,
     rows: &[u16],
     overridden: &[u32],
+    masks: &[u32],
     atoms: &[u8],
     n: usize,
     goal: Goal,
     atom: usize,
 ) -> Counts
     requires { ⌜ Searchable (now book) (now rows) (now overridden) (now atoms) layer n ⌝ }
-    requires { ⌜ length (now atoms) ≤ maxBranching ⌝ }
+    requires { ⌜ RuleMasks (now book) (now rows) (now atoms) (now masks) (rowCount (now rows)) ⌝ }
     ensures { λ r. ⌜ Tallied (programOf (now (book .entry)) layer) goal atom (r .count) (r .standing) ⌝ }
 {
     let mut unused: [u8; 1] = [0; 1];
@@ -48,6 +51,7 @@ pub fn tally(
         layer,
         rows,
         overridden,
+        masks,
         atoms,
         atoms,
         n,
@@ -67,12 +71,13 @@ pub fn write_all(
     layer: usize,
     rows: &[u16],
     overridden: &[u32],
+    masks: &[u32],
     atoms: &[u8],
     n: usize,
     part: &mut [u8],
 )
     requires { ⌜ Searchable (now book) (now rows) (now overridden) (now atoms) layer n ⌝ }
-    requires { ⌜ length (now atoms) ≤ maxBranching ⌝ }
+    requires { ⌜ RuleMasks (now book) (now rows) (now atoms) (now masks) (rowCount (now rows)) ⌝ }
     requires { ⌜ length (now part) ≡ length (stableModels (programOf (now book) layer)) * recordSize n ⌝ }
     ensures { λ _. ⌜ now (part .exit) ≡ flat (map (recordOf n) (stableModels (programOf (now (book .entry)) layer))) ⌝ }
 {
@@ -90,6 +95,7 @@ pub fn write_all(
         layer,
         rows,
         overridden,
+        masks,
         atoms,
         atoms,
         n,
@@ -105,12 +111,13 @@ pub fn write_first(
     layer: usize,
     rows: &[u16],
     overridden: &[u32],
+    masks: &[u32],
     atoms: &[u8],
     n: usize,
     part: &mut [u8],
 ) -> bool
     requires { ⌜ Searchable (now book) (now rows) (now overridden) (now atoms) layer n ⌝ }
-    requires { ⌜ length (now atoms) ≤ maxBranching ⌝ }
+    requires { ⌜ RuleMasks (now book) (now rows) (now atoms) (now masks) (rowCount (now rows)) ⌝ }
     requires { ⌜ length (now part) ≡ recordSize n ⌝ }
     ensures { λ r. ⌜ FirstWritten (programOf (now (book .entry)) layer) n (now (part .entry)) r (now (part .exit)) ⌝ }
 {
@@ -128,6 +135,7 @@ pub fn write_first(
         layer,
         rows,
         overridden,
+        masks,
         atoms,
         atoms,
         n,

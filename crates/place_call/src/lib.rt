@@ -3,7 +3,6 @@
 ghost use mathlib.Core.Path.{_≡_};
 ghost use Prim.Native.Nat.{_<_, _≤_};
 ghost use lib.ListN.{length};
-ghost use Rattle.base.specs.Bounds.{maxBranching};
 ghost use Rattle.layers.specs.Masks.{LowerMasks};
 ghost use Rattle.format.specs.Book.{arrowsOf, bookOf};
 ghost use Rattle.book.specs.Causes.{firstOf};
@@ -19,6 +18,7 @@ use book::Verdict;
 use branching::branching_atoms;
 use passes::tally;
 use search::Goal;
+use setting::rule_masks;
 
 pub enum Place {
     Every,
@@ -43,10 +43,20 @@ fn place_found(
     fact: usize,
 ) -> PlaceReply
     requires { ⌜ Searchable (now book) (now rows) (now overridden) (now atoms) layer n ⌝ }
-    requires { ⌜ length (now atoms) ≤ maxBranching ⌝ }
     ensures { λ r. ⌜ r ≡ replyOf (firstOf (stateTests (programOf (now (book .entry)) layer))) (programOf (now (book .entry)) layer) fact ⌝ }
 {
-    let counts = tally(book, layer, rows, overridden, atoms, n, Goal::Settle, fact);
+    let masks = rule_masks(book, rows, atoms);
+    let counts = tally(
+        book,
+        layer,
+        rows,
+        overridden,
+        &masks,
+        atoms,
+        n,
+        Goal::Settle,
+        fact,
+    );
     let count = counts.count;
     let standing = counts.standing;
     if count == 0 {

@@ -2,3 +2,4 @@ pub mod FoundLaws
 pub mod VisitLaws
 pub mod StepLaws
 pub mod ModelLaws
+pub mod QuickLaws

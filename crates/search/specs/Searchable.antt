@@ -4,15 +4,19 @@ use mathlib.Core.Bool.{Bool, not}
 use mathlib.Core.List.{List, List·Memᴰ}
 use Prim.Native.Nat.{ℕ, _<_, _≤_}
 use lib.Dec.{T}
-use Rattle.base.specs.Bounds.{maxAtoms}
+use lib.ListN.{length}
+use Rattle.base.specs.Bounds.{maxAtoms, maxRules, maxBranching}
 use Rattle.models.specs.StableModels.{Interpretation, atomHolds, WellFormed}
 use Rattle.models.specs.Branching.{branchingAtoms}
+use Rattle.table.specs.Rows.{rowCount}
 use Rattle.table.specs.Table.{programOf, Tabulates}
 
 pub record Searchable (book rows overridden atoms : List ℕ) (layer n : ℕ) : Type 0 where
   pub formed : WellFormed (programOf book layer)
   pub table : Tabulates (programOf book layer) book rows overridden
   pub listed : atoms ≡ branchingAtoms (programOf book layer)
+  pub rows-few : rowCount rows ≤ maxRules
+  pub atoms-few : length atoms ≤ maxBranching
   pub size : n ≡ programOf book layer .atoms
   pub some : 0 < n
   pub few : n ≤ maxAtoms

@@ -7,13 +7,17 @@ ghost use lib.ListN.{length, take};
 ghost use Rattle.base.specs.Lists.{consIf};
 ghost use Rattle.search.specs.Found.{agreeOn, atSetting, foundBy};
 ghost use Rattle.search.specs.Visits.{stopped, Kept, Met, Searched};
+ghost use Rattle.table.specs.Rows.{rowCount};
 ghost use Rattle.table.specs.Table.{programOf};
+ghost use Rattle.setting.specs.RuleMasks.{RuleMasks};
 ghost use Rattle.search.specs.Searchable.{Searchable, Denied};
 use base::wide;
 use insertion::Gap;
 use records::atom_bit;
 use records::insert_state;
 use records::record_size;
+use setting::headed;
+use setting::setting_masks;
 use table::atom_holds;
 use tester::fill;
 use tester::is_stable;
@@ -147,21 +151,27 @@ pub fn meet(state: [bool; 256], n: usize, part: &mut [u8], v: Visit) -> Visit
     }
 }
 
-// Visits the stable model of one setting, if there is one. It is a function of its own so that the recursion's frames stay small.
+// Visits the stable model of one setting, if there is one: the quick test comes before anything is filled. It is a function of its
+// own so that the recursion's frames stay small.
 pub fn visit_setting(
     book: &[u8],
     layer: usize,
     rows: &[u16],
     overridden: &[u32],
+    masks: &[u32],
     atoms: &[u8],
     n: usize,
     setting: [bool; 256],
     part: &mut [u8],
     v: Visit,
 ) -> Visit
-    requires { ⌜ Searchable (now book) (now rows) (now overridden) (now atoms) layer n × Kept n v (now part) × (v .count < 4294967296) × (stopped v ≡ false) ⌝ }
+    requires { ⌜ Searchable (now book) (now rows) (now overridden) (now atoms) layer n × Kept n v (now part) × (v .count < 4294967296) × (stopped v ≡ false) × RuleMasks (now book) (now rows) (now atoms) (now masks) (rowCount (now rows)) ⌝ }
     ensures { λ r. ⌜ Searched n (atSetting (programOf (now (book .entry)) layer) (now (atoms .entry)) setting) v (now (part .entry)) r (now (part .exit)) ⌝ }
 {
+    let sides = setting_masks(atoms, &setting);
+    if !headed(masks, rows.len() / 4, sides.standing, sides.denied) {
+        return v;
+    }
     let found = model_at(book, layer, rows, overridden, atoms, n, setting);
     let state = found.state;
     if found.ok {
@@ -177,6 +187,7 @@ pub fn search(
     layer: usize,
     rows: &[u16],
     overridden: &[u32],
+    masks: &[u32],
     atoms: &[u8],
     undecided: &[u8],
     n: usize,
@@ -184,14 +195,25 @@ pub fn search(
     part: &mut [u8],
     v: Visit,
 ) -> Visit
-    requires { ⌜ Searchable (now book) (now rows) (now overridden) (now atoms) layer n × Kept n v (now part) × (v .count + 2 ^ length (now undecided) ≤ 4294967296) ⌝ }
+    requires { ⌜ Searchable (now book) (now rows) (now overridden) (now atoms) layer n × Kept n v (now part) × (v .count + 2 ^ length (now undecided) ≤ 4294967296) × RuleMasks (now book) (now rows) (now atoms) (now masks) (rowCount (now rows)) ⌝ }
     ensures { λ r. ⌜ Searched n (foundBy (atSetting (programOf (now (book .entry)) layer) (now (atoms .entry))) (now (undecided .entry)) setting) v (now (part .entry)) r (now (part .exit)) ⌝ }
 {
     if stops(v) {
         return v;
     }
     if undecided.len() == 0 {
-        return visit_setting(book, layer, rows, overridden, atoms, n, setting, part, v);
+        return visit_setting(
+            book,
+            layer,
+            rows,
+            overridden,
+            masks,
+            atoms,
+            n,
+            setting,
+            part,
+            v,
+        );
     }
     let f = wide(undecided[0]);
     let rest = undecided.len();
@@ -202,6 +224,7 @@ pub fn search(
         layer,
         rows,
         overridden,
+        masks,
         atoms,
         &undecided[1..rest],
         n,
@@ -215,6 +238,7 @@ pub fn search(
         layer,
         rows,
         overridden,
+        masks,
         atoms,
         &undecided[1..rest],
         n,

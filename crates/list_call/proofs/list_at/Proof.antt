@@ -2,7 +2,7 @@
 -- Assumes nothing.
 use Rattle.models.specs.Program.{programAt}
 use Rattle.table.proofs.TableLaws.{lent-table}
-use Rattle.passes.proofs.SetUpLaws.{searchable, atoms-lent}
+use Rattle.passes.proofs.SetUpLaws.{searchable}
 use Rattle.list_call.proofs.ListLaws.{branching-refused, branching-passes}
 use borrow.Author.Needs.{needs}
 use Rattle.list_call.proofs.list_at.Statement.{statement}
@@ -79,7 +79,7 @@ part-list-models-end-3 : tie.Need-part-list-models-end-3
 part-list-models-end-3 c = search needs
 
 list-models-requires : tie.Need-list-models-requires
-list-models-requires c κs = let s = c .before .before .before .before .before .before .before .before .before .before .before .before .before .before .before .before .before .before .before .before in let a = s .args in (searchable (a .book .now) (a .layer) (s .pre .0) (c .before .before .before .before .before .before .before .before .before .before .before .before .before .before .before .before .prepare .ensures) (c .before .before .before .before .before .before .before .before .before .branching-atoms .ensures) (c .before .before .before .before .before .before .before .before .before .before .before .before .before .before .before .before .before .atom-count .result) (c .before .before .before .before .before .before .before .before .before .before .before .before .before .before .before .before .before .atom-count .ensures .0) (c .before .before .before .before .before .before .before .before .before .before .before .before .before .before .before .before .before .atom-count .ensures .1) (c .before .before .before .before .before .before .before .before .before .before .before .before .before .before .before .before .before .atom-count .ensures .2), atoms-lent (a .book .now) (a .layer) (s .pre .0) (c .before .before .before .before .before .before .before .before .before .before .before .before .before .before .before .before .prepare .ensures) (c .before .before .before .before .before .before .before .before .before .branching-atoms .ensures) (c .before .before .before .before .before .before .before .if1 .left))
+list-models-requires c κs = let s = c .before .before .before .before .before .before .before .before .before .before .before .before .before .before .before .before .before .before .before .before in let a = s .args in searchable (a .book .now) (a .layer) (s .pre .0) (c .before .before .before .before .before .before .before .before .before .before .before .before .before .before .before .before .prepare .ensures) (c .before .before .before .before .before .before .before .before .before .branching-atoms .ensures) (c .before .before .before .before .before .before .before .if1 .left) (c .before .before .before .before .before .before .before .before .before .before .before .before .before .before .before .before .before .atom-count .result) (c .before .before .before .before .before .before .before .before .before .before .before .before .before .before .before .before .before .atom-count .ensures .0) (c .before .before .before .before .before .before .before .before .before .before .before .before .before .before .before .before .before .atom-count .ensures .1) (c .before .before .before .before .before .before .before .before .before .before .before .before .before .before .before .before .before .atom-count .ensures .2)
 
 same-length : tie.Need-same-length
 same-length c = search needs

@@ -12,20 +12,29 @@ use Rattle.passes.proofs.write_all.Reads as write-all-reads
 use Rattle.records.proofs.put_head.Reads as put-head-reads
 use Rattle.records.proofs.record_size.Reads as record-size-reads
 
+rule-masks-requires : tie.Need-rule-masks-requires
+rule-masks-requires c κs = let w = c .before .before .before .before .before .pre in (w .table .fits, w .rows-few, w .atoms-few)
+
+slice-aggregate-tally : tie.Need-slice-aggregate-tally
+slice-aggregate-tally c = search needs
+
 tally-requires : tie.Need-tally-requires
-tally-requires c κs = (c .before .before .before .before .before .pre .0, c .before .before .before .before .before .pre .1)
+tally-requires c κs = (c .before .before .before .before .before .before .before .pre, c .before .rule-masks .ensures)
 
 record-size-requires : tie.Need-record-size-requires
-record-size-requires c κs = omega (arith, c .before .before .before .before .before .before .pre .0 .few)
+record-size-requires c κs = omega (arith, c .before .before .before .before .before .before .before .before .pre .few)
 
 mul-size : tie.Need-mul-size
-mul-size c = record { fits = omega (arith, bytes-fit (c .before .before .before .before .before .before .before .pre .0) (c .before .before .before .before .before .before .before .pre .1) (c .before .tally .ensures) (c .record-size .result) (c .record-size .ensures .0)) }
+mul-size c = record { fits = omega (arith, bytes-fit (c .before .before .before .before .before .before .before .before .before .pre) (c .before .tally .ensures) (c .record-size .result) (c .record-size .ensures .0)) }
 
 add-size : tie.Need-add-size
-add-size c = record { fits = omega (arith, bytes-fit (c .before .before .before .before .before .before .before .pre .0) (c .before .before .before .before .before .before .before .pre .1) (c .before .tally .ensures) (c .record-size .result) (c .record-size .ensures .0)) }
+add-size c = record { fits = omega (arith, bytes-fit (c .before .before .before .before .before .before .before .before .before .pre) (c .before .tally .ensures) (c .record-size .result) (c .record-size .ensures .0)) }
 
 returns : tie.Need-returns
-returns c = room-refused (c .before .before .before .before .before .before .before .before .pre .0) (c .before .before .before .before .before .before .before .before .pre .1) (c .before .before .tally .ensures) (c .before .record-size .result) (c .before .record-size .ensures .0) (c .before .before .before .before .before .before .before .before .args .buffer .now) (c .if1 .taken)
+returns c = room-refused (c .before .before .before .before .before .before .before .before .before .before .pre) (c .before .before .tally .ensures) (c .before .record-size .result) (c .before .record-size .ensures .0) (c .before .before .before .before .before .before .before .before .before .before .args .buffer .now) (c .if1 .taken)
+
+slice-aggregate-write-all : tie.Need-slice-aggregate-write-all
+slice-aggregate-write-all c = search needs
 
 sub-write-all : tie.Need-sub-write-all
 sub-write-all c = search needs
@@ -37,7 +46,7 @@ part-write-all-end : tie.Need-part-write-all-end
 part-write-all-end c = search needs
 
 write-all-requires : tie.Need-write-all-requires
-write-all-requires c κs = (c .before .before .before .before .before .before .before .before .before .pre .0, (c .before .before .before .before .before .before .before .before .before .pre .1, part-sized (c .before .before .before .before .before .before .before .before .before .pre .0) (c .before .before .before .before .before .before .before .before .before .pre .1) (c .before .before .before .tally .ensures) (c .before .before .record-size .result) (c .before .before .record-size .ensures .0) (c .before .before .before .before .before .before .before .before .before .args .buffer .now) (c .before .if1 .left)))
+write-all-requires c κs = (c .before .before .before .before .before .before .before .before .before .before .before .before .pre, (c .before .before .before .before .before .before .rule-masks .ensures, part-sized (c .before .before .before .before .before .before .before .before .before .before .before .before .pre) (c .before .before .before .before .tally .ensures) (c .before .before .before .record-size .result) (c .before .before .before .record-size .ensures .0) (c .before .before .before .before .before .before .before .before .before .before .before .before .args .buffer .now) (c .before .before .if1 .left)))
 
 put-head-requires : tie.Need-put-head-requires
 put-head-requires c κs = search needs
@@ -46,17 +55,20 @@ same-length : tie.Need-same-length
 same-length c = search needs
 
 returns-2 : tie.Need-returns-2
-returns-2 c = room-listed (c .before .before .before .before .before .before .before .before .before .before .before .before .before .before .before .before .pre .0) (c .before .before .before .before .before .before .before .before .before .before .before .before .before .before .before .before .pre .1) (c .before .before .before .before .before .before .before .before .before .before .tally .ensures) (c .before .before .before .before .before .before .before .before .before .record-size .result) (c .before .before .before .before .before .before .before .before .before .record-size .ensures .0) (c .before .before .before .before .before .before .before .before .before .before .before .before .before .before .before .before .args .buffer .now) (c .before .before .before .before .before .before .before .before .if1 .left) _ _ (c .before .before .before .before .before .before .write-all .ensures) (c .before .before .put-head .ensures)
+returns-2 c = room-listed (c .before .before .before .before .before .before .before .before .before .before .before .before .before .before .before .before .before .before .before .pre) (c .before .before .before .before .before .before .before .before .before .before .before .tally .ensures) (c .before .before .before .before .before .before .before .before .before .before .record-size .result) (c .before .before .before .before .before .before .before .before .before .before .record-size .ensures .0) (c .before .before .before .before .before .before .before .before .before .before .before .before .before .before .before .before .before .before .before .args .buffer .now) (c .before .before .before .before .before .before .before .before .before .if1 .left) _ _ (c .before .before .before .before .before .before .write-all .ensures) (c .before .before .put-head .ensures)
 
 pub list-models-spec : {M : Type 1} → statement M
 list-models-spec =
     tie.close
     (tie.spec
+    rule-masks-requires
+    slice-aggregate-tally
     tally-requires
     record-size-requires
     mul-size
     add-size
     returns
+    slice-aggregate-write-all
     sub-write-all
     part-write-all-start
     part-write-all-end

@@ -2,7 +2,7 @@
 -- Assumes nothing.
 use Rattle.models.specs.Program.{programAt}
 use Rattle.table.proofs.TableLaws.{lent-table}
-use Rattle.passes.proofs.SetUpLaws.{searchable, atoms-lent}
+use Rattle.passes.proofs.SetUpLaws.{searchable}
 use Rattle.one_call.proofs.OneLaws.{branching-refused, branching-passes}
 use borrow.Author.Needs.{needs}
 use Rattle.one_call.proofs.one_at.Statement.{statement}
@@ -79,7 +79,7 @@ part-one-found-end-3 : tie.Need-part-one-found-end-3
 part-one-found-end-3 c = search needs
 
 one-found-requires : tie.Need-one-found-requires
-one-found-requires c κs = let s = c .before .before .before .before .before .before .before .before .before .before .before .before .before .before .before .before .before .before .before .before in let a = s .args in (searchable (a .book .now) (a .layer) (s .pre .0) (c .before .before .before .before .before .before .before .before .before .before .before .before .before .before .before .before .prepare .ensures) (c .before .before .before .before .before .before .before .before .before .branching-atoms .ensures) (c .before .before .before .before .before .before .before .before .before .before .before .before .before .before .before .before .before .atom-count .result) (c .before .before .before .before .before .before .before .before .before .before .before .before .before .before .before .before .before .atom-count .ensures .0) (c .before .before .before .before .before .before .before .before .before .before .before .before .before .before .before .before .before .atom-count .ensures .1) (c .before .before .before .before .before .before .before .before .before .before .before .before .before .before .before .before .before .atom-count .ensures .2), atoms-lent (a .book .now) (a .layer) (s .pre .0) (c .before .before .before .before .before .before .before .before .before .before .before .before .before .before .before .before .prepare .ensures) (c .before .before .before .before .before .before .before .before .before .branching-atoms .ensures) (c .before .before .before .before .before .before .before .if1 .left))
+one-found-requires c κs = let s = c .before .before .before .before .before .before .before .before .before .before .before .before .before .before .before .before .before .before .before .before in let a = s .args in searchable (a .book .now) (a .layer) (s .pre .0) (c .before .before .before .before .before .before .before .before .before .before .before .before .before .before .before .before .prepare .ensures) (c .before .before .before .before .before .before .before .before .before .branching-atoms .ensures) (c .before .before .before .before .before .before .before .if1 .left) (c .before .before .before .before .before .before .before .before .before .before .before .before .before .before .before .before .before .atom-count .result) (c .before .before .before .before .before .before .before .before .before .before .before .before .before .before .before .before .before .atom-count .ensures .0) (c .before .before .before .before .before .before .before .before .before .before .before .before .before .before .before .before .before .atom-count .ensures .1) (c .before .before .before .before .before .before .before .before .before .before .before .before .before .before .before .before .before .atom-count .ensures .2)
 
 same-length : tie.Need-same-length
 same-length c = search needs

@@ -13,7 +13,13 @@ record-size-requires : tie.Need-record-size-requires
 record-size-requires c κs = search needs
 
 returns : tie.Need-returns
-returns c = room-refused (c .before .before .before .before .before .before .before .pre .0) (c .before .record-size .result) (c .before .record-size .ensures .0) (c .before .before .before .before .before .before .before .args .buffer .now) (c .if1 .taken)
+returns c = room-refused (c .before .before .before .before .before .before .before .pre) (c .before .record-size .result) (c .before .record-size .ensures .0) (c .before .before .before .before .before .before .before .args .buffer .now) (c .if1 .taken)
+
+rule-masks-requires : tie.Need-rule-masks-requires
+rule-masks-requires c κs = let w = c .before .before .before .before .before .before .before .pre in (w .table .fits, w .rows-few, w .atoms-few)
+
+slice-aggregate-write-first : tie.Need-slice-aggregate-write-first
+slice-aggregate-write-first c = search needs
 
 sub-write-first : tie.Need-sub-write-first
 sub-write-first c = search needs
@@ -25,19 +31,19 @@ part-write-first-end : tie.Need-part-write-first-end
 part-write-first-end c = search needs
 
 write-first-requires : tie.Need-write-first-requires
-write-first-requires c κs = search needs
+write-first-requires c κs = (c .before .before .before .before .before .before .before .before .before .before .pre, (c .before .before .rule-masks .ensures, search needs))
 
 same-length : tie.Need-same-length
 same-length c = search needs
 
 returns-2 : tie.Need-returns-2
-returns-2 c = state-written (c .before .before .before .before .before .before .before .before .before .before .before .before .pre .0) (c .before .before .before .before .before .before .record-size .result) (c .before .before .before .before .before .before .record-size .ensures .0) (c .before .before .before .before .before .before .before .before .before .before .before .before .args .buffer .now) (c .before .before .before .before .before .if1 .left) (c .before .before .before .write-first .ensures) (c .if2 .taken)
+returns-2 c = state-written (c .before .before .before .before .before .before .before .before .before .before .before .before .before .before .pre) (c .before .before .before .before .before .before .before .before .record-size .result) (c .before .before .before .before .before .before .before .before .record-size .ensures .0) (c .before .before .before .before .before .before .before .before .before .before .before .before .before .before .args .buffer .now) (c .before .before .before .before .before .before .before .if1 .left) (c .before .before .before .write-first .ensures) (c .if2 .taken)
 
 same-length-2 : tie.Need-same-length-2
 same-length-2 c = search needs
 
 returns-3 : tie.Need-returns-3
-returns-3 c = state-refused (c .before .before .before .before .before .before .before .before .before .before .before .before .pre .0) (c .before .before .before .before .before .before .record-size .result) (c .before .before .before .before .before .before .record-size .ensures .0) (c .before .before .before .before .before .before .before .before .before .before .before .before .args .buffer .now) (c .before .before .before .before .before .if1 .left) (c .before .before .before .write-first .ensures) (c .if2 .left)
+returns-3 c = state-refused (c .before .before .before .before .before .before .before .before .before .before .before .before .before .before .pre) (c .before .before .before .before .before .before .before .before .record-size .result) (c .before .before .before .before .before .before .before .before .record-size .ensures .0) (c .before .before .before .before .before .before .before .before .before .before .before .before .before .before .args .buffer .now) (c .before .before .before .before .before .before .before .if1 .left) (c .before .before .before .write-first .ensures) (c .if2 .left)
 
 pub one-found-spec : {M : Type 1} → statement M
 one-found-spec =
@@ -45,6 +51,8 @@ one-found-spec =
     (tie.spec
     record-size-requires
     returns
+    rule-masks-requires
+    slice-aggregate-write-first
     sub-write-first
     part-write-first-start
     part-write-first-end

@@ -12,10 +12,10 @@ slice-aggregate-search : tie.Need-slice-aggregate-search
 slice-aggregate-search c = search needs
 
 search-requires : tie.Need-search-requires
-search-requires c κs = let s = c .before .before .before .before .before in (s .pre .0, start-kept (s .pre .0) (s .args .goal) (s .args .atom) 0 _ (omega arith), start-fits (s .pre .0) (s .pre .1))
+search-requires c κs = let s = c .before .before .before .before .before .before in (s .pre .0, start-kept (s .pre .0) (s .args .goal) (s .args .atom) 0 _ (omega arith), start-fits (s .pre .0), s .pre .1)
 
 returns : tie.Need-returns
-returns c = let s = c .before .before .before .before .before .before .before in tallied (s .pre .0) (s .args .goal) (s .args .atom) 0 _ _ _ (c .before .search .ensures)
+returns c = let s = c .before .before .before .before .before .before .before .before in tallied (s .pre .0) (s .args .goal) (s .args .atom) 0 _ _ _ (c .before .search .ensures)
 
 pub tally-spec : {M : Type 1} → statement M
 tally-spec = tie.close (tie.spec slice-aggregate-search search-requires returns)

@@ -18,14 +18,14 @@ use Rattle.search.proofs.visit_setting.Reads as visit-setting-reads
 use Rattle.search.proofs.+search.{statement}
 use Rattle.search.proofs.+search.Tie.{close}
 
-abbrev μ-search : Measures 6 search-kinds.ps ℕ
-μ-search κs a = length (a .1 .1 .1 .1 .1 .0 .now)
+abbrev μ-search : Measures 7 search-kinds.ps ℕ
+μ-search κs a = length (a .1 .1 .1 .1 .1 .1 .0 .now)
 
-abbrev search-at : ℕ → In 6 search-kinds.ps
-search-at t = and 6 search-kinds.ps (is 6 search-kinds.ps μ-search t) search′.Pre
+abbrev search-at : ℕ → In 7 search-kinds.ps
+search-at t = and 7 search-kinds.ps (is 7 search-kinds.ps μ-search t) search′.Pre
 
-abbrev search-below : ℕ → In 6 search-kinds.ps
-search-below t = and 6 search-kinds.ps (falls 6 search-kinds.ps _<_ μ-search t) search′.Pre
+abbrev search-below : ℕ → In 7 search-kinds.ps
+search-below t = and 7 search-kinds.ps (falls 7 search-kinds.ps _<_ μ-search t) search′.Pre
 
 search-stops-requires : (t : ℕ) → search-lts.Need-stops-requires (
   stops-reads.Asked,
@@ -49,7 +49,7 @@ search-returns : (t : ℕ) → search-lts.Need-returns (
   search-below t,
   search′.Post,
 ) (search-at t) search′.Post
-search-returns t c = let s = c .before .before .before .before .before .before .before .before in let a = s .args in let q = s .pre .1 in visits.searched-stopped (a .n) _ (a .v) (a .part .now) (sym (c .before .stops .ensures) ∙ c .if1 .taken)
+search-returns t c = let s = c .before .before .before .before .before .before .before .before .before in let a = s .args in let q = s .pre .1 in visits.searched-stopped (a .n) _ (a .v) (a .part .now) (sym (c .before .stops .ensures) ∙ c .if1 .taken)
 
 search-visit-setting-requires : (t : ℕ) → search-lts.Need-visit-setting-requires (
   stops-reads.Asked,
@@ -61,7 +61,7 @@ search-visit-setting-requires : (t : ℕ) → search-lts.Need-visit-setting-requ
   search-below t,
   search′.Post,
 ) (search-at t) search′.Post
-search-visit-setting-requires t c κs = let s = c .before .before .before .before .before .before .before .before .before .before in let a = s .args in let q = s .pre .1 in (q .0, q .1, laws.count-fits (a .v .count) (length (a .undecided .now)) (q .2), sym (c .before .before .before .stops .ensures) ∙ c .before .before .if1 .left)
+search-visit-setting-requires t c κs = let s = c .before .before .before .before .before .before .before .before .before .before .before in let a = s .args in let q = s .pre .1 in (q .0, q .1, laws.count-fits (a .v .count) (length (a .undecided .now)) (q .2), sym (c .before .before .before .stops .ensures) ∙ c .before .before .if1 .left, q .3)
 
 search-same-length : (t : ℕ) → search-lts.Need-same-length (
   stops-reads.Asked,
@@ -85,7 +85,7 @@ search-returns-2 : (t : ℕ) → search-lts.Need-returns-2 (
   search-below t,
   search′.Post,
 ) (search-at t) search′.Post
-search-returns-2 t c = let s = c .before .before .before .before .before .before .before .before .before .before .before .before .before in let a = s .args in let q = s .pre .1 in laws.leaf-searched (a .n) (laws.leafOf (a .book .now) (a .atoms .now) (a .layer)) (a .undecided .now) (a .setting) (c .before .before .before .before .if2 .taken) (a .v) (a .part .now) _ _ (c .before .before .visit-setting .ensures)
+search-returns-2 t c = let s = c .before .before .before .before .before .before .before .before .before .before .before .before .before .before in let a = s .args in let q = s .pre .1 in laws.leaf-searched (a .n) (laws.leafOf (a .book .now) (a .atoms .now) (a .layer)) (a .undecided .now) (a .setting) (c .before .before .before .before .if2 .taken) (a .v) (a .part .now) _ _ (c .before .before .visit-setting .ensures)
 
 search-shared-slice-read-wide : (t : ℕ) → search-lts.Need-shared-slice-read-wide (
   stops-reads.Asked,
@@ -169,7 +169,7 @@ search-search-requires : (t : ℕ) → search-lts.Need-search-requires (
   search-below t,
   search′.Post,
 ) (search-at t) search′.Post
-search-search-requires t c κs = let s = c .before .before .before .before .before .before .before .before .before .before .before .before .before in let a = s .args in let q = s .pre .1 in (omega (arith, laws.later-length (a .n) (laws.leafOf (a .book .now) (a .atoms .now) (a .layer)) (a .undecided .now) (a .setting) (c .before .before .before .before .if2 .left)), (q .0, q .1, laws.first-fits (a .n) (laws.leafOf (a .book .now) (a .atoms .now) (a .layer)) (a .undecided .now) (a .setting) (c .before .before .before .before .if2 .left) (a .v .count) (q .2)))
+search-search-requires t c κs = let s = c .before .before .before .before .before .before .before .before .before .before .before .before .before .before in let a = s .args in let q = s .pre .1 in (omega (arith, laws.later-length (a .n) (laws.leafOf (a .book .now) (a .atoms .now) (a .layer)) (a .undecided .now) (a .setting) (c .before .before .before .before .if2 .left)), (q .0, q .1, laws.first-fits (a .n) (laws.leafOf (a .book .now) (a .atoms .now) (a .layer)) (a .undecided .now) (a .setting) (c .before .before .before .before .if2 .left) (a .v .count) (q .2), q .3))
 
 search-array-write-decided-2 : (t : ℕ) → search-lts.Need-array-write-decided-2 (
   stops-reads.Asked,
@@ -229,7 +229,7 @@ search-search-requires-2 : (t : ℕ) → search-lts.Need-search-requires-2 (
   search-below t,
   search′.Post,
 ) (search-at t) search′.Post
-search-search-requires-2 t c κs = let s = c .before .before .before .before .before .before .before .before .before .before .before .before .before .before .before .before .before .before in let a = s .args in let q = s .pre .1 in let one = laws.leaf-one (a .book .now) (a .rows .now) (a .overridden .now) (a .atoms .now) (a .layer) (a .n) (q .0) in (omega (arith, laws.later-length (a .n) (laws.leafOf (a .book .now) (a .atoms .now) (a .layer)) (a .undecided .now) (a .setting) (c .before .before .before .before .before .before .before .before .before .if2 .left)), (q .0, laws.second-kept (a .n) (laws.leafOf (a .book .now) (a .atoms .now) (a .layer)) (a .undecided .now) (a .setting) (c .before .before .before .before .before .before .before .before .before .if2 .left) one _ (a .v) (a .part .now) _ _ (c .before .before .before .before .search .ensures) (q .1), laws.second-fits (a .n) (laws.leafOf (a .book .now) (a .atoms .now) (a .layer)) (a .undecided .now) (a .setting) (c .before .before .before .before .before .before .before .before .before .if2 .left) one _ (a .v) (a .part .now) _ _ (c .before .before .before .before .search .ensures) (q .2)))
+search-search-requires-2 t c κs = let s = c .before .before .before .before .before .before .before .before .before .before .before .before .before .before .before .before .before .before .before in let a = s .args in let q = s .pre .1 in let one = laws.leaf-one (a .book .now) (a .rows .now) (a .overridden .now) (a .atoms .now) (a .layer) (a .n) (q .0) in (omega (arith, laws.later-length (a .n) (laws.leafOf (a .book .now) (a .atoms .now) (a .layer)) (a .undecided .now) (a .setting) (c .before .before .before .before .before .before .before .before .before .if2 .left)), (q .0, laws.second-kept (a .n) (laws.leafOf (a .book .now) (a .atoms .now) (a .layer)) (a .undecided .now) (a .setting) (c .before .before .before .before .before .before .before .before .before .if2 .left) one _ (a .v) (a .part .now) _ _ (c .before .before .before .before .search .ensures) (q .1), laws.second-fits (a .n) (laws.leafOf (a .book .now) (a .atoms .now) (a .layer)) (a .undecided .now) (a .setting) (c .before .before .before .before .before .before .before .before .before .if2 .left) one _ (a .v) (a .part .now) _ _ (c .before .before .before .before .search .ensures) (q .2), q .3))
 
 search-same-length-2 : (t : ℕ) → search-lts.Need-same-length-2 (
   stops-reads.Asked,
@@ -253,7 +253,7 @@ search-returns-3 : (t : ℕ) → search-lts.Need-returns-3 (
   search-below t,
   search′.Post,
 ) (search-at t) search′.Post
-search-returns-3 t c = let s = c .before .before .before .before .before .before .before .before .before .before .before .before .before .before .before .before .before .before .before .before .before in let a = s .args in let q = s .pre .1 in laws.both-halves (a .n) (laws.leafOf (a .book .now) (a .atoms .now) (a .layer)) (a .undecided .now) (a .setting) (c .before .before .before .before .before .before .before .before .before .before .before .before .if2 .left) (c .before .before .before .before .before .before .before .before .before .before .wide .result) (c .before .before .before .before .before .before .before .before .before .before .wide .ensures .0) (a .v) (a .part .now) _ _ _ _ (c .before .before .before .before .before .before .before .search .ensures) (c .before .before .search2 .ensures)
+search-returns-3 t c = let s = c .before .before .before .before .before .before .before .before .before .before .before .before .before .before .before .before .before .before .before .before .before .before in let a = s .args in let q = s .pre .1 in laws.both-halves (a .n) (laws.leafOf (a .book .now) (a .atoms .now) (a .layer)) (a .undecided .now) (a .setting) (c .before .before .before .before .before .before .before .before .before .before .before .before .if2 .left) (c .before .before .before .before .before .before .before .before .before .before .wide .result) (c .before .before .before .before .before .before .before .before .before .before .wide .ensures .0) (a .v) (a .part .now) _ _ _ _ (c .before .before .before .before .before .before .before .search .ensures) (c .before .before .search2 .ensures)
 
 pub +search-spec : {M : Type 1} → statement M
 +search-spec = close μ-search λ t. search-lts.spec (

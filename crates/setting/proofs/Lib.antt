@@ -1,0 +1,2 @@
+pub mod BitMaskLaws
+pub mod RuleMaskLaws

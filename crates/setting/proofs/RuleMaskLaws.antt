@@ -1,0 +1,219 @@
+-- The masks of rules and settings, as the loops make them, and that a setting whose standing atoms no open rule heads has no stable
+-- model. Assumes nothing.
+use mathlib.Core.Path.{_≡_, refl, sym, ap, subst, _∙_}
+use mathlib.Core.Logic.{_⊎_, inl, inr, ⊎-elim}
+use mathlib.Core.Bool.{Bool, true, false, not, Bool·beq, cond, false≢true, true≢false}
+use mathlib.Core.List.{List, [], _∷_, List·Memᴰ·head, List·Memᴰ·tail}
+use Prim.Native.Nat.{ℕ, zero, suc, _+_, _*_, _-_, _%_, _<_, _≤_}
+use native.Mathlib.Decide.{decLt, ℕ-discrete}
+use native.Mathlib.Omega.{arith}
+use borrow.Author.Tests.{leb-true}
+use lib.Bits.{bitAnd, bitOr}
+use lib.Dec.{T, leb}
+use lib.ListN.{length, getD, set, take, drop, length-set, replicate, length-replicate}
+use lib.Seq.{getD-set-same, getD-set-other}
+use Rattle.base.specs.Bounds.{maxAtoms, maxRules}
+use Rattle.base.proofs.Members.{_∈_}
+use Rattle.layers.specs.Masks.{bitOf}
+use Rattle.layers.proofs.BitLaws.{no-bit, no-bits, or-cases, or-left, or-right}
+use Rattle.format.specs.Book.{Literal, Rule, literalOf, literalsOf}
+use Rattle.format.proofs.LiteralLaws.{literals-next}
+use Rattle.models.specs.StableModels.{Interpretation, atomHolds, positive, negative}
+use Rattle.table.specs.Names.{literalNamed}
+use Rattle.table.specs.Rows.{rowCount, bodyStart, bodyBytes, headName, rowAt}
+use Rattle.setting.specs.RuleMasks.{AtomBits, BodyMask, RuleMask, plainMask, negatedMask, headMask, RuleMasks, Sides, Open, Headed}
+use Rattle.setting.proofs.BitMaskLaws.{single, single-only, single-has, joined, joined-cases, joined-keeps, joined-has, or-absorbs}
+
+-- ---- the bits of the atoms
+pub bits-start : (atoms : List ℕ) → AtomBits atoms (replicate {A = ℕ} 256 0) 0
+bits-start atoms = record {
+  size = length-replicate {A = ℕ} 256 0;
+  sound = λ f i z. absurd (no-bit i (subst (λ (x : ℕ). bitOf x i ≡ 1) (no-bits 256 f) z));
+  full = λ i h. absurd (omega arith);
+}
+
+module _ (atoms bits : List ℕ) (i f : ℕ) (w : AtomBits atoms bits i) (e : f ≡ getD atoms i 0) (b : f < 256) (h : i < 32) where
+  pub bits-more : AtomBits atoms (joined bits f (single i) (omega (arith, w .size))) (i + 1)
+  bits-more = record {
+    size = length-set bits f (bitOr (getD bits f 0) (single i)) ∙ w .size;
+    sound = λ g k z. from g k (joined-cases bits f (single i) (omega (arith, w .size)) g k z);
+    full = λ k l. into k (decLt k i) l;
+  }
+    where
+      from : (g k : ℕ) → (bitOf (getD bits g 0) k ≡ 1) ⊎ ((g ≡ f) × (bitOf (single i) k ≡ 1)) → (k < i + 1) × (getD atoms k 0 ≡ g)
+      from g k (inl a) = let v : (k < i) × (getD atoms k 0 ≡ g) = w .sound g k a in (omega (arith, v .0), v .1)
+      from g k (inr a) = let q : k ≡ i = single-only i h k (a .1) in (omega arith, ap (λ (x : ℕ). getD atoms x 0) q ∙ sym e ∙ sym (a .0))
+
+      into : (k : ℕ) → Dec (k < i) → k < i + 1 → bitOf (getD (set bits f (bitOr (getD bits f 0) (single i))) (getD atoms k 0) 0) k ≡ 1
+      into k (yes a) l = joined-keeps bits f (single i) (omega (arith, w .size)) (getD atoms k 0) k (w .full k a)
+      into k (no n) l =
+          let q : k ≡ i = omega arith in
+          joined-has bits f (single i) (omega (arith, w .size)) (getD atoms k 0) k (ap (λ (x : ℕ). getD atoms x 0) q ∙ sym e) (subst (λ (x : ℕ). bitOf (single i) x ≡ 1) (sym q) (single-has i h))
+
+-- ---- a body's mask
+-- the literals from offset i on are literals of the body, and the mask has bits of its literals alone
+pub record Masking (bits body : List ℕ) (sign : Bool) (i mask : ℕ) : Type 0 where
+  pub inside : i ≤ length body
+  pub later : (l : Literal) → l ∈ literalsOf (drop i body) → l ∈ literalsOf body
+  pub made : BodyMask bits body sign mask
+
+pub masking-start : (bits body : List ℕ) (sign : Bool) → Masking bits body sign 0 0
+masking-start bits body sign = record { inside = omega arith; later = λ l k. k; made = λ i z. absurd (no-bit i z) }
+
+module _ (bits body : List ℕ) (sign : Bool) (i mask : ℕ) (w : Masking bits body sign i mask) (h : 2 ≤ length body - i) where
+  rest : (l : Literal) → l ∈ literalsOf (drop (i + 2) body) → l ∈ literalsOf body
+  rest l k = w .later l (subst (λ (ls : List Literal). l ∈ ls) (sym (literals-next body i h)) (List·Memᴰ·tail k))
+
+  pub masking-pass : Masking bits body sign (i + 2) mask
+  masking-pass = record { inside = omega arith; later = rest; made = w .made }
+
+  module _ (v : ℕ) (ev : v ≡ getD body i 0 * 256 + getD body (i + 1) 0) (es : Bool·beq (leb 32768 v) sign ≡ true) (x : ℕ) (ex : x ≡ getD bits (v % 32768) 0) where
+    here : Literal
+    here = literalOf (getD body i 0) (getD body (i + 1) 0)
+
+    beq-is : (a b : Bool) → Bool·beq a b ≡ true → a ≡ b
+    beq-is true true e = refl
+    beq-is true false e = absurd (false≢true e)
+    beq-is false true e = absurd (false≢true e)
+    beq-is false false e = refl
+
+    pub masking-more : Masking bits body sign (i + 2) (bitOr mask x)
+    unfolding literalOf here
+    masking-more = record {
+      inside = omega arith;
+      later = rest;
+      made = λ k z. ⊎-elim (λ a. w .made k a) (λ a. (
+        here,
+        w .later here (subst (λ (ls : List Literal). here ∈ ls) (sym (literals-next body i h)) (List·Memᴰ·head refl)),
+        ap (λ (y : ℕ). leb 32768 y) (sym ev) ∙ beq-is (leb 32768 v) sign es,
+        subst (λ (y : ℕ). bitOf y k ≡ 1) (ex ∙ ap (λ (y : ℕ). getD bits (y % 32768) 0) ev) a,
+      )) (or-cases mask x k z);
+    }
+
+-- ---- the masks of a rule
+name-plain : (h f : ℕ) → literalNamed h ≡ positive f → h ≡ f
+unfolding literalNamed
+name-plain h f e = go (leb 256 h) refl
+  where
+    go : (c : Bool) → leb 256 h ≡ c → h ≡ f
+    go true q = absurd (true≢false (sym q ∙ ap (λ (l : Literal). l .negated) e))
+    go false q = sym (ap (λ (c : Bool). cond c (h - 256) h) q) ∙ ap (λ (l : Literal). l .atom) e
+
+module _ (book rows atoms bits : List ℕ) (j : ℕ) (w : AtomBits atoms bits (length atoms)) where
+  literal-at : (i : ℕ) (c : Bool) (l : Literal) → l .negated ≡ c → bitOf (getD bits (l .atom) 0) i ≡ 1 → l ≡ record { atom = getD atoms i 0; negated = c }
+  literal-at i c l e z = ap (λ (b : Bool). record { atom = l .atom; negated = b }) e ∙ ap (λ (f : ℕ). record { atom = f; negated = c }) (sym (w .sound (l .atom) i z .1))
+
+  pub rule-mask : (from to : ℕ) → from ≡ bodyStart rows j → to ≡ from + bodyBytes rows j → (plain negated h : ℕ) → BodyMask bits (take (to - from) (drop from book)) false plain
+      → BodyMask bits (take (to - from) (drop from book)) true negated → h ≡ headName rows j → RuleMask atoms (rowAt book rows j) plain negated (getD bits h 0)
+  unfolding rowAt
+  rule-mask from to ef et plain negated h mp mn eh = record {
+    plain-in = λ i z. let v = mp i z in subst (λ (l : Literal). l ∈ rowAt book rows j .body) (literal-at i false (v .0) (v .2) (v .3)) (placed (v .0) (v .1));
+    negated-in = λ i z. let v = mn i z in subst (λ (l : Literal). l ∈ rowAt book rows j .body) (literal-at i true (v .0) (v .2) (v .3)) (placed (v .0) (v .1));
+    head-in = λ i b e. subst (λ (f : ℕ). bitOf (getD bits f 0) i ≡ 1) (sym (eh ∙ name-plain (headName rows j) (getD atoms i 0) e)) (w .full i b);
+  }
+    where
+      placed : (l : Literal) → l ∈ literalsOf (take (to - from) (drop from book)) → l ∈ literalsOf (take (bodyBytes rows j) (drop (bodyStart rows j) book))
+      placed l k =
+          let q : to - from ≡ bodyBytes rows j = omega arith in
+          subst (λ (x : ℕ). l ∈ literalsOf (take x (drop (bodyStart rows j) book))) q (subst (λ (x : ℕ). l ∈ literalsOf (take (to - from) (drop x book))) ef k)
+
+pub masks-start : (book rows atoms : List ℕ) → RuleMasks book rows atoms (replicate {A = ℕ} 3072 0) 0
+masks-start book rows atoms = record { size = length-replicate {A = ℕ} 3072 0; each = λ j h. absurd (omega arith) }
+
+-- three masks more
+module _ (masks : List ℕ) (j a b c : ℕ) (h : 3 * j + 3 ≤ length masks) where
+  abbrev pub threeMore : List ℕ
+  threeMore = set (set (set masks (3 * j) a) (3 * j + 1) b) (3 * j + 2) c
+
+  l1 : length (set masks (3 * j) a) ≡ length masks
+  l1 = length-set masks (3 * j) a
+
+  l2 : length (set (set masks (3 * j) a) (3 * j + 1) b) ≡ length masks
+  l2 = length-set (set masks (3 * j) a) (3 * j + 1) b ∙ l1
+
+  pub three-size : length threeMore ≡ length masks
+  three-size = length-set (set (set masks (3 * j) a) (3 * j + 1) b) (3 * j + 2) c ∙ l2
+
+  other : (k : ℕ) → (k ≡ 3 * j → ⊥) → (k ≡ 3 * j + 1 → ⊥) → (k ≡ 3 * j + 2 → ⊥) → getD threeMore k 0 ≡ getD masks k 0
+  other k x y z =
+      getD-set-other (set (set masks (3 * j) a) (3 * j + 1) b) (3 * j + 2) k c 0 z
+      ∙ getD-set-other (set masks (3 * j) a) (3 * j + 1) k b 0 y
+      ∙ getD-set-other masks (3 * j) k a 0 x
+
+  third : getD threeMore (3 * j + 2) 0 ≡ c
+  third = getD-set-same (set (set masks (3 * j) a) (3 * j + 1) b) (3 * j + 2) c 0 (omega (arith, l2))
+
+  second : getD threeMore (3 * j + 1) 0 ≡ b
+  second = getD-set-other (set (set masks (3 * j) a) (3 * j + 1) b) (3 * j + 2) (3 * j + 1) c 0 (λ q. absurd (omega arith)) ∙ getD-set-same (set masks (3 * j) a) (3 * j + 1) b 0 (omega (arith, l1))
+
+  first : getD threeMore (3 * j) 0 ≡ a
+  first =
+      getD-set-other (set (set masks (3 * j) a) (3 * j + 1) b) (3 * j + 2) (3 * j) c 0 (λ q. absurd (omega arith))
+      ∙ getD-set-other (set masks (3 * j) a) (3 * j + 1) (3 * j) b 0 (λ q. absurd (omega arith))
+      ∙ getD-set-same masks (3 * j) a 0 (omega arith)
+
+module _ (book rows atoms masks : List ℕ) (j a b c : ℕ) (w : RuleMasks book rows atoms masks j) (h : 3 * j + 3 ≤ length masks) (r : RuleMask atoms (rowAt book rows j) a b c) where
+  pub masks-more : RuleMasks book rows atoms (threeMore masks j a b c h) (j + 1)
+  masks-more = record { size = three-size masks j a b c h ∙ w .size; each = λ k l. go k (decLt k j) l }
+    where
+      old : (k : ℕ) → k < j → (t : ℕ) → t < 3 → getD (threeMore masks j a b c h) (3 * k + t) 0 ≡ getD masks (3 * k + t) 0
+      old k l t s = other masks j a b c h (3 * k + t) (λ q. absurd (omega arith)) (λ q. absurd (omega arith)) (λ q. absurd (omega arith))
+
+      zeroth : (k : ℕ) → k < j → getD (threeMore masks j a b c h) (3 * k) 0 ≡ getD masks (3 * k) 0
+      zeroth k l = other masks j a b c h (3 * k) (λ q. absurd (omega arith)) (λ q. absurd (omega arith)) (λ q. absurd (omega arith))
+
+      go : (k : ℕ) → Dec (k < j) → k < j + 1 → RuleMask atoms (rowAt book rows k) (plainMask (threeMore masks j a b c h) k) (negatedMask (threeMore masks j a b c h) k) (headMask (threeMore masks j a b c h) k)
+      go k (yes l) m = rw (zeroth k l, old k l 1 (omega arith), old k l 2 (omega arith)) (w .each k l)
+      go k (no n) m =
+          let q : j ≡ k = omega arith in
+          subst (λ (x : ℕ). RuleMask atoms (rowAt book rows x) (plainMask (threeMore masks j a b c h) x) (negatedMask (threeMore masks j a b c h) x) (headMask (threeMore masks j a b c h) x)) q
+          (rw (first masks j a b c h, second masks j a b c h, third masks j a b c h) r)
+
+-- ---- the masks of a setting
+pub sides-start : (atoms : List ℕ) (setting : Interpretation) → Sides atoms setting 0 0 0
+sides-start atoms setting = record { standing-in = λ i z. absurd (no-bit i z); denied-in = λ i z. absurd (no-bit i z) }
+
+module _ (atoms : List ℕ) (setting : Interpretation) (i standing denied : ℕ) (w : Sides atoms setting i standing denied) (h : i < 32) (f : ℕ) (ef : f ≡ getD atoms i 0) (t : Bool) (et : t ≡ atomHolds setting f) where
+  up : (A : Type 0) (k : ℕ) → (k < i) × A → (k < i + 1) × A
+  up A k v = (omega (arith, v .0), v .1)
+
+  pub sides-standing : t ≡ true → Sides atoms setting (i + 1) (bitOr standing (single i)) denied
+  sides-standing q = record {
+    standing-in = λ k z. ⊎-elim (λ a. up _ k (w .standing-in k a)) (λ a. let e : k ≡ i = single-only i h k a in (omega arith, subst (λ (x : ℕ). T (atomHolds setting (getD atoms x 0))) (sym e) (subst (λ (x : ℕ). T (atomHolds setting x)) ef (subst T (sym (sym et ∙ q)) tt)))) (or-cases standing (single i) k z);
+    denied-in = λ k z. up _ k (w .denied-in k z);
+  }
+
+  pub sides-denied : t ≡ false → Sides atoms setting (i + 1) standing (bitOr denied (single i))
+  sides-denied q = record {
+    standing-in = λ k z. up _ k (w .standing-in k z);
+    denied-in = λ k z. ⊎-elim (λ a. up _ k (w .denied-in k a)) (λ a. let e : k ≡ i = single-only i h k a in (omega arith, subst (λ (x : ℕ). T (not (atomHolds setting (getD atoms x 0)))) (sym e) (subst (λ (x : ℕ). T (not (atomHolds setting x))) ef (subst (λ (c : Bool). T (not c)) (sym (sym et ∙ q)) tt)))) (or-cases denied (single i) k z);
+  }
+
+-- ---- the test
+-- the heads of the open rules among the first j
+abbrev pub HeadsTo : List ℕ → ℕ → ℕ → ℕ → ℕ → Type 0
+HeadsTo masks standing denied j heads = (k i : ℕ) → k < j → Open masks standing denied k → bitOf (headMask masks k) i ≡ 1 → bitOf heads i ≡ 1
+
+module _ (masks : List ℕ) (standing denied : ℕ) where
+  pub heads-start : HeadsTo masks standing denied 0 0
+  heads-start k i h = absurd (omega arith)
+
+  module _ (j heads : ℕ) (w : HeadsTo masks standing denied j heads) where
+    pub heads-more : HeadsTo masks standing denied (j + 1) (bitOr heads (headMask masks j))
+    heads-more k i h o z = go (decLt k j)
+      where
+        go : Dec (k < j) → bitOf (bitOr heads (headMask masks j)) i ≡ 1
+        go (yes l) = or-left heads (headMask masks j) i (w k i l o z)
+        go (no n) = let q : k ≡ j = omega arith in or-right heads (headMask masks j) i (subst (λ (x : ℕ). bitOf (headMask masks x) i ≡ 1) q z)
+
+    pub heads-pass : (Open masks standing denied j → ⊥) → HeadsTo masks standing denied (j + 1) heads
+    heads-pass shut k i h o z = go (decLt k j)
+      where
+        go : Dec (k < j) → bitOf heads i ≡ 1
+        go (yes l) = w k i l o z
+        go (no n) = let q : k ≡ j = omega arith in absurd (shut (subst (Open masks standing denied) q o))
+
+    pub heads-end : (n : ℕ) → n ≤ j → Headed masks n standing denied → bitOr standing heads ≡ heads
+    heads-end n h all-headed =
+        or-absorbs (suc standing) standing heads (omega arith)
+        (λ i z. let v : (k : ℕ) × (k < n) × Open masks standing denied k × (bitOf (headMask masks k) i ≡ 1) = all-headed i z in w (v .0) i (omega (arith, v .1)) (v .2) (v .3))

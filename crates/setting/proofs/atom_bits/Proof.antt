@@ -1,0 +1,80 @@
+-- `atom_bits` meets its contract: each atom passed has its bit, and no other bit is set. Assumes nothing.
+use Prim.Native.Nat.{_-_, _≤_}
+use lib.ListN.{length}
+use Rattle.setting.specs.RuleMasks.{AtomBits}
+use Rattle.setting.proofs.RuleMaskLaws.{bits-start, bits-more}
+use mathlib.Core.Path.{_≡_, subst}
+use borrow.Author.Needs.{needs}
+use native.Mathlib.Omega.{arith}
+use Rattle.setting.proofs.atom_bits.Statement.{statement}
+use Rattle.setting.proofs.atom_bits.Tie as tie
+
+abbrev Inv-loop : tie.InvT-loop
+Inv-loop atoms bits₀ i₀ bits i = (length atoms ≤ 20) × (i ≤ length atoms) × AtomBits atoms bits i
+
+abbrev μ-loop : tie.MeasureT-loop
+μ-loop atoms bits₀ i₀ bits i = length atoms - i
+
+loop-holds : tie.Need-loop-holds Inv-loop μ-loop
+loop-holds c = (c .before .pre, omega arith, bits-start (c .before .args .atoms .now))
+
+shared-slice-read-wide : tie.Need-shared-slice-read-wide Inv-loop μ-loop
+shared-slice-read-wide c = search needs
+
+wide-requires : tie.Need-wide-requires Inv-loop μ-loop
+wide-requires c κs = search needs
+
+mul-bits : tie.Need-mul-bits Inv-loop μ-loop
+mul-bits c = search needs
+
+array-read-bits : tie.Need-array-read-bits Inv-loop μ-loop
+array-read-bits c = search needs
+
+cast-bits : tie.Need-cast-bits Inv-loop μ-loop
+cast-bits c = search needs
+
+shl-bits : tie.Need-shl-bits Inv-loop μ-loop
+shl-bits c = search needs
+
+mul-bits-2 : tie.Need-mul-bits-2 Inv-loop μ-loop
+mul-bits-2 c = search needs
+
+array-write-bits : tie.Need-array-write-bits Inv-loop μ-loop
+array-write-bits c = search needs
+
+add-i : tie.Need-add-i Inv-loop μ-loop
+add-i c = search needs
+
+loop-less : tie.Need-loop-less Inv-loop μ-loop
+loop-less c = search needs
+
+loop-again : tie.Need-loop-again Inv-loop μ-loop
+loop-again c =
+    let l = c .before .before .before .loop in
+    (l .inv .0, omega arith, bits-more (c .before .before .before .before .before .args .atoms .now) (l .bits) (l .i) (c .wide .result) (l .inv .2) (c .wide .ensures .0) (c .wide .ensures .1) (omega (arith, l .inv .0, c .before .before .loop-test .taken)))
+
+returns : tie.Need-returns Inv-loop μ-loop
+returns c =
+    let l = c .before .loop in
+    let a = c .before .before .before .args .atoms .now in
+    subst (AtomBits a (l .bits)) {x = l .i} {y = length a} (omega (arith, l .inv .1, c .loop-test .left)) (l .inv .2)
+
+pub atom-bits-spec : {M : Type 1} → statement M
+atom-bits-spec =
+    tie.close
+    (tie.spec
+    Inv-loop
+    μ-loop
+    loop-holds
+    shared-slice-read-wide
+    wide-requires
+    mul-bits
+    array-read-bits
+    cast-bits
+    shl-bits
+    mul-bits-2
+    array-write-bits
+    add-i
+    loop-less
+    loop-again
+    returns)

@@ -1,0 +1,58 @@
+-- Rules and settings as masks over the branching atoms, bit i for the i-th of them: what a setting alone decides about a rule.
+-- Assumes nothing.
+use mathlib.Core.Path.{_≡_}
+use mathlib.Core.Bool.{Bool, not}
+use mathlib.Core.List.{List, List·Memᴰ}
+use Prim.Native.Nat.{ℕ, _+_, _*_, _<_}
+use lib.Bits.{bitAnd, bitOr}
+use lib.Dec.{T}
+use lib.ListN.{length, getD}
+use Rattle.base.specs.Bounds.{maxAtoms, maxRules}
+use Rattle.layers.specs.Masks.{bitOf}
+use Rattle.format.specs.Book.{Literal, Rule, literalsOf}
+use Rattle.models.specs.StableModels.{Interpretation, atomHolds, positive, negative}
+use Rattle.table.specs.Rows.{rowAt}
+
+-- bit i at the i-th of the first n atoms
+pub record AtomBits (atoms bits : List ℕ) (n : ℕ) : Type 0 where
+  pub size : length bits ≡ maxAtoms
+  pub sound : (f i : ℕ) → bitOf (getD bits f 0) i ≡ 1 → (i < n) × (getD atoms i 0 ≡ f)
+  pub full : (i : ℕ) → i < n → bitOf (getD bits (getD atoms i 0) 0) i ≡ 1
+
+-- a bit of the mask is one of a literal of these bytes, with this sign
+abbrev pub BodyMask : List ℕ → List ℕ → Bool → ℕ → Type 0
+BodyMask bits body sign mask = (i : ℕ) → bitOf mask i ≡ 1 → (l : Literal) × List·Memᴰ l (literalsOf body) × (l .negated ≡ sign) × (bitOf (getD bits (l .atom) 0) i ≡ 1)
+
+-- a rule's masks: plain atoms of its body, negated ones, and its head where it is plain
+pub record RuleMask (atoms : List ℕ) (r : Rule) (plain negated head : ℕ) : Type 0 where
+  pub plain-in : (i : ℕ) → bitOf plain i ≡ 1 → List·Memᴰ (positive (getD atoms i 0)) (r .body)
+  pub negated-in : (i : ℕ) → bitOf negated i ≡ 1 → List·Memᴰ (negative (getD atoms i 0)) (r .body)
+  pub head-in : (i : ℕ) → i < length atoms → r .head ≡ positive (getD atoms i 0) → bitOf head i ≡ 1
+
+-- three masks a row
+abbrev pub plainMask : List ℕ → ℕ → ℕ
+plainMask masks j = getD masks (3 * j) 0
+
+abbrev pub negatedMask : List ℕ → ℕ → ℕ
+negatedMask masks j = getD masks (3 * j + 1) 0
+
+abbrev pub headMask : List ℕ → ℕ → ℕ
+headMask masks j = getD masks (3 * j + 2) 0
+
+-- the masks of the first n rows
+pub record RuleMasks (book rows atoms masks : List ℕ) (n : ℕ) : Type 0 where
+  pub size : length masks ≡ 3 * maxRules
+  pub each : (j : ℕ) → j < n → RuleMask atoms (rowAt book rows j) (plainMask masks j) (negatedMask masks j) (headMask masks j)
+
+-- a setting of the first n atoms: those that stand, and those that do not
+pub record Sides (atoms : List ℕ) (setting : Interpretation) (n standing denied : ℕ) : Type 0 where
+  pub standing-in : (i : ℕ) → bitOf standing i ≡ 1 → (i < n) × T (atomHolds setting (getD atoms i 0))
+  pub denied-in : (i : ℕ) → bitOf denied i ≡ 1 → (i < n) × T (not (atomHolds setting (getD atoms i 0)))
+
+-- the setting does not deny a literal of the rule's body
+abbrev pub Open : List ℕ → ℕ → ℕ → ℕ → Type 0
+Open masks standing denied j = bitOr (bitAnd (plainMask masks j) denied) (bitAnd (negatedMask masks j) standing) ≡ 0
+
+-- each atom that stands is the head of such a rule, one of the first n
+abbrev pub Headed : List ℕ → ℕ → ℕ → ℕ → Type 0
+Headed masks n standing denied = (i : ℕ) → bitOf standing i ≡ 1 → (j : ℕ) × (j < n) × Open masks standing denied j × (bitOf (headMask masks j) i ≡ 1)

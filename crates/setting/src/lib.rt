@@ -1,0 +1,117 @@
+// A quick test of a setting of the branching facts, before anything is filled: a fact that stands has to be the head of a rule of
+// whose body the setting denies no literal. It reads masks over the branching facts, three a rule, made once a call.
+ghost use mathlib.Core.Path.{_≡_};
+ghost use mathlib.Core.Bool.{true};
+ghost use Prim.Native.Nat.{_*_, _<_, _≤_};
+ghost use lib.ListN.{length, getD};
+ghost use Rattle.base.specs.Bounds.{maxBranching, maxRules};
+ghost use Rattle.table.specs.Rows.{rowCount, RowsFit};
+ghost use Rattle.setting.specs.RuleMasks.{AtomBits, BodyMask, RuleMasks, Sides, Headed};
+use base::wide;
+use base::wide16;
+use table::atom_holds;
+use table::row_head;
+
+// Bit i at the i-th atom; none at the others.
+fn atom_bits(atoms: &[u8]) -> [u32; 256]
+    requires { ⌜ length (now atoms) ≤ maxBranching ⌝ }
+    ensures { λ r. ⌜ AtomBits (now (atoms .entry)) r (length (now (atoms .entry))) ⌝ }
+{
+    let mut bits: [u32; 256] = [0; 256];
+    let mut i = 0;
+    while i < atoms.len() {
+        let f = wide(atoms[i]);
+        bits[f] = bits[f] | (1 << (i as u32));
+        i += 1;
+    }
+    bits
+}
+
+// An atom's bits: none past the end.
+fn bits_of(bits: &[u32], f: usize) -> u32
+    ensures { λ r. ⌜ r ≡ getD (now (bits .entry)) f 0 ⌝ }
+{
+    if f < bits.len() {
+        return bits[f];
+    }
+    0
+}
+
+// The bits of the atoms that a body has with this sign.
+fn body_mask(bits: &[u32], body: &[u8], sign: bool) -> u32
+    ensures { λ r. ⌜ BodyMask (now (bits .entry)) (now (body .entry)) sign r ⌝ }
+{
+    let mut mask = 0;
+    let mut i: usize = 0;
+    while 2 <= body.len() - i {
+        let v = wide(body[i]) * 256 + wide(body[i + 1]);
+        let negated = 32768 <= v;
+        if negated == sign {
+            mask = mask | bits_of(bits, v % 32768);
+        }
+        i += 2;
+    }
+    mask
+}
+
+// The masks of all rows.
+pub fn rule_masks(book: &[u8], rows: &[u16], atoms: &[u8]) -> [u32; 3072]
+    requires { ⌜ RowsFit (now book) (now rows) × (rowCount (now rows) ≤ maxRules) × (length (now atoms) ≤ maxBranching) ⌝ }
+    ensures { λ r. ⌜ RuleMasks (now (book .entry)) (now (rows .entry)) (now (atoms .entry)) r (rowCount (now (rows .entry))) ⌝ }
+{
+    let bits = atom_bits(atoms);
+    let count = rows.len() / 4;
+    let mut masks: [u32; 3072] = [0; 3072];
+    let mut j = 0;
+    while j < count {
+        let from = wide16(rows[4 * j]);
+        let to = from + wide16(rows[4 * j + 1]);
+        masks[3 * j] = body_mask(&bits, &book[from..to], false);
+        masks[3 * j + 1] = body_mask(&bits, &book[from..to], true);
+        masks[3 * j + 2] = bits_of(&bits, row_head(rows, j));
+        j += 1;
+    }
+    masks
+}
+
+pub struct SettingMasks {
+    pub standing: u32,
+    pub denied: u32,
+}
+
+// The atoms that stand in the setting, and those that do not.
+pub fn setting_masks(atoms: &[u8], setting: &[bool]) -> SettingMasks
+    requires { ⌜ length (now atoms) ≤ maxBranching ⌝ }
+    ensures { λ r. ⌜ Sides (now (atoms .entry)) (now (setting .entry)) (length (now (atoms .entry))) (r .standing) (r .denied) ⌝ }
+{
+    let mut standing = 0;
+    let mut denied = 0;
+    let mut i = 0;
+    while i < atoms.len() {
+        if atom_holds(setting, wide(atoms[i])) {
+            standing = standing | (1 << (i as u32));
+        } else {
+            denied = denied | (1 << (i as u32));
+        }
+        i += 1;
+    }
+    SettingMasks { standing, denied }
+}
+
+// Whether each atom that stands is the head of a rule of whose body the setting denies no literal.
+pub fn headed(masks: &[u32], count: usize, standing: u32, denied: u32) -> bool
+    requires { ⌜ 3 * count ≤ length (now masks) ⌝ }
+    ensures { λ r. ⌜ (Headed (now (masks .entry)) count standing denied → r ≡ true) ⌝ }
+{
+    let mut heads = 0;
+    let mut j = 0;
+    while j < count {
+        let head = masks[3 * j + 2];
+        let denials = masks[3 * j] & denied | masks[3 * j + 1] & standing;
+        if denials == 0 {
+            heads = heads | head;
+        }
+        j += 1;
+    }
+    standing | heads == heads
+}
