@@ -56,6 +56,8 @@ pub fn tally(
         atoms,
         n,
         [false; 256],
+        0,
+        0,
         &mut unused,
         v,
     );
@@ -100,6 +102,8 @@ pub fn write_all(
         atoms,
         n,
         [false; 256],
+        0,
+        0,
         part,
         v,
     );
@@ -140,6 +144,8 @@ pub fn write_first(
         atoms,
         n,
         [false; 256],
+        0,
+        0,
         part,
         v,
     );

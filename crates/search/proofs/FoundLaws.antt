@@ -209,6 +209,17 @@ module _ (P : Program) (w : WellFormed P) where
           let v = h m (List·Memᴰ·head refl) in
           absurd (never m (stable-sound P m (v .0) (v .1)) (λ f t. v .2 f (branching-listed f t)))
 
+  -- what is found is stable, and agrees with the setting on the atoms that are decided
+  pub found-decided : (undecided : List ℕ) (o m : Interpretation) → m ∈ foundBy (atSetting P B) undecided o
+      → StableModel P m × ((f : ℕ) → f ∈ B → (f ∈ undecided → ⊥) → atomHolds m f ≡ atomHolds o f)
+  found-decided undecided o m k =
+      let r = found-from (P .atoms) (P .atoms) (stable P) B (atSetting P B) branching-small setting-one setting-from setting-into undecided o m k in
+      (stable-sound P m (r .0) (r .1), r .2)
+
+  pub branching-once : Once B
+  unfolding branchingAtoms
+  branching-once = filter-once (branching P) (upTo (P .atoms)) (upTo-once (P .atoms))
+
   module _ (o : Interpretation) (size : ℕ) (s : length o ≡ size) (wide : P .atoms ≤ size) where
     abbrev found : List Interpretation
     found = foundBy (atSetting P B) B o
@@ -225,9 +236,7 @@ module _ (P : Program) (w : WellFormed P) where
         found-into (P .atoms) size (stable P) B (atSetting P B) lt-size setting-one setting-from setting-into B lt-size o m s l t (λ f k d. absurd (d k))
 
     pub found-once : Once found
-    unfolding branchingAtoms
-    found-once =
-        found-apart (P .atoms) size (stable P) B (atSetting P B) lt-size setting-one setting-from setting-into B (filter-once (branching P) (upTo (P .atoms)) (upTo-once (P .atoms))) (λ f k. k) o s
+    found-once = found-apart (P .atoms) size (stable P) B (atSetting P B) lt-size setting-one setting-from setting-into B branching-once (λ f k. k) o s
 
     -- k ≤ 2^g
     pub found-count : length found ≤ 2 ^ branchingCount P

@@ -1,32 +1,34 @@
 -- The quick test passes wherever there is a stable model: each branching atom that stands in it is the head of a rule whose body
--- holds in it, so the setting denies no literal of that body. Used by visit_setting. Assumes nothing.
-use mathlib.Core.Path.{_≡_, sym, ap, subst, _∙_}
+-- holds in it, so nothing that is decided denies a literal of that body. Used by search. Assumes nothing.
+use mathlib.Core.Path.{_≡_, refl, sym, ap, subst, _∙_}
 use mathlib.Core.Logic.{⊎-elim}
 use mathlib.Core.Bool.{Bool, true, false, not, false≢true}
-use mathlib.Core.List.{List, []}
-use Prim.Native.Nat.{ℕ, suc, _<_}
+use mathlib.Core.List.{List, [], _∷_, List·Memᴰ·head, List·Memᴰ·tail}
+use Prim.Native.Nat.{ℕ, zero, suc, _-_, _<_, _≤_}
 use native.Mathlib.Decide.{ℕ-discrete}
 use native.Mathlib.Omega.{arith}
 use lib.Bits.{bitAnd, bitOr}
 use lib.Dec.{T, T-not}
-use lib.ListN.{length, getD}
-use Rattle.base.specs.Lists.{consIf, upTo}
-use Rattle.base.proofs.Members.{_∈_, filter-from}
-use Rattle.base.proofs.UpTo.{upTo-lt}
+use lib.ListN.{length, getD, set, take, drop, length-set, replicate, length-replicate}
+use lib.Seq.{drop-cons, take-all, set-set, getD-set-same, getD-set-other}
+use Rattle.base.proofs.Members.{_∈_}
 use Rattle.layers.specs.Masks.{bitOf}
-use Rattle.layers.proofs.BitLaws.{or-cases, and-first, and-second, some-bit}
+use Rattle.layers.proofs.BitLaws.{no-bit, or-cases, and-first, and-second, some-bit}
 use Rattle.format.specs.Book.{Literal, Rule}
 use Rattle.models.specs.Program.{Program}
 use Rattle.models.specs.StableModels.{Interpretation, atomHolds, positive, negative, signed, holds, Derived, by-default, by-rule, StableModel}
-use Rattle.models.specs.Branching.{branching, branchingAtoms}
+use Rattle.models.specs.Branching.{branchingAtoms}
 use Rattle.table.specs.Rows.{rowCount, rowAt, rowsOf}
 use Rattle.table.specs.Table.{programOf}
 use Rattle.table.proofs.RowLaws.{row-of}
-use Rattle.setting.specs.RuleMasks.{RuleMasks, plainMask, negatedMask, headMask, Sides, Open, Headed}
+use Rattle.setting.specs.RuleMasks.{RuleMasks, plainMask, negatedMask, Open, Headed}
+use Rattle.setting.proofs.BitMaskLaws.{single, single-only}
+use Rattle.insertion.proofs.Once.{Once}
 use Rattle.insertion.proofs.SortedLaws.{getD-member}
-use Rattle.search.specs.Found.{atSetting}
+use Rattle.search.specs.Found.{atSetting, foundBy}
+use Rattle.search.specs.Decided.{DecidedAt, Decided}
 use Rattle.search.specs.Searchable.{Searchable}
-use Rattle.search.proofs.FoundLaws.{setting-none}
+use Rattle.search.proofs.FoundLaws.{branching-small, branching-once, found-decided}
 
 -- a mask with no bit
 none-set : (a : ℕ) → ((i : ℕ) → bitOf a i ≡ 1 → ⊥) → a ≡ 0
@@ -37,20 +39,16 @@ none-set a none = go (ℕ-discrete a 0)
     go (no n) = let x : (i : ℕ) × (bitOf a i ≡ 1) = some-bit (suc a) a (omega arith) (omega arith) in absurd (none (x .0) (x .1))
 
 module _ {book rows overridden atoms : List ℕ} {layer n : ℕ} (w : Searchable book rows overridden atoms layer n) {masks : List ℕ}
-    (k : RuleMasks book rows atoms masks (rowCount rows)) (o : Interpretation) {standing denied : ℕ} (s : Sides atoms o (length atoms) standing denied) where
+    (k : RuleMasks book rows atoms masks (rowCount rows)) {undecided : List ℕ} (o : Interpretation) {standing denied : ℕ} (s : Decided atoms undecided o standing denied) where
   abbrev P : Program
   P = programOf book layer
 
-  module _ (m : Interpretation) (sm : StableModel P m) (same : (f : ℕ) → T (branching P f) → atomHolds m f ≡ atomHolds o f) where
-    -- the atom of a bit branches, and is one of the program's
-    placed : (i : ℕ) → i < length atoms → (getD atoms i 0 < P .atoms) × T (branching P (getD atoms i 0))
-    unfolding branchingAtoms
-    placed i h =
-        let f = filter-from (branching P) (upTo (P .atoms)) (subst (λ (l : List ℕ). getD atoms i 0 ∈ l) (w .listed) (getD-member atoms i 0 h)) in
-        (upTo-lt (P .atoms) (getD atoms i 0) (f .0), f .1)
+  module _ (m : Interpretation) (sm : StableModel P m) (same : (f : ℕ) → f ∈ branchingAtoms P → (f ∈ undecided → ⊥) → atomHolds m f ≡ atomHolds o f) where
+    listed-at : (i : ℕ) → i < length atoms → getD atoms i 0 ∈ branchingAtoms P
+    listed-at i h = subst (λ (l : List ℕ). getD atoms i 0 ∈ l) (w .listed) (getD-member atoms i 0 h)
 
-    agrees-at : (i : ℕ) → i < length atoms → atomHolds m (getD atoms i 0) ≡ atomHolds o (getD atoms i 0)
-    agrees-at i h = same (getD atoms i 0) (placed i h .1)
+    agrees-at : (i : ℕ) → DecidedAt atoms undecided i → atomHolds m (getD atoms i 0) ≡ atomHolds o (getD atoms i 0)
+    agrees-at i d = same (getD atoms i 0) (listed-at i (d .0)) (d .1)
 
     -- a plain name that is derived is the head of a rule whose body holds
     record Supporter (l : Literal) : Type 0 where
@@ -97,17 +95,123 @@ module _ {book rows overridden atoms : List ℕ} {layer n : ℕ} (w : Searchable
     all-headed i z =
         let d = s .standing-in i z in
         let f : ℕ = getD atoms i 0 in
-        let y : Derived P m (positive f) = sm .exact (positive f) (placed i (d .0) .0) .1 (holds-plain f (subst T (sym (agrees-at i (d .0))) (d .1))) in
+        let h : f < P .atoms = branching-small P (w .formed) f (listed-at i (d .0 .0)) in
+        let y : Derived P m (positive f) = sm .exact (positive f) h .1 (holds-plain f (subst T (sym (agrees-at i (d .0))) (d .1))) in
         let x : Supporter (positive f) = supporter (positive f) y (λ j. false) in
         let v : (j : ℕ) × (j < rowCount rows) × (rowAt book rows j ≡ x .rule) = row-of book rows (x .rule) (subst (λ (rs : List Rule). x .rule ∈ rs) (sym (w .table .rules)) (x .inside)) in (
           v .0,
           v .1,
           open-row (v .0) (v .1) (λ l q. x .body-holds l (subst (λ (r : Rule). l ∈ r .body) (v .2) q)),
-          k .each (v .0) (v .1) .head-in i (d .0) (ap (λ (r : Rule). r .head) (v .2) ∙ x .head-is),
+          k .each (v .0) (v .1) .head-in i (d .0 .0) (ap (λ (r : Rule). r .head) (v .2) ∙ x .head-is),
         )
 
-  pub quick-none : (r : Bool) → (Headed masks (rowCount rows) standing denied → r ≡ true) → not r ≡ true → atSetting P atoms o ≡ consIf false [] []
-  unfolding consIf
-  quick-none r told e =
-      ap (λ (l : List ℕ). atSetting P l o) (w .listed)
-      ∙ setting-none P (w .formed) o (λ m sm same. absurd (false≢true (subst (λ (c : Bool). not c ≡ true) (told (all-headed m sm same)) e)))
+  -- the test failed: there is nothing to find
+  pub none-found : (r : Bool) → (Headed masks (rowCount rows) standing denied → r ≡ true) → not r ≡ true → foundBy (atSetting P atoms) undecided o ≡ []
+  none-found r told e =
+      ap (λ (l : List ℕ). foundBy (atSetting P l) undecided o) (w .listed)
+      ∙ empty (foundBy (atSetting P (branchingAtoms P)) undecided o)
+      (λ m q. let v = found-decided P (w .formed) undecided o m q in false≢true (subst (λ (c : Bool). not c ≡ true) (told (all-headed m (v .0) (v .1))) e))
+    where
+      empty : (ms : List Interpretation) → ((m : Interpretation) → m ∈ ms → ⊥) → ms ≡ []
+      empty [] h = refl
+      empty (m ∷ ms) h = absurd (h m (List·Memᴰ·head refl))
+
+-- ---- what is decided, from call to call
+pub listed-once : {book rows overridden atoms : List ℕ} {layer n : ℕ} → Searchable book rows overridden atoms layer n → Once atoms
+listed-once {book} {layer = layer} w = subst Once (sym (w .listed)) (branching-once (programOf book layer) (w .formed))
+
+pub decided-start : (atoms : List ℕ) → Decided atoms atoms (replicate 256 false) 0 0
+decided-start atoms = record {
+  size = length-replicate {A = Bool} 256 false;
+  few = omega arith;
+  last = let z : length atoms - length atoms ≡ 0 = omega arith in ap (λ (k : ℕ). drop k atoms) (sym z);
+  standing-in = λ i z. absurd (no-bit i z);
+  denied-in = λ i z. absurd (no-bit i z);
+}
+
+once-drop : (i : ℕ) (xs : List ℕ) → Once xs → Once (drop i xs)
+once-drop zero xs w = w
+once-drop (suc i) [] w = tt
+once-drop (suc i) (x ∷ xs) w = once-drop i xs (w .1)
+
+-- one atom more is decided: f, the first of the undecided ones, the i-th of all
+module _ (atoms : List ℕ) (once : Once atoms) (few : length atoms ≤ 20) (undecided : List ℕ) (o : Interpretation) (standing denied : ℕ) (s : Decided atoms undecided o standing denied)
+    (some : length undecided ≡ 0 → ⊥) (f : ℕ) (ef : f ≡ getD undecided 0 0) (bf : f < 256) where
+  abbrev i : ℕ
+  i = length atoms - length undecided
+
+  abbrev later : List ℕ
+  later = take (length undecided - 1) (drop 1 undecided)
+
+  before-end : i < length atoms
+  before-end = omega (arith, s .few)
+
+  split : undecided ≡ getD atoms i 0 ∷ drop (suc i) atoms
+  split = s .last ∙ drop-cons atoms i 0 before-end
+
+  f-is : getD atoms i 0 ≡ f
+  f-is = sym (ef ∙ ap (λ (l : List ℕ). getD l 0 0) split)
+
+  later-is : later ≡ drop (suc i) atoms
+  later-is = ap (λ (l : List ℕ). take (length l - 1) (drop 1 l)) split ∙ take-all (length (getD atoms i 0 ∷ drop (suc i) atoms) - 1) (drop (suc i) atoms) (omega arith)
+
+  later-size : length undecided ≡ suc (length later)
+  later-size = ap length split ∙ ap (λ (l : List ℕ). suc (length l)) (sym later-is)
+
+  first-in : f ∈ undecided
+  first-in = subst (λ (l : List ℕ). f ∈ l) (sym split) (List·Memᴰ·head (sym f-is))
+
+  later-in : (g : ℕ) → g ∈ later → g ∈ undecided
+  later-in g m = subst (λ (l : List ℕ). g ∈ l) (sym split) (List·Memᴰ·tail (subst (λ (l : List ℕ). g ∈ l) later-is m))
+
+  not-later : f ∈ later → ⊥
+  not-later m =
+      subst Once (drop-cons atoms i 0 before-end) (once-drop i atoms once) .0
+      (subst (λ (g : ℕ). g ∈ drop (suc i) atoms) (sym f-is) (subst (λ (l : List ℕ). f ∈ l) later-is m))
+
+  -- an atom decided before stays as it was
+  module _ (p : ℕ) (d : DecidedAt atoms undecided p) where
+    still : DecidedAt atoms later p
+    still = (d .0, λ m. d .1 (later-in (getD atoms p 0) m))
+
+    not-first : getD atoms p 0 ≡ f → ⊥
+    not-first e = d .1 (subst (λ (g : ℕ). g ∈ undecided) (sym e) first-in)
+
+  now-decided : (p : ℕ) → p ≡ i → DecidedAt atoms later p
+  now-decided p e = subst (DecidedAt atoms later) (sym e) (before-end, λ m. not-later (subst (λ (g : ℕ). g ∈ later) f-is m))
+
+  low : i < 32
+  low = omega arith
+
+  suffix : later ≡ drop (length atoms - length later) atoms
+  suffix = later-is ∙ (let e : suc i ≡ length atoms - length later = omega (arith, later-size, s .few) in ap (λ (x : ℕ). drop x atoms) e)
+
+  pub decided-false : Decided atoms later (set o f false) standing (bitOr denied (single i))
+  unfolding atomHolds
+  decided-false = record {
+    size = length-set o f false ∙ s .size;
+    few = omega (arith, later-size, s .few);
+    last = suffix;
+    standing-in = λ p z. let d = s .standing-in p z in (still p (d .0), subst T (sym (getD-set-other o f (getD atoms p 0) false false (not-first p (d .0)))) (d .1));
+    denied-in = λ p z. ⊎-elim
+        (λ a. let d = s .denied-in p a in (still p (d .0), subst (λ (c : Bool). T (not c)) (sym (getD-set-other o f (getD atoms p 0) false false (not-first p (d .0)))) (d .1)))
+        (λ a.
+        let e : p ≡ i = single-only i low p a in
+        (now-decided p e, subst (λ (c : Bool). T (not c)) (sym (ap (λ (x : ℕ). getD (set o f false) x false) (ap (λ (x : ℕ). getD atoms x 0) e ∙ f-is) ∙ getD-set-same o f false false (omega (arith, s .size)))) tt))
+        (or-cases denied (single i) p z);
+  }
+
+  pub decided-true : Decided atoms later (set (set o f false) f true) (bitOr standing (single i)) denied
+  unfolding atomHolds
+  decided-true = rw (set-set o f false true) (record {
+    size = length-set o f true ∙ s .size;
+    few = omega (arith, later-size, s .few);
+    last = suffix;
+    standing-in = λ p z. ⊎-elim
+        (λ a. let d = s .standing-in p a in (still p (d .0), subst T (sym (getD-set-other o f (getD atoms p 0) true false (not-first p (d .0)))) (d .1)))
+        (λ a.
+        let e : p ≡ i = single-only i low p a in
+        (now-decided p e, subst T (sym (ap (λ (x : ℕ). getD (set o f true) x false) (ap (λ (x : ℕ). getD atoms x 0) e ∙ f-is) ∙ getD-set-same o f true false (omega (arith, s .size)))) tt))
+        (or-cases standing (single i) p z);
+    denied-in = λ p z. let d = s .denied-in p z in (still p (d .0), subst (λ (c : Bool). T (not c)) (sym (getD-set-other o f (getD atoms p 0) true false (not-first p (d .0)))) (d .1));
+  })

@@ -46,6 +46,10 @@ module _ (n : ℕ) (ms : List Interpretation) (ok : Bool) (m : Interpretation) (
   pub setting-empty : ok ≡ false → (v : Visit) (p : List ℕ) → Searched n ms v p v p
   setting-empty y v p = subst (λ (l : List Interpretation). Searched n l v p v p) (sym (is ∙ kept-no ok m y)) (searched-none n v p)
 
+-- nothing is to be found
+pub none-searched : (n : ℕ) (ms : List Interpretation) → ms ≡ [] → (v : Visit) (p : List ℕ) → Searched n ms v p v p
+none-searched n ms e v p = subst (λ (l : List Interpretation). Searched n l v p v p) (sym e) (searched-none n v p)
+
 module _ (n : ℕ) (leaf : Interpretation → List Interpretation) (undecided : List ℕ) (o : Interpretation) where
   -- no fact is left: the setting itself
   pub leaf-searched : length undecided ≡ 0 → (v : Visit) (p : List ℕ) (v′ : Visit) (p′ : List ℕ) → Searched n (leaf o) v p v′ p′ → Searched n (foundBy leaf undecided o) v p v′ p′

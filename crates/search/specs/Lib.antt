@@ -1,3 +1,4 @@
 pub mod Found
 pub mod Visits
 pub mod Searchable
+pub mod Decided

@@ -11,13 +11,13 @@ ghost use Rattle.table.specs.Rows.{rowCount};
 ghost use Rattle.table.specs.Table.{programOf};
 ghost use Rattle.setting.specs.RuleMasks.{RuleMasks};
 ghost use Rattle.search.specs.Searchable.{Searchable, Denied};
+ghost use Rattle.search.specs.Decided.{Decided};
 use base::wide;
 use insertion::Gap;
 use records::atom_bit;
 use records::insert_state;
 use records::record_size;
 use setting::headed;
-use setting::setting_masks;
 use table::atom_holds;
 use tester::fill;
 use tester::is_stable;
@@ -151,27 +151,21 @@ pub fn meet(state: [bool; 256], n: usize, part: &mut [u8], v: Visit) -> Visit
     }
 }
 
-// Visits the stable model of one setting, if there is one: the quick test comes before anything is filled. It is a function of its
-// own so that the recursion's frames stay small.
+// Visits the stable model of one setting, if there is one. It is a function of its own so that the recursion's frames stay small.
 pub fn visit_setting(
     book: &[u8],
     layer: usize,
     rows: &[u16],
     overridden: &[u32],
-    masks: &[u32],
     atoms: &[u8],
     n: usize,
     setting: [bool; 256],
     part: &mut [u8],
     v: Visit,
 ) -> Visit
-    requires { ⌜ Searchable (now book) (now rows) (now overridden) (now atoms) layer n × Kept n v (now part) × (v .count < 4294967296) × (stopped v ≡ false) × RuleMasks (now book) (now rows) (now atoms) (now masks) (rowCount (now rows)) ⌝ }
+    requires { ⌜ Searchable (now book) (now rows) (now overridden) (now atoms) layer n × Kept n v (now part) × (v .count < 4294967296) × (stopped v ≡ false) ⌝ }
     ensures { λ r. ⌜ Searched n (atSetting (programOf (now (book .entry)) layer) (now (atoms .entry)) setting) v (now (part .entry)) r (now (part .exit)) ⌝ }
 {
-    let sides = setting_masks(atoms, &setting);
-    if !headed(masks, rows.len() / 4, sides.standing, sides.denied) {
-        return v;
-    }
     let found = model_at(book, layer, rows, overridden, atoms, n, setting);
     let state = found.state;
     if found.ok {
@@ -180,8 +174,9 @@ pub fn visit_setting(
     v
 }
 
-// Goes through the settings of the undecided branching facts, each once, and visits the stable model of each setting, if there
-// is one. The facts decided so far are in `setting`; `atoms` has all branching facts.
+// Goes through the settings of the undecided branching facts, each at most once, and visits the stable model of each setting, if
+// there is one. The facts decided so far are in `setting`, and as masks in `standing` and `denied`; `atoms` has all branching facts.
+// Where no rule can reach a fact that stands, no setting of the others has a stable model, and none is gone through.
 pub fn search(
     book: &[u8],
     layer: usize,
@@ -192,31 +187,26 @@ pub fn search(
     undecided: &[u8],
     n: usize,
     setting: [bool; 256],
+    standing: u32,
+    denied: u32,
     part: &mut [u8],
     v: Visit,
 ) -> Visit
-    requires { ⌜ Searchable (now book) (now rows) (now overridden) (now atoms) layer n × Kept n v (now part) × (v .count + 2 ^ length (now undecided) ≤ 4294967296) × RuleMasks (now book) (now rows) (now atoms) (now masks) (rowCount (now rows)) ⌝ }
+    requires { ⌜ Searchable (now book) (now rows) (now overridden) (now atoms) layer n × Kept n v (now part) × (v .count + 2 ^ length (now undecided) ≤ 4294967296) × RuleMasks (now book) (now rows) (now atoms) (now masks) (rowCount (now rows)) × Decided (now atoms) (now undecided) setting standing denied ⌝ }
     ensures { λ r. ⌜ Searched n (foundBy (atSetting (programOf (now (book .entry)) layer) (now (atoms .entry))) (now (undecided .entry)) setting) v (now (part .entry)) r (now (part .exit)) ⌝ }
 {
     if stops(v) {
         return v;
     }
+    if !headed(masks, rows.len() / 4, standing, denied) {
+        return v;
+    }
     if undecided.len() == 0 {
-        return visit_setting(
-            book,
-            layer,
-            rows,
-            overridden,
-            masks,
-            atoms,
-            n,
-            setting,
-            part,
-            v,
-        );
+        return visit_setting(book, layer, rows, overridden, atoms, n, setting, part, v);
     }
     let f = wide(undecided[0]);
     let rest = undecided.len();
+    let bit = 1 << ((atoms.len() - rest) as u32);
     let mut decided = setting;
     decided[f] = false;
     let half = search(
@@ -229,6 +219,8 @@ pub fn search(
         &undecided[1..rest],
         n,
         decided,
+        standing,
+        denied | bit,
         part,
         v,
     );
@@ -243,6 +235,8 @@ pub fn search(
         &undecided[1..rest],
         n,
         decided,
+        standing | bit,
+        denied,
         part,
         half,
     )

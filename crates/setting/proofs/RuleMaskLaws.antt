@@ -1,15 +1,15 @@
--- The masks of rules and settings, as the loops make them, and that a setting whose standing atoms no open rule heads has no stable
--- model. Assumes nothing.
+-- The masks of rules, as the loops make them, and the test of them. Assumes nothing.
 use mathlib.Core.Path.{_≡_, refl, sym, ap, subst, _∙_}
 use mathlib.Core.Logic.{_⊎_, inl, inr, ⊎-elim}
-use mathlib.Core.Bool.{Bool, true, false, not, Bool·beq, cond, false≢true, true≢false}
+use mathlib.Core.Bool.{Bool, true, false, Bool·beq, cond, false≢true, true≢false}
 use mathlib.Core.List.{List, [], _∷_, List·Memᴰ·head, List·Memᴰ·tail}
-use Prim.Native.Nat.{ℕ, zero, suc, _+_, _*_, _-_, _%_, _<_, _≤_}
+use Prim.Native.Nat.{ℕ, suc, _+_, _*_, _-_, _/_, _%_, _^_, _<_, _≤_}
 use native.Mathlib.Decide.{decLt, ℕ-discrete}
+use native.Mathlib.Nat.{mul-one, div-eq-of-lt}
 use native.Mathlib.Omega.{arith}
 use borrow.Author.Tests.{leb-true}
 use lib.Bits.{bitAnd, bitOr}
-use lib.Dec.{T, leb}
+use lib.Dec.{leb}
 use lib.ListN.{length, getD, set, take, drop, length-set, replicate, length-replicate}
 use lib.Seq.{getD-set-same, getD-set-other}
 use Rattle.base.specs.Bounds.{maxAtoms, maxRules}
@@ -18,10 +18,10 @@ use Rattle.layers.specs.Masks.{bitOf}
 use Rattle.layers.proofs.BitLaws.{no-bit, no-bits, or-cases, or-left, or-right}
 use Rattle.format.specs.Book.{Literal, Rule, literalOf, literalsOf}
 use Rattle.format.proofs.LiteralLaws.{literals-next}
-use Rattle.models.specs.StableModels.{Interpretation, atomHolds, positive, negative}
+use Rattle.models.specs.StableModels.{positive, negative}
 use Rattle.table.specs.Names.{literalNamed}
 use Rattle.table.specs.Rows.{rowCount, bodyStart, bodyBytes, headName, rowAt}
-use Rattle.setting.specs.RuleMasks.{AtomBits, BodyMask, RuleMask, plainMask, negatedMask, headMask, RuleMasks, Sides, Open, Headed}
+use Rattle.setting.specs.RuleMasks.{AtomBits, BodyMask, RuleMask, plainMask, negatedMask, headMask, RuleMasks, Open, Headed}
 use Rattle.setting.proofs.BitMaskLaws.{single, single-only, single-has, joined, joined-cases, joined-keeps, joined-has, or-absorbs}
 
 -- ---- the bits of the atoms
@@ -169,27 +169,20 @@ module _ (book rows atoms masks : List ℕ) (j a b c : ℕ) (w : RuleMasks book 
           subst (λ (x : ℕ). RuleMask atoms (rowAt book rows x) (plainMask (threeMore masks j a b c h) x) (negatedMask (threeMore masks j a b c h) x) (headMask (threeMore masks j a b c h) x)) q
           (rw (first masks j a b c h, second masks j a b c h, third masks j a b c h) r)
 
--- ---- the masks of a setting
-pub sides-start : (atoms : List ℕ) (setting : Interpretation) → Sides atoms setting 0 0 0
-sides-start atoms setting = record { standing-in = λ i z. absurd (no-bit i z); denied-in = λ i z. absurd (no-bit i z) }
-
-module _ (atoms : List ℕ) (setting : Interpretation) (i standing denied : ℕ) (w : Sides atoms setting i standing denied) (h : i < 32) (f : ℕ) (ef : f ≡ getD atoms i 0) (t : Bool) (et : t ≡ atomHolds setting f) where
-  up : (A : Type 0) (k : ℕ) → (k < i) × A → (k < i + 1) × A
-  up A k v = (omega (arith, v .0), v .1)
-
-  pub sides-standing : t ≡ true → Sides atoms setting (i + 1) (bitOr standing (single i)) denied
-  sides-standing q = record {
-    standing-in = λ k z. ⊎-elim (λ a. up _ k (w .standing-in k a)) (λ a. let e : k ≡ i = single-only i h k a in (omega arith, subst (λ (x : ℕ). T (atomHolds setting (getD atoms x 0))) (sym e) (subst (λ (x : ℕ). T (atomHolds setting x)) ef (subst T (sym (sym et ∙ q)) tt)))) (or-cases standing (single i) k z);
-    denied-in = λ k z. up _ k (w .denied-in k z);
-  }
-
-  pub sides-denied : t ≡ false → Sides atoms setting (i + 1) standing (bitOr denied (single i))
-  sides-denied q = record {
-    standing-in = λ k z. up _ k (w .standing-in k z);
-    denied-in = λ k z. ⊎-elim (λ a. up _ k (w .denied-in k a)) (λ a. let e : k ≡ i = single-only i h k a in (omega arith, subst (λ (x : ℕ). T (not (atomHolds setting (getD atoms x 0)))) (sym e) (subst (λ (x : ℕ). T (not (atomHolds setting x))) ef (subst (λ (c : Bool). T (not c)) (sym (sym et ∙ q)) tt)))) (or-cases denied (single i) k z);
-  }
-
 -- ---- the test
+-- 1 where there is no denial, else 0
+pub weighed : (h d : ℕ) → d ≡ 0 → h * ((4294967296 - d) / 2 ^ 32) ≡ h
+weighed h d e = ap (λ (x : ℕ). h * ((4294967296 - x) / 2 ^ 32)) e ∙ mul-one h
+
+pub weighed-le : (h d : ℕ) → h * ((4294967296 - d) / 2 ^ 32) ≤ h
+weighed-le h d = go (ℕ-discrete d 0)
+  where
+    go : Dec (d ≡ 0) → h * ((4294967296 - d) / 2 ^ 32) ≤ h
+    go (yes e) = omega (arith, weighed h d e)
+    go (no n) =
+        let z : (4294967296 - d) / 2 ^ 32 ≡ 0 = div-eq-of-lt (omega arith) in
+        omega (arith, ap (λ (x : ℕ). h * x) z)
+
 -- the heads of the open rules among the first j
 abbrev pub HeadsTo : List ℕ → ℕ → ℕ → ℕ → ℕ → Type 0
 HeadsTo masks standing denied j heads = (k i : ℕ) → k < j → Open masks standing denied k → bitOf (headMask masks k) i ≡ 1 → bitOf heads i ≡ 1
@@ -199,19 +192,15 @@ module _ (masks : List ℕ) (standing denied : ℕ) where
   heads-start k i h = absurd (omega arith)
 
   module _ (j heads : ℕ) (w : HeadsTo masks standing denied j heads) where
-    pub heads-more : HeadsTo masks standing denied (j + 1) (bitOr heads (headMask masks j))
-    heads-more k i h o z = go (decLt k j)
+    -- the row's head, where it is open
+    pub heads-more : (x : ℕ) → (Open masks standing denied j → x ≡ headMask masks j) → HeadsTo masks standing denied (j + 1) (bitOr heads x)
+    heads-more x told k i h o z = go (decLt k j)
       where
-        go : Dec (k < j) → bitOf (bitOr heads (headMask masks j)) i ≡ 1
-        go (yes l) = or-left heads (headMask masks j) i (w k i l o z)
-        go (no n) = let q : k ≡ j = omega arith in or-right heads (headMask masks j) i (subst (λ (x : ℕ). bitOf (headMask masks x) i ≡ 1) q z)
-
-    pub heads-pass : (Open masks standing denied j → ⊥) → HeadsTo masks standing denied (j + 1) heads
-    heads-pass shut k i h o z = go (decLt k j)
-      where
-        go : Dec (k < j) → bitOf heads i ≡ 1
-        go (yes l) = w k i l o z
-        go (no n) = let q : k ≡ j = omega arith in absurd (shut (subst (Open masks standing denied) q o))
+        go : Dec (k < j) → bitOf (bitOr heads x) i ≡ 1
+        go (yes l) = or-left heads x i (w k i l o z)
+        go (no n) =
+            let q : k ≡ j = omega arith in
+            or-right heads x i (subst (λ (y : ℕ). bitOf y i ≡ 1) (sym (told (subst (Open masks standing denied) q o))) (subst (λ (y : ℕ). bitOf (headMask masks y) i ≡ 1) q z))
 
     pub heads-end : (n : ℕ) → n ≤ j → Headed masks n standing denied → bitOr standing heads ≡ heads
     heads-end n h all-headed =

@@ -1,16 +1,15 @@
--- Rules and settings as masks over the branching atoms, bit i for the i-th of them: what a setting alone decides about a rule.
+-- Rules as masks over the branching atoms, bit i for the i-th of them: what is decided about these alone rules out for a rule.
 -- Assumes nothing.
 use mathlib.Core.Path.{_≡_}
-use mathlib.Core.Bool.{Bool, not}
+use mathlib.Core.Bool.{Bool}
 use mathlib.Core.List.{List, List·Memᴰ}
 use Prim.Native.Nat.{ℕ, _+_, _*_, _<_}
 use lib.Bits.{bitAnd, bitOr}
-use lib.Dec.{T}
 use lib.ListN.{length, getD}
 use Rattle.base.specs.Bounds.{maxAtoms, maxRules}
 use Rattle.layers.specs.Masks.{bitOf}
 use Rattle.format.specs.Book.{Literal, Rule, literalsOf}
-use Rattle.models.specs.StableModels.{Interpretation, atomHolds, positive, negative}
+use Rattle.models.specs.StableModels.{positive, negative}
 use Rattle.table.specs.Rows.{rowAt}
 
 -- bit i at the i-th of the first n atoms
@@ -44,12 +43,7 @@ pub record RuleMasks (book rows atoms masks : List ℕ) (n : ℕ) : Type 0 where
   pub size : length masks ≡ 3 * maxRules
   pub each : (j : ℕ) → j < n → RuleMask atoms (rowAt book rows j) (plainMask masks j) (negatedMask masks j) (headMask masks j)
 
--- a setting of the first n atoms: those that stand, and those that do not
-pub record Sides (atoms : List ℕ) (setting : Interpretation) (n standing denied : ℕ) : Type 0 where
-  pub standing-in : (i : ℕ) → bitOf standing i ≡ 1 → (i < n) × T (atomHolds setting (getD atoms i 0))
-  pub denied-in : (i : ℕ) → bitOf denied i ≡ 1 → (i < n) × T (not (atomHolds setting (getD atoms i 0)))
-
--- the setting does not deny a literal of the rule's body
+-- of the atoms decided so far, those that stand and those that do not deny no literal of the rule's body
 abbrev pub Open : List ℕ → ℕ → ℕ → ℕ → Type 0
 Open masks standing denied j = bitOr (bitAnd (plainMask masks j) denied) (bitAnd (negatedMask masks j) standing) ≡ 0
 

@@ -1,15 +1,14 @@
-// A quick test of a setting of the branching facts, before anything is filled: a fact that stands has to be the head of a rule of
-// whose body the setting denies no literal. It reads masks over the branching facts, three a rule, made once a call.
+// A quick test of what is decided about the branching facts, before anything is filled: a fact that stands has to be the head of a
+// rule of whose body no literal is denied. It reads masks over the branching facts, three a rule, made once a call.
 ghost use mathlib.Core.Path.{_≡_};
 ghost use mathlib.Core.Bool.{true};
 ghost use Prim.Native.Nat.{_*_, _<_, _≤_};
 ghost use lib.ListN.{length, getD};
 ghost use Rattle.base.specs.Bounds.{maxBranching, maxRules};
 ghost use Rattle.table.specs.Rows.{rowCount, RowsFit};
-ghost use Rattle.setting.specs.RuleMasks.{AtomBits, BodyMask, RuleMasks, Sides, Headed};
+ghost use Rattle.setting.specs.RuleMasks.{AtomBits, BodyMask, RuleMasks, Headed};
 use base::wide;
 use base::wide16;
-use table::atom_holds;
 use table::row_head;
 
 // Bit i at the i-th atom; none at the others.
@@ -74,44 +73,26 @@ pub fn rule_masks(book: &[u8], rows: &[u16], atoms: &[u8]) -> [u32; 3072]
     masks
 }
 
-pub struct SettingMasks {
-    pub standing: u32,
-    pub denied: u32,
-}
-
-// The atoms that stand in the setting, and those that do not.
-pub fn setting_masks(atoms: &[u8], setting: &[bool]) -> SettingMasks
-    requires { ⌜ length (now atoms) ≤ maxBranching ⌝ }
-    ensures { λ r. ⌜ Sides (now (atoms .entry)) (now (setting .entry)) (length (now (atoms .entry))) (r .standing) (r .denied) ⌝ }
+// A row's head where nothing of its body is denied, and else no bit. There is no branch in it: what is denied at one setting and not
+// at the next is nothing that a processor could guess.
+fn head_unless(denials: u32, head: u32) -> u64
+    ensures { λ r. ⌜ (denials ≡ 0 → r ≡ head) ⌝ }
 {
-    let mut standing = 0;
-    let mut denied = 0;
-    let mut i = 0;
-    while i < atoms.len() {
-        if atom_holds(setting, wide(atoms[i])) {
-            standing = standing | (1 << (i as u32));
-        } else {
-            denied = denied | (1 << (i as u32));
-        }
-        i += 1;
-    }
-    SettingMasks { standing, denied }
+    let weight = (4294967296 - denials as u64) >> 32;
+    head as u64 * weight
 }
 
-// Whether each atom that stands is the head of a rule of whose body the setting denies no literal.
+// Whether each atom that stands is the head of a rule of whose body no literal is denied.
 pub fn headed(masks: &[u32], count: usize, standing: u32, denied: u32) -> bool
     requires { ⌜ 3 * count ≤ length (now masks) ⌝ }
     ensures { λ r. ⌜ (Headed (now (masks .entry)) count standing denied → r ≡ true) ⌝ }
 {
-    let mut heads = 0;
+    let mut heads: u64 = 0;
     let mut j = 0;
     while j < count {
-        let head = masks[3 * j + 2];
         let denials = masks[3 * j] & denied | masks[3 * j + 1] & standing;
-        if denials == 0 {
-            heads = heads | head;
-        }
+        heads = heads | head_unless(denials, masks[3 * j + 2]);
         j += 1;
     }
-    standing | heads == heads
+    standing as u64 | heads == heads
 }

@@ -3,6 +3,7 @@
 use mathlib.Core.Path.{refl}
 use Rattle.search.specs.declared.Goal.the-variants.{All}
 use Rattle.passes.proofs.PassLaws.{start-fits, start-kept, all-written}
+use Rattle.search.proofs.QuickLaws.{decided-start}
 use native.Mathlib.Omega.{arith}
 use borrow.Author.Needs.{needs}
 use Rattle.passes.proofs.write_all.Statement.{statement}
@@ -12,7 +13,7 @@ use Rattle.passes.proofs.write_all.Lts as lts
 use Rattle.search.proofs.search.Reads as search-reads
 
 search-requires : tie.Need-search-requires
-search-requires c κs = let s = c .before .before .before .before .before .before .before in (s .pre .0, start-kept (s .pre .0) All 0 _ _ (omega arith), start-fits (s .pre .0), s .pre .1 .0)
+search-requires c κs = let s = c .before .before .before .before .before .before .before in (s .pre .0, start-kept (s .pre .0) All 0 _ _ (omega arith), start-fits (s .pre .0), s .pre .1 .0, decided-start (s .args .atoms .now))
 
 same-length : tie.Need-same-length
 same-length c = search needs

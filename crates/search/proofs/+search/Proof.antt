@@ -1,7 +1,8 @@
--- `search` meets its contract. The measure is the number of undecided facts. A call that need not go on, a leaf, and two halves
--- with the first undecided fact decided each way: each is one law of StepLaws. Assumes nothing.
+-- `search` meets its contract. The measure is the number of undecided facts. A call that need not go on, one in which nothing can be
+-- found (QuickLaws), a leaf, and two halves with the first undecided fact decided each way (StepLaws). Assumes nothing.
 use mathlib.Core.Path.{sym, _∙_}
 use lib.ListN.{length}
+use Rattle.search.proofs.QuickLaws as quick
 use Rattle.search.proofs.StepLaws as laws
 use Rattle.search.proofs.VisitLaws as visits
 use borrow.Author.Needs.{needs}
@@ -15,6 +16,7 @@ use Rattle.search.proofs.+search.Lts-search as search-lts
 use Rattle.base.proofs.wide.Reads as wide-reads
 use Rattle.search.proofs.stops.Reads as stops-reads
 use Rattle.search.proofs.visit_setting.Reads as visit-setting-reads
+use Rattle.setting.proofs.headed.Reads as headed-reads
 use Rattle.search.proofs.+search.{statement}
 use Rattle.search.proofs.+search.Tie.{close}
 
@@ -30,6 +32,8 @@ search-below t = and 7 search-kinds.ps (falls 7 search-kinds.ps _<_ μ-search t)
 search-stops-requires : (t : ℕ) → search-lts.Need-stops-requires (
   stops-reads.Asked,
   stops-reads.Learnt,
+  headed-reads.Asked,
+  headed-reads.Learnt,
   visit-setting-reads.Asked,
   visit-setting-reads.Learnt,
   wide-reads.Asked,
@@ -42,6 +46,8 @@ search-stops-requires t c κs = search needs
 search-returns : (t : ℕ) → search-lts.Need-returns (
   stops-reads.Asked,
   stops-reads.Learnt,
+  headed-reads.Asked,
+  headed-reads.Learnt,
   visit-setting-reads.Asked,
   visit-setting-reads.Learnt,
   wide-reads.Asked,
@@ -51,9 +57,11 @@ search-returns : (t : ℕ) → search-lts.Need-returns (
 ) (search-at t) search′.Post
 search-returns t c = let s = c .before .before .before .before .before .before .before .before .before in let a = s .args in let q = s .pre .1 in visits.searched-stopped (a .n) _ (a .v) (a .part .now) (sym (c .before .stops .ensures) ∙ c .if1 .taken)
 
-search-visit-setting-requires : (t : ℕ) → search-lts.Need-visit-setting-requires (
+search-headed-requires : (t : ℕ) → search-lts.Need-headed-requires (
   stops-reads.Asked,
   stops-reads.Learnt,
+  headed-reads.Asked,
+  headed-reads.Learnt,
   visit-setting-reads.Asked,
   visit-setting-reads.Learnt,
   wide-reads.Asked,
@@ -61,11 +69,41 @@ search-visit-setting-requires : (t : ℕ) → search-lts.Need-visit-setting-requ
   search-below t,
   search′.Post,
 ) (search-at t) search′.Post
-search-visit-setting-requires t c κs = let s = c .before .before .before .before .before .before .before .before .before .before .before in let a = s .args in let q = s .pre .1 in (q .0, q .1, laws.count-fits (a .v .count) (length (a .undecided .now)) (q .2), sym (c .before .before .before .stops .ensures) ∙ c .before .before .if1 .left, q .3)
+search-headed-requires t c κs = let s = c .before .before .before .before .before .before .before .before .before in let a = s .args in let q = s .pre .1 in omega (arith, q .0 .rows-few, q .3 .size)
+
+search-returns-2 : (t : ℕ) → search-lts.Need-returns-2 (
+  stops-reads.Asked,
+  stops-reads.Learnt,
+  headed-reads.Asked,
+  headed-reads.Learnt,
+  visit-setting-reads.Asked,
+  visit-setting-reads.Learnt,
+  wide-reads.Asked,
+  wide-reads.Learnt,
+  search-below t,
+  search′.Post,
+) (search-at t) search′.Post
+search-returns-2 t c = let s = c .before .before .before .before .before .before .before .before .before .before .before in let a = s .args in let q = s .pre .1 in laws.none-searched (a .n) _ (quick.none-found (q .0) (q .3) (a .setting) (q .4) (c .before .headed .result) (c .before .headed .ensures) (c .if2 .taken)) (a .v) (a .part .now)
+
+search-visit-setting-requires : (t : ℕ) → search-lts.Need-visit-setting-requires (
+  stops-reads.Asked,
+  stops-reads.Learnt,
+  headed-reads.Asked,
+  headed-reads.Learnt,
+  visit-setting-reads.Asked,
+  visit-setting-reads.Learnt,
+  wide-reads.Asked,
+  wide-reads.Learnt,
+  search-below t,
+  search′.Post,
+) (search-at t) search′.Post
+search-visit-setting-requires t c κs = let s = c .before .before .before .before .before .before .before .before .before .before .before .before .before in let a = s .args in let q = s .pre .1 in (q .0, q .1, laws.count-fits (a .v .count) (length (a .undecided .now)) (q .2), sym (c .before .before .before .before .before .stops .ensures) ∙ c .before .before .before .before .if1 .left)
 
 search-same-length : (t : ℕ) → search-lts.Need-same-length (
   stops-reads.Asked,
   stops-reads.Learnt,
+  headed-reads.Asked,
+  headed-reads.Learnt,
   visit-setting-reads.Asked,
   visit-setting-reads.Learnt,
   wide-reads.Asked,
@@ -75,9 +113,11 @@ search-same-length : (t : ℕ) → search-lts.Need-same-length (
 ) (search-at t) search′.Post
 search-same-length t c = search needs
 
-search-returns-2 : (t : ℕ) → search-lts.Need-returns-2 (
+search-returns-3 : (t : ℕ) → search-lts.Need-returns-3 (
   stops-reads.Asked,
   stops-reads.Learnt,
+  headed-reads.Asked,
+  headed-reads.Learnt,
   visit-setting-reads.Asked,
   visit-setting-reads.Learnt,
   wide-reads.Asked,
@@ -85,11 +125,13 @@ search-returns-2 : (t : ℕ) → search-lts.Need-returns-2 (
   search-below t,
   search′.Post,
 ) (search-at t) search′.Post
-search-returns-2 t c = let s = c .before .before .before .before .before .before .before .before .before .before .before .before .before .before in let a = s .args in let q = s .pre .1 in laws.leaf-searched (a .n) (laws.leafOf (a .book .now) (a .atoms .now) (a .layer)) (a .undecided .now) (a .setting) (c .before .before .before .before .if2 .taken) (a .v) (a .part .now) _ _ (c .before .before .visit-setting .ensures)
+search-returns-3 t c = let s = c .before .before .before .before .before .before .before .before .before .before .before .before .before .before .before .before in let a = s .args in let q = s .pre .1 in laws.leaf-searched (a .n) (laws.leafOf (a .book .now) (a .atoms .now) (a .layer)) (a .undecided .now) (a .setting) (c .before .before .before .before .if3 .taken) (a .v) (a .part .now) _ _ (c .before .before .visit-setting .ensures)
 
 search-shared-slice-read-wide : (t : ℕ) → search-lts.Need-shared-slice-read-wide (
   stops-reads.Asked,
   stops-reads.Learnt,
+  headed-reads.Asked,
+  headed-reads.Learnt,
   visit-setting-reads.Asked,
   visit-setting-reads.Learnt,
   wide-reads.Asked,
@@ -102,6 +144,8 @@ search-shared-slice-read-wide t c = search needs
 search-wide-requires : (t : ℕ) → search-lts.Need-wide-requires (
   stops-reads.Asked,
   stops-reads.Learnt,
+  headed-reads.Asked,
+  headed-reads.Learnt,
   visit-setting-reads.Asked,
   visit-setting-reads.Learnt,
   wide-reads.Asked,
@@ -111,9 +155,53 @@ search-wide-requires : (t : ℕ) → search-lts.Need-wide-requires (
 ) (search-at t) search′.Post
 search-wide-requires t c κs = search needs
 
+search-sub-bit : (t : ℕ) → search-lts.Need-sub-bit (
+  stops-reads.Asked,
+  stops-reads.Learnt,
+  headed-reads.Asked,
+  headed-reads.Learnt,
+  visit-setting-reads.Asked,
+  visit-setting-reads.Learnt,
+  wide-reads.Asked,
+  wide-reads.Learnt,
+  search-below t,
+  search′.Post,
+) (search-at t) search′.Post
+search-sub-bit t c = let s = c .before .before .before .before .before .before .before .before .before .before .before .before .before .before in let a = s .args in let q = s .pre .1 in omega (arith, q .4 .few)
+
+search-cast-bit : (t : ℕ) → search-lts.Need-cast-bit (
+  stops-reads.Asked,
+  stops-reads.Learnt,
+  headed-reads.Asked,
+  headed-reads.Learnt,
+  visit-setting-reads.Asked,
+  visit-setting-reads.Learnt,
+  wide-reads.Asked,
+  wide-reads.Learnt,
+  search-below t,
+  search′.Post,
+) (search-at t) search′.Post
+search-cast-bit t c = let s = c .before .before .before .before .before .before .before .before .before .before .before .before .before .before in let a = s .args in let q = s .pre .1 in record { fits = omega (arith, q .0 .atoms-few) }
+
+search-shl-bit : (t : ℕ) → search-lts.Need-shl-bit (
+  stops-reads.Asked,
+  stops-reads.Learnt,
+  headed-reads.Asked,
+  headed-reads.Learnt,
+  visit-setting-reads.Asked,
+  visit-setting-reads.Learnt,
+  wide-reads.Asked,
+  wide-reads.Learnt,
+  search-below t,
+  search′.Post,
+) (search-at t) search′.Post
+search-shl-bit t c = let s = c .before .before .before .before .before .before .before .before .before .before .before .before .before .before in let a = s .args in let q = s .pre .1 in omega (arith, q .0 .atoms-few, c .before .before .if3 .left, q .4 .few)
+
 search-array-write-decided : (t : ℕ) → search-lts.Need-array-write-decided (
   stops-reads.Asked,
   stops-reads.Learnt,
+  headed-reads.Asked,
+  headed-reads.Learnt,
   visit-setting-reads.Asked,
   visit-setting-reads.Learnt,
   wide-reads.Asked,
@@ -126,6 +214,8 @@ search-array-write-decided t c = omega (arith, c .wide .ensures .1)
 search-sub-search : (t : ℕ) → search-lts.Need-sub-search (
   stops-reads.Asked,
   stops-reads.Learnt,
+  headed-reads.Asked,
+  headed-reads.Learnt,
   visit-setting-reads.Asked,
   visit-setting-reads.Learnt,
   wide-reads.Asked,
@@ -138,6 +228,8 @@ search-sub-search t c = search needs
 search-part-search-start : (t : ℕ) → search-lts.Need-part-search-start (
   stops-reads.Asked,
   stops-reads.Learnt,
+  headed-reads.Asked,
+  headed-reads.Learnt,
   visit-setting-reads.Asked,
   visit-setting-reads.Learnt,
   wide-reads.Asked,
@@ -150,6 +242,8 @@ search-part-search-start t c = search needs
 search-part-search-end : (t : ℕ) → search-lts.Need-part-search-end (
   stops-reads.Asked,
   stops-reads.Learnt,
+  headed-reads.Asked,
+  headed-reads.Learnt,
   visit-setting-reads.Asked,
   visit-setting-reads.Learnt,
   wide-reads.Asked,
@@ -162,6 +256,8 @@ search-part-search-end t c = search needs
 search-search-requires : (t : ℕ) → search-lts.Need-search-requires (
   stops-reads.Asked,
   stops-reads.Learnt,
+  headed-reads.Asked,
+  headed-reads.Learnt,
   visit-setting-reads.Asked,
   visit-setting-reads.Learnt,
   wide-reads.Asked,
@@ -169,11 +265,13 @@ search-search-requires : (t : ℕ) → search-lts.Need-search-requires (
   search-below t,
   search′.Post,
 ) (search-at t) search′.Post
-search-search-requires t c κs = let s = c .before .before .before .before .before .before .before .before .before .before .before .before .before .before in let a = s .args in let q = s .pre .1 in (omega (arith, laws.later-length (a .n) (laws.leafOf (a .book .now) (a .atoms .now) (a .layer)) (a .undecided .now) (a .setting) (c .before .before .before .before .if2 .left)), (q .0, q .1, laws.first-fits (a .n) (laws.leafOf (a .book .now) (a .atoms .now) (a .layer)) (a .undecided .now) (a .setting) (c .before .before .before .before .if2 .left) (a .v .count) (q .2), q .3))
+search-search-requires t c κs = let s = c .before .before .before .before .before .before .before .before .before .before .before .before .before .before .before .before in let a = s .args in let q = s .pre .1 in (omega (arith, laws.later-length (a .n) (laws.leafOf (a .book .now) (a .atoms .now) (a .layer)) (a .undecided .now) (a .setting) (c .before .before .before .before .if3 .left)), (q .0, q .1, laws.first-fits (a .n) (laws.leafOf (a .book .now) (a .atoms .now) (a .layer)) (a .undecided .now) (a .setting) (c .before .before .before .before .if3 .left) (a .v .count) (q .2), q .3, quick.decided-false (a .atoms .now) (quick.listed-once (q .0)) (q .0 .atoms-few) (a .undecided .now) (a .setting) (a .standing) (a .denied) (q .4) (c .before .before .before .before .if3 .left) (c .before .before .wide .result) (c .before .before .wide .ensures .0) (c .before .before .wide .ensures .1)))
 
 search-array-write-decided-2 : (t : ℕ) → search-lts.Need-array-write-decided-2 (
   stops-reads.Asked,
   stops-reads.Learnt,
+  headed-reads.Asked,
+  headed-reads.Learnt,
   visit-setting-reads.Asked,
   visit-setting-reads.Learnt,
   wide-reads.Asked,
@@ -186,6 +284,8 @@ search-array-write-decided-2 t c = omega (arith, c .before .before .before .befo
 search-sub-search-2 : (t : ℕ) → search-lts.Need-sub-search-2 (
   stops-reads.Asked,
   stops-reads.Learnt,
+  headed-reads.Asked,
+  headed-reads.Learnt,
   visit-setting-reads.Asked,
   visit-setting-reads.Learnt,
   wide-reads.Asked,
@@ -198,6 +298,8 @@ search-sub-search-2 t c = search needs
 search-part-search-start-2 : (t : ℕ) → search-lts.Need-part-search-start-2 (
   stops-reads.Asked,
   stops-reads.Learnt,
+  headed-reads.Asked,
+  headed-reads.Learnt,
   visit-setting-reads.Asked,
   visit-setting-reads.Learnt,
   wide-reads.Asked,
@@ -210,6 +312,8 @@ search-part-search-start-2 t c = search needs
 search-part-search-end-2 : (t : ℕ) → search-lts.Need-part-search-end-2 (
   stops-reads.Asked,
   stops-reads.Learnt,
+  headed-reads.Asked,
+  headed-reads.Learnt,
   visit-setting-reads.Asked,
   visit-setting-reads.Learnt,
   wide-reads.Asked,
@@ -222,6 +326,8 @@ search-part-search-end-2 t c = search needs
 search-search-requires-2 : (t : ℕ) → search-lts.Need-search-requires-2 (
   stops-reads.Asked,
   stops-reads.Learnt,
+  headed-reads.Asked,
+  headed-reads.Learnt,
   visit-setting-reads.Asked,
   visit-setting-reads.Learnt,
   wide-reads.Asked,
@@ -229,11 +335,13 @@ search-search-requires-2 : (t : ℕ) → search-lts.Need-search-requires-2 (
   search-below t,
   search′.Post,
 ) (search-at t) search′.Post
-search-search-requires-2 t c κs = let s = c .before .before .before .before .before .before .before .before .before .before .before .before .before .before .before .before .before .before .before in let a = s .args in let q = s .pre .1 in let one = laws.leaf-one (a .book .now) (a .rows .now) (a .overridden .now) (a .atoms .now) (a .layer) (a .n) (q .0) in (omega (arith, laws.later-length (a .n) (laws.leafOf (a .book .now) (a .atoms .now) (a .layer)) (a .undecided .now) (a .setting) (c .before .before .before .before .before .before .before .before .before .if2 .left)), (q .0, laws.second-kept (a .n) (laws.leafOf (a .book .now) (a .atoms .now) (a .layer)) (a .undecided .now) (a .setting) (c .before .before .before .before .before .before .before .before .before .if2 .left) one _ (a .v) (a .part .now) _ _ (c .before .before .before .before .search .ensures) (q .1), laws.second-fits (a .n) (laws.leafOf (a .book .now) (a .atoms .now) (a .layer)) (a .undecided .now) (a .setting) (c .before .before .before .before .before .before .before .before .before .if2 .left) one _ (a .v) (a .part .now) _ _ (c .before .before .before .before .search .ensures) (q .2), q .3))
+search-search-requires-2 t c κs = let s = c .before .before .before .before .before .before .before .before .before .before .before .before .before .before .before .before .before .before .before .before .before in let a = s .args in let q = s .pre .1 in let one = laws.leaf-one (a .book .now) (a .rows .now) (a .overridden .now) (a .atoms .now) (a .layer) (a .n) (q .0) in (omega (arith, laws.later-length (a .n) (laws.leafOf (a .book .now) (a .atoms .now) (a .layer)) (a .undecided .now) (a .setting) (c .before .before .before .before .before .before .before .before .before .if3 .left)), (q .0, laws.second-kept (a .n) (laws.leafOf (a .book .now) (a .atoms .now) (a .layer)) (a .undecided .now) (a .setting) (c .before .before .before .before .before .before .before .before .before .if3 .left) one _ (a .v) (a .part .now) _ _ (c .before .before .before .before .search .ensures) (q .1), laws.second-fits (a .n) (laws.leafOf (a .book .now) (a .atoms .now) (a .layer)) (a .undecided .now) (a .setting) (c .before .before .before .before .before .before .before .before .before .if3 .left) one _ (a .v) (a .part .now) _ _ (c .before .before .before .before .search .ensures) (q .2), q .3, quick.decided-true (a .atoms .now) (quick.listed-once (q .0)) (q .0 .atoms-few) (a .undecided .now) (a .setting) (a .standing) (a .denied) (q .4) (c .before .before .before .before .before .before .before .before .before .if3 .left) (c .before .before .before .before .before .before .before .wide .result) (c .before .before .before .before .before .before .before .wide .ensures .0) (c .before .before .before .before .before .before .before .wide .ensures .1)))
 
 search-same-length-2 : (t : ℕ) → search-lts.Need-same-length-2 (
   stops-reads.Asked,
   stops-reads.Learnt,
+  headed-reads.Asked,
+  headed-reads.Learnt,
   visit-setting-reads.Asked,
   visit-setting-reads.Learnt,
   wide-reads.Asked,
@@ -243,9 +351,11 @@ search-same-length-2 : (t : ℕ) → search-lts.Need-same-length-2 (
 ) (search-at t) search′.Post
 search-same-length-2 t c = search needs
 
-search-returns-3 : (t : ℕ) → search-lts.Need-returns-3 (
+search-returns-4 : (t : ℕ) → search-lts.Need-returns-4 (
   stops-reads.Asked,
   stops-reads.Learnt,
+  headed-reads.Asked,
+  headed-reads.Learnt,
   visit-setting-reads.Asked,
   visit-setting-reads.Learnt,
   wide-reads.Asked,
@@ -253,12 +363,14 @@ search-returns-3 : (t : ℕ) → search-lts.Need-returns-3 (
   search-below t,
   search′.Post,
 ) (search-at t) search′.Post
-search-returns-3 t c = let s = c .before .before .before .before .before .before .before .before .before .before .before .before .before .before .before .before .before .before .before .before .before .before in let a = s .args in let q = s .pre .1 in laws.both-halves (a .n) (laws.leafOf (a .book .now) (a .atoms .now) (a .layer)) (a .undecided .now) (a .setting) (c .before .before .before .before .before .before .before .before .before .before .before .before .if2 .left) (c .before .before .before .before .before .before .before .before .before .before .wide .result) (c .before .before .before .before .before .before .before .before .before .before .wide .ensures .0) (a .v) (a .part .now) _ _ _ _ (c .before .before .before .before .before .before .before .search .ensures) (c .before .before .search2 .ensures)
+search-returns-4 t c = let s = c .before .before .before .before .before .before .before .before .before .before .before .before .before .before .before .before .before .before .before .before .before .before .before .before in let a = s .args in let q = s .pre .1 in laws.both-halves (a .n) (laws.leafOf (a .book .now) (a .atoms .now) (a .layer)) (a .undecided .now) (a .setting) (c .before .before .before .before .before .before .before .before .before .before .before .before .if3 .left) (c .before .before .before .before .before .before .before .before .before .before .wide .result) (c .before .before .before .before .before .before .before .before .before .before .wide .ensures .0) (a .v) (a .part .now) _ _ _ _ (c .before .before .before .before .before .before .before .search .ensures) (c .before .before .search2 .ensures)
 
 pub +search-spec : {M : Type 1} → statement M
 +search-spec = close μ-search λ t. search-lts.spec (
   stops-reads.Asked,
   stops-reads.Learnt,
+  headed-reads.Asked,
+  headed-reads.Learnt,
   visit-setting-reads.Asked,
   visit-setting-reads.Learnt,
   wide-reads.Asked,
@@ -270,11 +382,16 @@ pub +search-spec : {M : Type 1} → statement M
     search′.Post
     (search-stops-requires t)
     (search-returns t)
+    (search-headed-requires t)
+    (search-returns-2 t)
     (search-visit-setting-requires t)
     (search-same-length t)
-    (search-returns-2 t)
+    (search-returns-3 t)
     (search-shared-slice-read-wide t)
     (search-wide-requires t)
+    (search-sub-bit t)
+    (search-cast-bit t)
+    (search-shl-bit t)
     (search-array-write-decided t)
     (search-sub-search t)
     (search-part-search-start t)
@@ -286,4 +403,4 @@ pub +search-spec : {M : Type 1} → statement M
     (search-part-search-end-2 t)
     (search-search-requires-2 t)
     (search-same-length-2 t)
-    (search-returns-3 t)
+    (search-returns-4 t)
