@@ -2,6 +2,7 @@
 
 use crate::oracle::{self, Driven};
 use crate::reader;
+use std::cell::OnceCell;
 
 pub const NO_SUCH_LAYER: u64 = 9;
 pub const BAD_CANDIDATE: u64 = 10;
@@ -38,15 +39,6 @@ pub const fn place_of(branching: usize, standing: usize, states: usize) -> u64 {
     (branching as u64) << 8 | place << 16
 }
 
-/// The book at the driven layer, or the first of causes 1 to 9 that applies.
-fn driven(book: &[u8], layer: u32) -> Result<Driven, u64> {
-    let book = reader::read(book)?;
-    match u8::try_from(layer) {
-        Ok(layer) if layer < book.layers => Ok(Driven::new(&book, layer)),
-        _ => Err(NO_SUCH_LAYER),
-    }
-}
-
 /// The number of branching facts, or cause 12.
 fn searched(driven: &Driven) -> Result<usize, u64> {
     match driven.branching_count() {
@@ -55,57 +47,109 @@ fn searched(driven: &Driven) -> Result<usize, u64> {
     }
 }
 
+/// A book at a driven layer, or the first of causes 1 to 9 that applies. The first question that
+/// asks for the stable states tries every state, so the book must be small, or refused.
+pub struct Asked {
+    driven: Result<Driven, u64>,
+    models: OnceCell<Vec<Vec<bool>>>,
+}
+
+impl Asked {
+    pub fn new(book: &[u8], layer: u32) -> Asked {
+        let driven =
+            reader::read(book)
+                .map_err(u64::from)
+                .and_then(|book| match u8::try_from(layer) {
+                    Ok(layer) if layer < book.layers => Ok(Driven::new(&book, layer)),
+                    _ => Err(NO_SUCH_LAYER),
+                });
+        Asked {
+            driven,
+            models: OnceCell::new(),
+        }
+    }
+
+    fn driven(&self) -> Result<&Driven, u64> {
+        self.driven.as_ref().map_err(|&cause| cause)
+    }
+
+    fn models(&self, driven: &Driven) -> &[Vec<bool>] {
+        self.models.get_or_init(|| driven.stable_models())
+    }
+
+    /// The records of the stable states, in their order.
+    fn records(&self, driven: &Driven) -> Vec<Vec<u8>> {
+        let models = self.models(driven).iter();
+        models.map(|model| oracle::record(model)).collect()
+    }
+
+    /// The answer of `lesson_test`.
+    pub fn test(&self, candidate: &[u8]) -> u64 {
+        let answer = self.driven().and_then(|driven| {
+            let state = oracle::state(candidate, driven.atoms()).ok_or(BAD_CANDIDATE)?;
+            Ok(yes_or_no(driven.stable(&state)))
+        });
+        answer.unwrap_or_else(|cause| cause)
+    }
+
+    /// The answer of `lesson_list` and the buffer after it.
+    pub fn list(&self, buffer: &[u8]) -> (u64, Vec<u8>) {
+        let mut after = buffer.to_vec();
+        let answer = self.driven().and_then(|driven| {
+            let branching = searched(driven)?;
+            let records = self.records(driven);
+            let listing = oracle::listing(driven.atoms(), &records);
+            let place = after.get_mut(..listing.len()).ok_or(BUFFER_TOO_SHORT)?;
+            place.copy_from_slice(&listing);
+            Ok(counts(branching, records.len()))
+        });
+        (answer.unwrap_or_else(|cause| cause), after)
+    }
+
+    /// The answer of `lesson_one` and the records of which it may write any, or the cause.
+    pub fn one(&self, buffer_len: usize) -> Result<(u64, Vec<Vec<u8>>), u64> {
+        let driven = self.driven()?;
+        let answer = branching(searched(driven)?);
+        if buffer_len < usize::from(driven.atoms()).div_ceil(8) {
+            return Err(BUFFER_TOO_SHORT);
+        }
+        match self.records(driven) {
+            none if none.is_empty() => Err(NO_STABLE_STATE),
+            records => Ok((answer, records)),
+        }
+    }
+
+    /// The answer of `lesson_place`.
+    pub fn place(&self, fact: u32) -> u64 {
+        let answer = self.driven().and_then(|driven| {
+            if fact >= driven.atoms().into() {
+                return Err(NO_SUCH_FACT);
+            }
+            let branching = searched(driven)?;
+            let models = self.models(driven);
+            let standing = models.iter().filter(|model| model[fact as usize]);
+            Ok(place_of(branching, standing.count(), models.len()))
+        });
+        answer.unwrap_or_else(|cause| cause)
+    }
+}
+
 /// The answer of `lesson_test`.
 pub fn test(book: &[u8], layer: u32, candidate: &[u8]) -> u64 {
-    let answer = driven(book, layer).and_then(|driven| {
-        let state = oracle::state(candidate, driven.atoms()).ok_or(BAD_CANDIDATE)?;
-        Ok(yes_or_no(driven.stable(&state)))
-    });
-    answer.unwrap_or_else(|cause| cause)
+    Asked::new(book, layer).test(candidate)
 }
 
-/// The answer of `lesson_list` and the buffer after it. Every state is tried, so the book must be
-/// small, or refused.
+/// The answer of `lesson_list` and the buffer after it.
 pub fn list(book: &[u8], layer: u32, buffer: &[u8]) -> (u64, Vec<u8>) {
-    let mut after = buffer.to_vec();
-    let answer = driven(book, layer).and_then(|driven| {
-        let branching = searched(&driven)?;
-        let listing = driven.listing();
-        let place = after.get_mut(..listing.len()).ok_or(BUFFER_TOO_SHORT)?;
-        place.copy_from_slice(&listing);
-        Ok(counts(branching, oracle::count(&listing)))
-    });
-    (answer.unwrap_or_else(|cause| cause), after)
+    Asked::new(book, layer).list(buffer)
 }
 
-/// The answer of `lesson_one` and the records of which it may write any, or the cause. Every state
-/// is tried, so the book must be small, or refused.
+/// The answer of `lesson_one` and the records of which it may write any, or the cause.
 pub fn one(book: &[u8], layer: u32, buffer_len: usize) -> Result<(u64, Vec<Vec<u8>>), u64> {
-    let driven = driven(book, layer)?;
-    let answer = branching(searched(&driven)?);
-    if buffer_len < usize::from(driven.atoms()).div_ceil(8) {
-        return Err(BUFFER_TOO_SHORT);
-    }
-    let models = driven.stable_models();
-    match models.is_empty() {
-        true => Err(NO_STABLE_STATE),
-        false => Ok((
-            answer,
-            models.iter().map(|model| oracle::record(model)).collect(),
-        )),
-    }
+    Asked::new(book, layer).one(buffer_len)
 }
 
-/// The answer of `lesson_place`. Every state is tried, so the book must be small, or refused.
+/// The answer of `lesson_place`.
 pub fn place(book: &[u8], layer: u32, fact: u32) -> u64 {
-    let answer = driven(book, layer).and_then(|driven| {
-        if fact >= driven.atoms().into() {
-            return Err(NO_SUCH_FACT);
-        }
-        let branching = searched(&driven)?;
-        let models = driven.stable_models();
-        let standing = models.iter().filter(|model| model[fact as usize]);
-        Ok(place_of(branching, standing.count(), models.len()))
-    });
-    answer.unwrap_or_else(|cause| cause)
+    Asked::new(book, layer).place(fact)
 }

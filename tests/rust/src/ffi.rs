@@ -1,4 +1,4 @@
-//! The calls of the archive, made safe. The only file with `unsafe`.
+//! The calls of the archive, made safe.
 //!
 //! Each call has a form that lends fenced copies of its slices, in two surroundings, and one that
 //! lends the slices themselves: for timing, for sharing, and for what is too large to copy.
@@ -32,6 +32,51 @@ extern "C" {
     fn lesson_place(book: *const u8, book_len: usize, layer: u32, fact: u32) -> u64;
 }
 
+/// A call, with what it is lent beside the book and the driven layer. `None` is NULL with length 0,
+/// which the header allows.
+pub enum Call<'a> {
+    Check,
+    Test(Option<&'a [u8]>),
+    List(Option<&'a mut [u8]>),
+    One(Option<&'a mut [u8]>),
+    Place(u32),
+}
+
+fn pointer(slice: Option<&[u8]>) -> (*const u8, usize) {
+    slice.map_or((ptr::null(), 0), |slice| (slice.as_ptr(), slice.len()))
+}
+
+fn pointer_mut(slice: Option<&mut [u8]>) -> (*mut u8, usize) {
+    slice.map_or((ptr::null_mut(), 0), |slice| {
+        (slice.as_mut_ptr(), slice.len())
+    })
+}
+
+/// The answer of a call on the slices themselves. `lesson_check` has no driven layer.
+pub fn answer(book: Option<&[u8]>, layer: u32, call: Call) -> u64 {
+    let (book, book_len) = pointer(book);
+    // SAFETY: each pointer is NULL with length 0, or it and its length are those of a live slice;
+    // and a buffer, which the call may write, overlaps nothing, being borrowed mutably.
+    unsafe {
+        match call {
+            Call::Check => lesson_check(book, book_len),
+            Call::Test(candidate) => {
+                let (candidate, candidate_len) = pointer(candidate);
+                lesson_test(book, book_len, layer, candidate, candidate_len)
+            }
+            Call::List(buffer) => {
+                let (buffer, buffer_len) = pointer_mut(buffer);
+                lesson_list(book, book_len, layer, buffer, buffer_len)
+            }
+            Call::One(buffer) => {
+                let (buffer, buffer_len) = pointer_mut(buffer);
+                lesson_one(book, book_len, layer, buffer, buffer_len)
+            }
+            Call::Place(fact) => lesson_place(book, book_len, layer, fact),
+        }
+    }
+}
+
 /// Odd, so that the slices are misaligned.
 const FENCE: usize = 61;
 
@@ -55,21 +100,16 @@ impl Lent {
         &self.whole[FENCE..self.whole.len() - FENCE]
     }
 
-    /// The two arguments of a call. Among zeros an empty slice is NULL, which the header allows.
-    fn slice(&self) -> (*const u8, usize) {
-        match self.contents() {
-            [] if self.canary == 0 => (ptr::null(), 0),
-            contents => (contents.as_ptr(), contents.len()),
-        }
+    /// What a call is lent. Among zeros an empty slice is NULL.
+    fn slice(&self) -> Option<&[u8]> {
+        Some(self.contents()).filter(|contents| self.canary != 0 || !contents.is_empty())
     }
 
     /// The same for a buffer, which the call may write.
-    fn buffer(&mut self) -> (*mut u8, usize) {
+    fn buffer(&mut self) -> Option<&mut [u8]> {
         let after = self.whole.len() - FENCE;
-        match &mut self.whole[FENCE..after] {
-            [] if self.canary == 0 => (ptr::null_mut(), 0),
-            contents => (contents.as_mut_ptr(), contents.len()),
-        }
+        let contents = &mut self.whole[FENCE..after];
+        Some(contents).filter(|contents| self.canary != 0 || !contents.is_empty())
     }
 
     fn fences_stand(&self) -> bool {
@@ -115,97 +155,64 @@ fn fenced<const N: usize>(
 
 /// `lesson_check` on a fenced copy.
 pub fn check(book: &[u8]) -> u64 {
-    let call = |[book]: &[Lent; 1], _: &mut Lent| {
-        let (book, book_len) = book.slice();
-        // SAFETY: NULL with length 0, or a live slice, and the call only reads.
-        unsafe { lesson_check(book, book_len) }
-    };
+    let call = |[book]: &[Lent; 1], _: &mut Lent| answer(book.slice(), 0, Call::Check);
     fenced([book], &[], call).0
 }
 
 /// `lesson_check` on `book` itself.
 pub fn check_in_place(book: &[u8]) -> u64 {
-    // SAFETY: the pointer and the length are those of a live slice, and the call only reads.
-    unsafe { lesson_check(book.as_ptr(), book.len()) }
+    answer(Some(book), 0, Call::Check)
 }
 
 /// `lesson_check` on NULL with length 0.
 pub fn check_null() -> u64 {
-    // SAFETY: the header allows NULL where the length is 0; nothing is read.
-    unsafe { lesson_check(ptr::null(), 0) }
+    answer(None, 0, Call::Check)
 }
 
 /// `lesson_test` on fenced copies.
 pub fn test(book: &[u8], layer: u32, candidate: &[u8]) -> u64 {
     let call = |[book, candidate]: &[Lent; 2], _: &mut Lent| {
-        let (book, book_len) = book.slice();
-        let (candidate, candidate_len) = candidate.slice();
-        // SAFETY: each is NULL with length 0, or a live slice, and the call only reads.
-        unsafe { lesson_test(book, book_len, layer, candidate, candidate_len) }
+        answer(book.slice(), layer, Call::Test(candidate.slice()))
     };
     fenced([book, candidate], &[], call).0
 }
 
 /// `lesson_test` on the slices themselves.
 pub fn test_in_place(book: &[u8], layer: u32, candidate: &[u8]) -> u64 {
-    // SAFETY: the pointers and the lengths are those of live slices, and the call only reads.
-    unsafe {
-        lesson_test(
-            book.as_ptr(),
-            book.len(),
-            layer,
-            candidate.as_ptr(),
-            candidate.len(),
-        )
-    }
+    answer(Some(book), layer, Call::Test(Some(candidate)))
 }
 
 /// `lesson_list` on fenced copies.
 pub fn list(book: &[u8], layer: u32, buffer: &[u8]) -> Outcome {
     fenced([book], buffer, |[book], buffer| {
-        let (book, book_len) = book.slice();
-        let (buffer, buffer_len) = buffer.buffer();
-        // SAFETY: each is NULL with length 0, or a live slice, and the two do not overlap.
-        unsafe { lesson_list(book, book_len, layer, buffer, buffer_len) }
+        answer(book.slice(), layer, Call::List(buffer.buffer()))
     })
 }
 
 /// `lesson_list` on the slices themselves.
 pub fn list_in_place(book: &[u8], layer: u32, buffer: &mut [u8]) -> u64 {
-    let (at, length) = (buffer.as_mut_ptr(), buffer.len());
-    // SAFETY: the pointers and the lengths are those of live slices, which do not overlap.
-    unsafe { lesson_list(book.as_ptr(), book.len(), layer, at, length) }
+    answer(Some(book), layer, Call::List(Some(buffer)))
 }
 
 /// `lesson_one` on fenced copies.
 pub fn one(book: &[u8], layer: u32, buffer: &[u8]) -> Outcome {
     fenced([book], buffer, |[book], buffer| {
-        let (book, book_len) = book.slice();
-        let (buffer, buffer_len) = buffer.buffer();
-        // SAFETY: each is NULL with length 0, or a live slice, and the two do not overlap.
-        unsafe { lesson_one(book, book_len, layer, buffer, buffer_len) }
+        answer(book.slice(), layer, Call::One(buffer.buffer()))
     })
 }
 
 /// `lesson_one` on the slices themselves.
 pub fn one_in_place(book: &[u8], layer: u32, buffer: &mut [u8]) -> u64 {
-    let (at, length) = (buffer.as_mut_ptr(), buffer.len());
-    // SAFETY: the pointers and the lengths are those of live slices, which do not overlap.
-    unsafe { lesson_one(book.as_ptr(), book.len(), layer, at, length) }
+    answer(Some(book), layer, Call::One(Some(buffer)))
 }
 
 /// `lesson_place` on a fenced copy.
 pub fn place(book: &[u8], layer: u32, fact: u32) -> u64 {
-    let call = |[book]: &[Lent; 1], _: &mut Lent| {
-        let (book, book_len) = book.slice();
-        // SAFETY: NULL with length 0, or a live slice, and the call only reads.
-        unsafe { lesson_place(book, book_len, layer, fact) }
-    };
+    let call = |[book]: &[Lent; 1], _: &mut Lent| answer(book.slice(), layer, Call::Place(fact));
     fenced([book], &[], call).0
 }
 
 /// `lesson_place` on `book` itself.
 pub fn place_in_place(book: &[u8], layer: u32, fact: u32) -> u64 {
-    // SAFETY: the pointer and the length are those of a live slice, and the call only reads.
-    unsafe { lesson_place(book.as_ptr(), book.len(), layer, fact) }
+    answer(Some(book), layer, Call::Place(fact))
 }
