@@ -6,9 +6,14 @@
 #![deny(unsafe_code)]
 
 pub mod book;
+#[allow(unsafe_code)]
+pub mod child;
 pub mod expected;
 #[allow(unsafe_code)]
 pub mod ffi;
+#[allow(unsafe_code)]
+pub mod guarded;
+pub mod inputs;
 pub mod known;
 pub mod misreadings;
 pub mod oracle;
@@ -16,3 +21,5 @@ pub mod plain;
 pub mod reader;
 pub mod rng;
 pub mod shapes;
+pub mod tally;
+pub mod truth;

@@ -358,6 +358,12 @@ fn state(record: &[u8], atoms: usize) -> Option<Names> {
     Some(state)
 }
 
+/// The number of branching facts, or the cause for which there is no search.
+pub fn branching_count(book: &[u8], layer: u32) -> Result<usize, u64> {
+    let branching = program(book, layer)?.branching()?;
+    Ok(branching.len())
+}
+
 /// What `lesson_test` answers.
 pub fn test(book: &[u8], layer: u32, candidate: &[u8]) -> u64 {
     let answer = program(book, layer).and_then(|program| {

@@ -747,6 +747,17 @@ pub fn quick(rng: &mut Rng, generate: fn(&mut Rng) -> Vec<u8>) -> Vec<u8> {
     }
 }
 
+/// A driven layer: one that the bytes' field for layers allows, most of the time.
+pub fn any_layer(rng: &mut Rng, book: &[u8]) -> u32 {
+    let layers = usize::from(book.get(7).copied().unwrap_or(1));
+    match rng.below(20) {
+        0 => layers as u32,
+        1 => layers as u32 + rng.below(3) as u32,
+        2 => rng.pick(&NO_LAYERS),
+        _ => rng.below(layers.max(1)) as u32,
+    }
+}
+
 /// A book to which each cause of `causes` applies (bit c - 1 for cause c), and none smaller than
 /// the smallest of them. With no cause the book is lawful.
 pub fn with_causes(rng: &mut Rng, causes: u8) -> Vec<u8> {

@@ -1,0 +1,256 @@
+//! The fault trial's inputs: a book, a driven layer, and questions to all five calls, each with what
+//! must come of it. Seed and number give the input, so that one of them can be tried again alone.
+
+use crate::book::{hex, Book};
+use crate::known::{self, EVERY_FOLLOWING};
+use crate::plain;
+use crate::reader;
+use crate::rng::Rng;
+use crate::shapes::{self, Layering, EVERY_SHAPE};
+use crate::truth::Truth;
+use std::fmt;
+
+pub const CALLS: [&str; 5] = ["check", "test", "list", "one", "place"];
+
+/// A call, with what it takes beside the book and the driven layer.
+#[derive(Clone, Debug)]
+pub enum Question {
+    Check,
+    Test { candidate: Vec<u8> },
+    List { buffer: Vec<u8> },
+    One { buffer: Vec<u8> },
+    Place { fact: u32 },
+}
+
+impl Question {
+    /// Its place in `CALLS`.
+    pub fn call(&self) -> usize {
+        match self {
+            Question::Check => 0,
+            Question::Test { .. } => 1,
+            Question::List { .. } => 2,
+            Question::One { .. } => 3,
+            Question::Place { .. } => 4,
+        }
+    }
+}
+
+impl fmt::Display for Question {
+    fn fmt(&self, f: &mut fmt::Formatter) -> fmt::Result {
+        write!(f, "lesson_{}", CALLS[self.call()])?;
+        match self {
+            Question::Check => Ok(()),
+            Question::Test { candidate } => write!(f, ", candidate {}", hex(candidate)),
+            Question::List { buffer } | Question::One { buffer } => {
+                write!(f, ", buffer of {} bytes, {}", buffer.len(), hex(buffer))
+            }
+            Question::Place { fact } => write!(f, ", fact {fact}"),
+        }
+    }
+}
+
+/// What must come of a question.
+#[derive(Clone, Debug, PartialEq, Eq)]
+pub struct Wanted {
+    pub answer: u64,
+    /// The buffer after the call: one of these, and only for `lesson_one` are there several. Empty
+    /// where the call has none.
+    pub buffers: Vec<Vec<u8>>,
+}
+
+impl Wanted {
+    fn answer(answer: u64) -> Wanted {
+        let buffers = vec![Vec::new()];
+        Wanted { answer, buffers }
+    }
+}
+
+/// A question and what must come of it.
+pub type Asked = (Question, Wanted);
+
+pub struct Input {
+    pub number: u64,
+    pub book: Vec<u8>,
+    pub layer: u32,
+    pub questions: Vec<Asked>,
+}
+
+/// The longest listing of a book that is tried: 8 branching facts in records of 32 bytes.
+const LONGEST_LISTING: usize = 11 + (1 << 8) * 32;
+
+impl Input {
+    pub fn new(seed: u64, number: u64) -> Input {
+        let mut rng = Rng::named(seed, &format!("fault trial {number}"));
+        let (book, layer) = loop {
+            let book = book(&mut rng);
+            let layer = shapes::any_layer(&mut rng, &book);
+            if !long_search(&book, layer) {
+                break (book, layer);
+            }
+        };
+        let questions = questions(&mut rng, &book, layer);
+        Input {
+            number,
+            book,
+            layer,
+            questions,
+        }
+    }
+}
+
+/// Of a book with few facts every search is short.
+fn long_search(book: &[u8], layer: u32) -> bool {
+    plain::branching_count(book, layer).is_ok_and(|branching| branching > 8)
+}
+
+/// Any bytes: lawful books of all kinds, damaged ones, and such as are refused by each cause.
+fn book(rng: &mut Rng) -> Vec<u8> {
+    match rng.below(100) {
+        0..=2 => Vec::new(),
+        3 => shapes::large_lawful(rng),
+        4 => shapes::large_damaged(rng),
+        5..=8 => too_many_branching(rng).bytes(),
+        9..=19 => many_facts(rng).bytes(),
+        20..=54 => searched(rng).bytes(),
+        55..=69 => {
+            let cause = rng.below(8);
+            shapes::with_causes(rng, 1 << cause)
+        }
+        _ => loop {
+            let (name, generate) = rng.pick(&EVERY_SHAPE);
+            if !name.starts_with("large") {
+                return shapes::quick(rng, generate);
+            }
+        },
+    }
+}
+
+/// A small lawful book with something to search in it.
+fn searched(rng: &mut Rng) -> Book {
+    let layering = rng.pick(&[
+        Layering::Chain,
+        Layering::Diamond,
+        Layering::Branches,
+        Layering::Any,
+    ]);
+    match rng.below(4) {
+        0 => shapes::choices(rng),
+        1 => shapes::crowded(rng, layering),
+        _ => shapes::layered(rng, layering),
+    }
+}
+
+/// A lawful book of up to 256 facts, few of which branch.
+fn many_facts(rng: &mut Rng) -> Book {
+    let atoms = rng.pick(&[9, 15, 16, 17, 64, 65, 255, 256]);
+    match rng.below(4) {
+        0 => Book::new(atoms, rng.range(1, 32) as u8),
+        1 => {
+            let following = rng.pick(&EVERY_FOLLOWING);
+            known::followed(rng.range(1, 4) as u16, 4, atoms, following).book
+        }
+        2 => known::quarrelled(known::free(rng.below(4) as u16, 3, atoms - 1)).book,
+        _ => {
+            let small = searched(rng);
+            let layer = rng.below(small.layers.into()) as u8;
+            known::spread(rng, &small, layer, atoms).book
+        }
+    }
+}
+
+/// A lawful book with more than 20 branching facts, in one of its layers at least.
+fn too_many_branching(rng: &mut Rng) -> Book {
+    let known = match rng.below(5) {
+        0 => known::pairs(10, 1),
+        1 => known::displacing_pairs(rng.range(10, 16) as u16, 1),
+        2 => known::single(rng.range(21, 40) as u16, rng.chance(50)),
+        3 => known::quarrelled(known::pairs(11, 0)),
+        _ => known::pairs(128, 0),
+    };
+    known.book
+}
+
+/// The number of facts that the book's field gives, lawful or not.
+fn facts(book: &[u8]) -> usize {
+    match book.get(5..7) {
+        Some(field) => usize::from(field[0]) << 8 | usize::from(field[1]),
+        None => 1,
+    }
+}
+
+/// Every call is asked, and so that where the book is lawful each of its own causes comes up.
+fn questions(rng: &mut Rng, book: &[u8], layer: u32) -> Vec<Asked> {
+    let truth = Truth::new(book, layer);
+    let facts = facts(book);
+    let width = facts.div_ceil(8).min(40);
+    let (listed, listing) = truth.list(&[0; LONGEST_LISTING]);
+    let (length, records) = match listed & 0xFF {
+        0 => {
+            let length = 11 + (listed >> 16) as usize * width;
+            let records = listing[11..length].chunks_exact(width);
+            (length, records.map(<[u8]>::to_vec).collect())
+        }
+        _ => (12, Vec::new()),
+    };
+    let cause = reader::first_cause(book);
+    let mut questions = vec![(Question::Check, Wanted::answer(cause.into()))];
+    for candidate in candidates(rng, facts, width, &records) {
+        let answer = truth.test(&candidate);
+        questions.push((Question::Test { candidate }, Wanted::answer(answer)));
+    }
+    let any_length = rng.range(0, length + 40) * rng.below(2);
+    for length in [length, length - 1, any_length] {
+        let buffer = rng.bytes(length);
+        let (answer, after) = truth.list(&buffer);
+        let buffers = vec![after];
+        questions.push((Question::List { buffer }, Wanted { answer, buffers }));
+    }
+    for length in [width, width.saturating_sub(1), rng.range(0, width + 9)] {
+        let buffer = rng.bytes(length);
+        let wanted = one(&truth, &records, &buffer);
+        questions.push((Question::One { buffer }, wanted));
+    }
+    for fact in [
+        rng.below(facts.max(1)) as u32,
+        rng.below(facts.max(1)) as u32,
+        rng.pick(&[facts as u32, 256, 1 << 16, 1 << 31, u32::MAX]),
+    ] {
+        let wanted = Wanted::answer(truth.place(fact));
+        questions.push((Question::Place { fact }, wanted));
+    }
+    questions
+}
+
+/// What must come of `lesson_one`: the buffer as it was, or any of the records in its first bytes.
+fn one(truth: &Truth, records: &[Vec<u8>], buffer: &[u8]) -> Wanted {
+    let answer = truth.one(buffer);
+    let buffers = match answer & 0xFF {
+        0 => records
+            .iter()
+            .map(|record| [record, &buffer[record.len()..]].concat())
+            .collect(),
+        _ => vec![buffer.to_vec()],
+    };
+    Wanted { answer, buffers }
+}
+
+/// A stable state where there is one, any state, and what is no state.
+fn candidates(rng: &mut Rng, facts: usize, width: usize, records: &[Vec<u8>]) -> [Vec<u8>; 3] {
+    let spare = 8 * width - facts.min(8 * width);
+    let mut state = rng.bytes(width);
+    if let Some(last) = state.last_mut() {
+        *last &= (0xFF00u32 >> (8 - spare.min(8))) as u8;
+    }
+    let stable = match records {
+        [] => state.clone(),
+        _ => records[rng.below(records.len())].clone(),
+    };
+    let mut wrong = state.clone();
+    match rng.below(4) {
+        0 if spare > 0 => wrong[width - 1] |= 1 << rng.below(spare.min(8)),
+        1 => wrong.push(0),
+        2 => wrong.clear(),
+        _ => wrong.truncate(width.saturating_sub(1)),
+    }
+    [stable, state, wrong]
+}

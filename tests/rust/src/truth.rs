@@ -1,0 +1,62 @@
+//! What the calls must come to on any book: by reader and oracle, or by plain Rust where there are
+//! too many facts to try every state.
+
+use crate::expected::Asked;
+use crate::plain;
+use crate::reader;
+
+/// The most facts of which every state is tried.
+const TRIED: u16 = 10;
+
+/// A book at a driven layer.
+pub enum Truth<'a> {
+    Oracle(Asked),
+    Plain { book: &'a [u8], layer: u32 },
+}
+
+impl<'a> Truth<'a> {
+    pub fn new(book: &'a [u8], layer: u32) -> Truth<'a> {
+        match reader::read(book) {
+            Ok(read) if read.atoms > TRIED => Truth::Plain { book, layer },
+            _ => Truth::Oracle(Asked::new(book, layer)),
+        }
+    }
+
+    /// The answer of `lesson_test`.
+    pub fn test(&self, candidate: &[u8]) -> u64 {
+        match self {
+            Truth::Oracle(asked) => asked.test(candidate),
+            Truth::Plain { book, layer } => plain::test(book, *layer, candidate),
+        }
+    }
+
+    /// The answer of `lesson_list` and the buffer after it.
+    pub fn list(&self, buffer: &[u8]) -> (u64, Vec<u8>) {
+        match self {
+            Truth::Oracle(asked) => asked.list(buffer),
+            Truth::Plain { book, layer } => {
+                let mut after = buffer.to_vec();
+                (plain::list(book, *layer, &mut after), after)
+            }
+        }
+    }
+
+    /// The answer of `lesson_one` in a buffer that is long enough or not.
+    pub fn one(&self, buffer: &[u8]) -> u64 {
+        match self {
+            Truth::Oracle(asked) => match asked.one(buffer.len()) {
+                Ok((answer, _)) => answer,
+                Err(cause) => cause,
+            },
+            Truth::Plain { book, layer } => plain::one(book, *layer, &mut buffer.to_vec()),
+        }
+    }
+
+    /// The answer of `lesson_place`.
+    pub fn place(&self, fact: u32) -> u64 {
+        match self {
+            Truth::Oracle(asked) => asked.place(fact),
+            Truth::Plain { book, layer } => plain::place(book, *layer, fact),
+        }
+    }
+}
