@@ -12,7 +12,7 @@
  *   allowed; NULL with another length is not.
  * - Memory. Everything is the caller's, before and after. The engine reads and
  *   writes only what it is lent, keeps nothing once a call has returned, and
- *   does not use the heap.
+ *   does not use the heap. How much stack a call needs stands below.
  * - Overlap. Two slices that are only read may overlap. A buffer that a call
  *   writes must not overlap any other slice of the same call.
  * - Threads. There is no state between calls, and no global variable. Calls may
@@ -60,6 +60,18 @@ enum lesson_cause_number {
     LESSON_TOO_MANY_BRANCHING = 12, /* more than 20 branching facts */
     LESSON_BUFFER_TOO_SHORT = 13,   /* buffer shorter than what would be written */
     LESSON_NO_STABLE_STATE = 14     /* the book has no stable state at the driven layer */
+};
+
+/* The most bytes of stack that each call uses below its caller's frame, whatever
+ * the book, rounded up: measured on the compiled archive by tests/c/stack.c.
+ * Signal handlers that run on the same stack come on top, and so does a dynamic
+ * linker that binds memcpy or memset at its first call. */
+enum lesson_stack_bytes {
+    LESSON_CHECK_STACK = 1024,
+    LESSON_TEST_STACK = 53248,
+    LESSON_LIST_STACK = 59392,
+    LESSON_ONE_STACK = 59392,
+    LESSON_PLACE_STACK = 59392
 };
 
 /* The cause that an answer names; LESSON_GRANTED where there is none. */

@@ -1,0 +1,283 @@
+/*
+ * The deepest stack that each call uses, by painting a stack for it: prints the bytes and checks
+ * the figures of the header against them. A figure is the bytes and 128 more, rounded up to 1,024.
+ */
+#define _GNU_SOURCE
+#include "host.h"
+
+#include <ucontext.h>
+
+#define STACK_BYTES (1024 * 1024)
+#define FACTS 256
+#define LAYERS 32
+#define RULES 1024
+#define BODY 16
+#define LARGEST_BOOK 38372
+#define NOT 0x8000u
+/* A fact that branches and stands in no state. */
+#define NEVER 100u
+
+enum call { EMPTY, CHECK, TEST, LIST, ONE, PLACE, CALLS };
+
+static const char *const names[CALLS] = {"empty call",  "lesson_check", "lesson_test",
+                                         "lesson_list", "lesson_one",   "lesson_place"};
+
+/* The call that is measured, and its answer. The candidate, or what a call fills, are the first
+ * bytes of the buffer. */
+static struct {
+    enum call call;
+    const uint8_t *book;
+    size_t length;
+    uint32_t layer, fact;
+    size_t lent;
+    uint64_t answer;
+} asked;
+
+static _Alignas(64) uint8_t stack[STACK_BYTES];
+static uint8_t buffer[1 << 16];
+static size_t deepest[CALLS];
+static ucontext_t here, there;
+
+static uint64_t nothing(void)
+{
+    return 0;
+}
+
+/* Volatile, so that it is called. */
+static uint64_t (*volatile empty_call)(void) = nothing;
+
+static uint64_t answer(void)
+{
+    switch (asked.call) {
+    case CHECK:
+        return lesson_check(asked.book, asked.length);
+    case TEST:
+        return lesson_test(asked.book, asked.length, asked.layer, buffer, asked.lent);
+    case LIST:
+        return lesson_list(asked.book, asked.length, asked.layer, buffer, asked.lent);
+    case ONE:
+        return lesson_one(asked.book, asked.length, asked.layer, buffer, asked.lent);
+    case PLACE:
+        return lesson_place(asked.book, asked.length, asked.layer, asked.fact);
+    default:
+        return empty_call();
+    }
+}
+
+/* Runs on the painted stack. */
+static void make_call(void)
+{
+    asked.answer = answer();
+    swapcontext(&there, &here);
+}
+
+/* The bytes of stack that are touched, from its top to the lowest that has lost its paint. */
+static size_t touched(uint8_t paint)
+{
+    size_t untouched = 0;
+
+    memset(stack, paint, sizeof stack);
+    getcontext(&there);
+    there.uc_stack.ss_sp = stack;
+    there.uc_stack.ss_size = sizeof stack;
+    there.uc_link = &here;
+    makecontext(&there, make_call, 0);
+    swapcontext(&here, &there);
+    while (untouched < sizeof stack && stack[untouched] == paint)
+        untouched++;
+    return sizeof stack - untouched;
+}
+
+/* Measures the call with two paints, as it may leave one as it is. */
+static uint64_t measure(enum call call)
+{
+    static const uint8_t paints[2] = {0xA5, 0x5A};
+    size_t at;
+
+    asked.call = call;
+    for (at = 0; at < 2; at++) {
+        size_t bytes = touched(paints[at]);
+
+        if (bytes > deepest[call])
+            deepest[call] = bytes;
+    }
+    return asked.answer;
+}
+
+/* A book being written. */
+static uint8_t book[LARGEST_BOOK];
+static size_t end, rules;
+
+static void put(size_t value, unsigned bytes)
+{
+    while (bytes-- > 0)
+        book[end++] = (uint8_t)(value >> 8 * bytes);
+}
+
+/* A rule with a body of 16 literals, which are these two. */
+static void put_rule(size_t layer, size_t head, size_t one, size_t two)
+{
+    unsigned at;
+
+    put(3 + 2 * BODY, 1);
+    put(layer, 1);
+    put(head, 2);
+    for (at = 0; at < BODY; at += 2) {
+        put(one, 2);
+        put(two, 2);
+    }
+    rules++;
+}
+
+/* A fact that may stand or not from layer 1 on: a quarrel in layer 0, and above it rules that lean
+ * on themselves. A low fact stands where it does not, so that records come to be moved. */
+static void put_free(size_t fact, size_t follower)
+{
+    put_rule(0, fact, NOT | NEVER, NOT | NEVER);
+    put_rule(0, NOT | fact, NOT | NEVER, NOT | NEVER);
+    put_rule(1, fact, fact, fact);
+    put_rule(1, NOT | fact, NOT | fact, NOT | fact);
+    put_rule(1, follower, NOT | fact, NOT | fact);
+}
+
+/* 32 layers in a line, with all 496 arrows. */
+static void put_arrows(void)
+{
+    unsigned earlier, later;
+
+    put(3 * 496, 4);
+    put(496, 2);
+    for (later = 1; later < LAYERS; later++)
+        for (earlier = 0; earlier < later; earlier++) {
+            put(2, 1);
+            put(earlier, 1);
+            put(later, 1);
+        }
+}
+
+/*
+ * The largest book. So many facts branch from layer 1 on, and NEVER is the first of them; the last
+ * `free_facts` may stand or not, and the others never stand. At layer 1 few rules are relevant, at
+ * layer 31 all of them.
+ */
+static void put_largest(size_t branching, size_t free_facts)
+{
+    size_t fact;
+
+    end = rules = 0;
+    put(1, 1);
+    put(LARGEST_BOOK, 4);
+    put(FACTS, 2);
+    put(LAYERS, 1);
+    put_arrows();
+    put(RULES * (4 + 2 * BODY), 4);
+    put(RULES, 2);
+    for (fact = 0; fact < branching - free_facts; fact++)
+        put_rule(0, FACTS - 1, NOT | (NEVER + fact), FACTS - 1);
+    for (; fact < branching; fact++)
+        put_free(NEVER + fact, fact);
+    while (rules < RULES)
+        put_rule(2 + rules % (LAYERS - 2), 150 + rules % 100, NOT | NEVER, 150 + rules % 50);
+}
+
+static void lend(const uint8_t *bytes, size_t length, uint32_t layer, uint32_t fact, size_t lent)
+{
+    asked.book = bytes;
+    asked.length = length;
+    asked.layer = layer;
+    asked.fact = fact;
+    asked.lent = lent;
+}
+
+/* Every call on a book, with a state that lesson_one has left in the buffer as the candidate. The
+ * answer is that of lesson_list. */
+static uint64_t measure_every(const uint8_t *bytes, size_t length, uint32_t layer, uint32_t fact,
+                              size_t width)
+{
+    lend(bytes, length, layer, fact, sizeof buffer);
+    measure(CHECK);
+    measure(ONE);
+    asked.lent = width;
+    measure(TEST);
+    buffer[0] ^= 0x80;
+    measure(TEST);
+    asked.lent = sizeof buffer;
+    measure(PLACE);
+    return measure(LIST);
+}
+
+/* Causes 1 to 14, by all calls that give them. */
+static void measure_refusals(void)
+{
+    uint8_t damaged[sizeof B];
+    size_t at;
+
+    for (at = 0; at <= sizeof B; at++)
+        measure_every(B, at, 3, 0, 1);
+    for (at = 0; at < sizeof B; at++) {
+        memcpy(damaged, B, sizeof B);
+        damaged[at] ^= 1;
+        measure_every(damaged, sizeof B, 3, 0, 1);
+    }
+    measure_every(B, sizeof B, 4, 0, 1);
+    measure_every(B, sizeof B, 3, 3, 2);
+    lend(B, sizeof B, 3, 0, 0);
+    measure(LIST);
+    measure(ONE);
+}
+
+static uint64_t counts(uint64_t branching, uint64_t states)
+{
+    return branching << 8 | states << 16;
+}
+
+/* The largest books. Where 20 facts branch and all rules are relevant, only what ends early. */
+static void measure_largest(void)
+{
+    put_largest(21, 1);
+    expect_true("21 branching facts: list",
+                measure_every(book, end, 31, NEVER, 32) == LESSON_TOO_MANY_BRANCHING);
+    put_largest(10, 2);
+    expect_true("10 branching facts, 1,024 rules: list",
+                measure_every(book, end, 31, NEVER, 32) == counts(10, 4));
+    put_largest(11, 10);
+    expect_true("11 branching facts, 10 of them free: list",
+                measure_every(book, end, 1, NEVER, 32) == counts(11, 1024));
+    put_largest(20, 1);
+    expect_true("20 branching facts: list",
+                measure_every(book, end, 1, NEVER + 19, 32) == counts(20, 2));
+    lend(book, end, 31, NEVER + 19, sizeof buffer);
+    expect_true("largest book: check", measure(CHECK) == LESSON_GRANTED);
+    expect_true("20 branching facts, 1,024 rules: one", measure(ONE) == counts(20, 0));
+    asked.lent = 32;
+    expect_true("20 branching facts, 1,024 rules: test", lesson_is_stable(measure(TEST)));
+    expect_true("20 branching facts, 1,024 rules: place",
+                measure(PLACE) == counts(20, LESSON_IN_SOME));
+}
+
+static void expect_figure(enum call call, size_t figure)
+{
+    size_t bytes = deepest[call] - deepest[EMPTY];
+    char what[100];
+
+    printf("%s uses %zu bytes of stack, the header says %zu, and it should say %zu\n", names[call],
+           bytes, figure, (bytes + 128 + 1023) / 1024 * 1024);
+    snprintf(what, sizeof what, "%s needs no more than the header says", names[call]);
+    expect_true(what, bytes <= figure);
+    snprintf(what, sizeof what, "%s needs not much less", names[call]);
+    expect_true(what, figure <= bytes + 4096);
+}
+
+int main(void)
+{
+    measure(EMPTY);
+    measure_every(smallest, sizeof smallest, 0, 0, 1);
+    measure_refusals();
+    measure_largest();
+    expect_figure(CHECK, LESSON_CHECK_STACK);
+    expect_figure(TEST, LESSON_TEST_STACK);
+    expect_figure(LIST, LESSON_LIST_STACK);
+    expect_figure(ONE, LESSON_ONE_STACK);
+    expect_figure(PLACE, LESSON_PLACE_STACK);
+    return report();
+}
