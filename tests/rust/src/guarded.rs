@@ -29,15 +29,18 @@ const SHARED: c_int = 1;
 const PRIVATE: c_int = 2;
 const ANONYMOUS: c_int = 0x20;
 
-/// Enough for every book that is tried.
+/// Wide enough for an offset that is far from right.
+const GUARD: usize = 256 * PAGE;
+
+/// Pages enough for every book that is tried.
 const LARGE: usize = 20;
 
 /// The bytes around a slice in its pages.
 static MARKS: [u8; LARGE * PAGE] = [0xA5; LARGE * PAGE];
 
 /// New pages of zeros.
-fn map(length: usize, sharing: c_int) -> *mut u8 {
-    let (protection, flags) = (READ_AND_WRITE, sharing | ANONYMOUS);
+fn map(length: usize, protection: c_int, sharing: c_int) -> *mut u8 {
+    let flags = sharing | ANONYMOUS;
     // SAFETY: the system chooses an address that nothing else has.
     let address = unsafe { mmap(ptr::null_mut(), length, protection, flags, -1, 0) };
     assert!(address as isize != -1, "no memory");
@@ -48,7 +51,7 @@ fn map(length: usize, sharing: c_int) -> *mut u8 {
 pub fn shared_numbers<const N: usize>() -> &'static [AtomicU64; N] {
     let length = size_of::<[AtomicU64; N]>();
     // SAFETY: new pages, never unmapped, and zeros are such numbers.
-    unsafe { &*map(length, SHARED).cast() }
+    unsafe { &*map(length, READ_AND_WRITE, SHARED).cast() }
 }
 
 /// What the engine may do with a slice.
@@ -71,7 +74,7 @@ pub enum Placement {
     Heap,
 }
 
-/// Pages between two unreadable ones.
+/// Pages between unreadable ones.
 struct Pages {
     first: *mut u8,
     length: usize,
@@ -80,11 +83,10 @@ struct Pages {
 impl Pages {
     fn new(number: usize) -> Pages {
         let length = number * PAGE;
-        let whole = map(length + 2 * PAGE, PRIVATE);
-        // SAFETY: both are within what was mapped.
-        let (first, last) = unsafe { (whole.add(PAGE), whole.add(PAGE + length)) };
-        protect(whole, PAGE, NOTHING);
-        protect(last, PAGE, NOTHING);
+        let whole = map(length + 2 * GUARD, NOTHING, PRIVATE);
+        // SAFETY: within what was mapped.
+        let first = unsafe { whole.add(GUARD) };
+        protect(first, length, READ_AND_WRITE);
         Pages { first, length }
     }
 
@@ -121,7 +123,7 @@ impl Pages {
 impl Drop for Pages {
     fn drop(&mut self) {
         // SAFETY: what `new` mapped; no slice of it outlives this value.
-        unsafe { munmap(self.first.sub(PAGE).cast(), self.length + 2 * PAGE) };
+        unsafe { munmap(self.first.sub(GUARD).cast(), self.length + 2 * GUARD) };
     }
 }
 
