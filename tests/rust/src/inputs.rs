@@ -2,6 +2,7 @@
 //! must come of it. Seed and number give the input, so that one of them can be tried again alone.
 
 use crate::book::{hex, Book};
+use crate::causes::fields;
 use crate::known::{self, EVERY_FOLLOWING};
 use crate::plain;
 use crate::reader;
@@ -170,19 +171,11 @@ fn too_many_branching(rng: &mut Rng) -> Book {
     known.book
 }
 
-/// The number of facts that the book's field gives, lawful or not.
-fn facts(book: &[u8]) -> usize {
-    match book.get(5..7) {
-        Some(field) => usize::from(field[0]) << 8 | usize::from(field[1]),
-        None => 1,
-    }
-}
-
 /// Every call is asked, and so that where the book is lawful each of its own causes comes up.
 fn questions(rng: &mut Rng, book: &[u8], layer: u32) -> Vec<Asked> {
     let truth = Truth::new(book, layer);
-    let facts = facts(book);
-    let width = facts.div_ceil(8).min(40);
+    let (facts, _) = fields(book);
+    let width = facts.div_ceil(8);
     let (listed, listing) = truth.list(&[0; LONGEST_LISTING]);
     let (length, records) = match listed & 0xFF {
         0 => {
@@ -236,10 +229,10 @@ fn one(truth: &Truth, records: &[Vec<u8>], buffer: &[u8]) -> Wanted {
 
 /// A stable state where there is one, any state, and what is no state.
 fn candidates(rng: &mut Rng, facts: usize, width: usize, records: &[Vec<u8>]) -> [Vec<u8>; 3] {
-    let spare = 8 * width - facts.min(8 * width);
+    let spare = 8 * width - facts;
     let mut state = rng.bytes(width);
     if let Some(last) = state.last_mut() {
-        *last &= (0xFF00u32 >> (8 - spare.min(8))) as u8;
+        *last &= (0xFF00u32 >> (8 - spare)) as u8;
     }
     let stable = match records {
         [] => state.clone(),
@@ -247,7 +240,7 @@ fn candidates(rng: &mut Rng, facts: usize, width: usize, records: &[Vec<u8>]) ->
     };
     let mut wrong = state.clone();
     match rng.below(4) {
-        0 if spare > 0 => wrong[width - 1] |= 1 << rng.below(spare.min(8)),
+        0 if spare > 0 => wrong[width - 1] |= 1 << rng.below(spare),
         1 => wrong.push(0),
         2 => wrong.clear(),
         _ => wrong.truncate(width.saturating_sub(1)),

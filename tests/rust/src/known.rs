@@ -276,6 +276,17 @@ pub fn quarrelled(known: Known) -> Known {
     }
 }
 
+/// Books with more than 20 branching facts, on both grounds, with states and without.
+pub fn too_many_branching() -> [Known; 5] {
+    [
+        pairs(10, 1),
+        displacing_pairs(10, 1),
+        single(21, true),
+        quarrelled(pairs(11, 0)),
+        pairs(128, 0),
+    ]
+}
+
 /// A small book's facts under other numbers among `atoms`, and facts that follow them over plain
 /// bodies. The small book's states are the oracle's.
 pub fn spread(rng: &mut Rng, small: &Book, layer: u8, atoms: u16) -> Known {

@@ -1,13 +1,16 @@
 //! What the tests and the benchmark of the compiled lesson engine share.
 //!
 //! `reader` and `oracle` are written from document 01 alone and share nothing with the engine.
-//! `expected` has the answers that follow from them.
+//! `expected` has the answers that follow from them. Only `ffi`, `guarded` and `child`, which wrap
+//! C calls, have `unsafe`.
 
 #![deny(unsafe_code)]
 
 pub mod book;
+pub mod causes;
 #[allow(unsafe_code)]
 pub mod child;
+pub mod examples;
 pub mod expected;
 #[allow(unsafe_code)]
 pub mod ffi;

@@ -31,6 +31,22 @@ pub fn book_b() -> Book {
 /// find.
 pub const NO_LAYERS: [u32; 8] = [32, 255, 256, 257, 65_536, 1 << 31, u32::MAX - 255, u32::MAX];
 
+/// A book of at most 32 unrelated layers in each of which another state is stable.
+pub fn state_in_each_layer(atoms: u16, layers: u8) -> Book {
+    let mut book = Book::new(atoms, layers);
+    for layer in 0..layers {
+        for atom in (0..5).filter(|&atom| stands_in_layer(layer, atom)) {
+            book = book.rule(layer, plain(atom), &[]);
+        }
+    }
+    book
+}
+
+/// Whether a fact stands in that state: the first five facts are the layer's number.
+pub fn stands_in_layer(layer: u8, atom: u16) -> bool {
+    atom < 5 && layer >> atom & 1 == 1
+}
+
 /// One fact, one layer, no records: 20 bytes.
 pub fn smallest() -> Book {
     Book::new(1, 1)

@@ -2,14 +2,15 @@
 //! and against document 01's numbers.
 
 use lesson_tests::book::{hex, not, plain, Book};
-use lesson_tests::expected::{self, counts, yes_or_no, BUFFER_TOO_SHORT};
+use lesson_tests::causes::{every_set, AnyBytes};
+use lesson_tests::examples;
+use lesson_tests::expected::{counts, yes_or_no, BUFFER_TOO_SHORT};
 use lesson_tests::ffi;
 use lesson_tests::known::{self, Following, Known, EVERY_FOLLOWING};
 use lesson_tests::oracle::{self, Driven};
-use lesson_tests::plain as plain_rust;
-use lesson_tests::reader;
 use lesson_tests::rng::{seed, Rng};
 use lesson_tests::shapes::{self, Layering, B, NO_LAYERS};
+use lesson_tests::truth::Truth;
 use std::thread;
 
 const P: u16 = 0;
@@ -499,137 +500,58 @@ fn example_self_arrow_and_257_facts() {
 /// The starred examples, whose listings are proved of the definitions, by the compiled call.
 #[test]
 fn starred_examples_have_the_listings_of_document_01() {
-    let above = |atoms| Book::new(atoms, 2).arrow(0, 1);
-    let two_layers_below = Book::new(1, 3).arrow(0, 2).arrow(1, 2);
-    let b = shapes::book_b;
-    let one = || Book::new(1, 1);
-    let choice = Book::new(2, 1)
-        .rule(0, plain(P), &[not(Q)])
-        .rule(0, plain(Q), &[not(P)]);
-    let quarrel = |book: Book| book.rule(0, plain(P), &[]).rule(0, not(P), &[]);
-    let examples: [(Book, u32, &[u8], usize); 11] = [
-        (b(), 3, &[0x20], 2),
-        (b(), 1, &[0xA0], 1),
-        (b(), 2, &[0x80], 2),
-        (choice, 0, &[0x40, 0x80], 2),
-        (one().rule(0, plain(P), &[not(P)]), 0, &[], 1),
-        (quarrel(one()), 0, &[], 0),
-        (one().rule(0, plain(P), &[plain(P)]), 0, &[0x00], 0),
-        (
-            two_layers_below.rule(0, plain(P), &[]).rule(1, not(P), &[]),
-            2,
-            &[],
-            0,
-        ),
-        (
-            above(2)
-                .rule(0, plain(P), &[])
-                .rule(0, plain(Q), &[])
-                .rule(1, not(P), &[plain(Q)])
-                .rule(1, not(Q), &[plain(P)]),
-            1,
-            &[0x40, 0x80],
-            2,
-        ),
-        (
-            above(1).rule(0, plain(P), &[]).rule(1, not(P), &[not(P)]),
-            1,
-            &[0x80],
-            1,
-        ),
-        (
-            quarrel(above(1)).rule(1, plain(P), &[plain(P)]),
-            1,
-            &[0x80],
-            1,
-        ),
-    ];
-    for (at, (book, layer, records, branching)) in examples.iter().enumerate() {
-        let records: Vec<Vec<u8>> = records.iter().map(|&byte| vec![byte]).collect();
-        let listing = oracle::listing(book.atoms, &records);
-        let expected = outcome(&listing, counts(*branching, records.len()), &[7; 20]);
+    for (at, example) in examples::starred().iter().enumerate() {
+        let records: Vec<Vec<u8>> = example.records.iter().map(|&byte| vec![byte]).collect();
+        let listing = oracle::listing(example.book.atoms, &records);
+        let answer = counts(example.branching, records.len());
+        let expected = outcome(&listing, answer, &[7; 20]);
+        let (bytes, layer) = (example.book.bytes(), example.layer.into());
         let what = format!("starred example {at}");
-        assert_outcome(&what, &book.bytes(), *layer, &[7; 20], &expected);
-    }
-}
-
-/// What the call comes to by reader and oracle, or by plain Rust where the book is too large for
-/// the oracle.
-fn outcome_of_any(book: &[u8], layer: u32, buffer: &[u8]) -> ffi::Outcome {
-    match reader::read(book) {
-        Ok(read) if read.atoms > 10 => {
-            let mut after = buffer.to_vec();
-            let answer = plain_rust::list(book, layer, &mut after);
-            (answer, after)
-        }
-        _ => expected::list(book, layer, buffer),
+        assert_outcome(&what, &bytes, layer, &[7; 20], &expected);
     }
 }
 
 #[test]
 fn any_bytes_come_to_what_reader_and_oracle_say() {
-    let seed = seed();
-    let mut rng = Rng::named(seed, "list, any call");
-    let mut tally = [0; 14];
-    let mut books = 0;
-    for (shape, generate) in shapes::EVERY_SHAPE {
-        let number = match shape.starts_with("large") {
-            true => 150,
-            false => 2_000,
-        };
-        for index in 0..number {
-            let bytes = shapes::quick(&mut rng, generate);
-            let layers = usize::from(bytes.get(7).copied().unwrap_or(1));
-            let layer = match rng.chance(85) {
-                true => rng.below(layers.max(1)) as u32,
-                false => rng
-                    .pick(&NO_LAYERS)
-                    .min(layers as u32 + rng.below(3) as u32),
-            };
-            let length = rng.pick(&[0, 11, 12, 13, 20, 50, 200]);
-            let buffer = rng.bytes(length);
-            let what = format!("seed {seed}, {shape}, book {index}");
-            let expected = outcome_of_any(&bytes, layer, &buffer);
-            assert_outcome(&what, &bytes, layer, &buffer, &expected);
-            tally[(expected.0 & 0xFF) as usize] += 1;
-        }
-        books += number;
-    }
-    println!("seed {seed}, list, any call: {books} books, answers 0 to 13: {tally:?}");
-    for answer in [0, 1, 2, 3, 4, 5, 6, 7, 8, 9, 12, 13] {
-        assert!(tally[answer] >= 100, "{answer} is rare: {tally:?}");
-    }
-    assert_eq!(tally[10] + tally[11], 0);
+    let any_bytes = AnyBytes {
+        name: "list, any call",
+        large: 150,
+        other: 2_000,
+        given: &[0, 1, 2, 3, 4, 5, 6, 7, 8, 9, 12, 13],
+        least: 100,
+    };
+    any_bytes.ask(shapes::quick, |rng, what, bytes| {
+        let layer = shapes::any_layer(rng, bytes);
+        let length = rng.pick(&[0, 11, 12, 13, 20, 50, 200]);
+        let buffer = rng.bytes(length);
+        let expected = Truth::new(bytes, layer).list(&buffer);
+        assert_outcome(what, bytes, layer, &buffer, &expected);
+        expected.0 & 0xFF
+    });
 }
 
-/// Bits 0 to 7 of `causes` for causes 1 to 8, then 9, 12 and 13.
 #[test]
 fn of_several_causes_the_smallest_is_given() {
-    const CAUSES: [u64; 11] = [1, 2, 3, 4, 5, 6, 7, 8, 9, 12, 13];
     let seed = seed();
     let mut rng = Rng::named(seed, "list, smallest cause");
     let few = known::displacing_pairs(2, 0);
     let many = known::displacing_pairs(10, 1);
-    for causes in 0..1 << CAUSES.len() {
-        let wanted = |at: usize| causes >> at & 1 == 1;
+    for causes in every_set(&[1, 2, 3, 4, 5, 6, 7, 8, 9, 12, 13]) {
         for _ in 0..3 {
-            let known = if wanted(9) { &many } else { &few };
-            let bytes = shapes::broken(&mut rng, &known.book, causes as u8);
-            let layer = match wanted(8) {
-                true => rng.pick(&NO_LAYERS),
-                false => known.layer.into(),
-            };
+            let known = if causes.has(12) { &many } else { &few };
+            let bytes = shapes::broken(&mut rng, &known.book, causes.of_the_book());
+            let layer = causes.layer(&mut rng, known.layer);
             let listing = few.listing();
-            let length = match wanted(10) {
+            let length = match causes.has(13) {
                 true => rng.below(listing.len()),
                 false => listing.len() + rng.below(9),
             };
             let buffer = rng.bytes(length);
-            let expected = match (0..CAUSES.len()).find(|&at| wanted(at)) {
-                Some(smallest) => (CAUSES[smallest], buffer.clone()),
+            let expected = match causes.smallest() {
+                Some(smallest) => (smallest, buffer.clone()),
                 None => outcome(&listing, few.answer(), &buffer),
             };
-            let what = format!("seed {seed}, causes {causes:011b}");
+            let what = format!("seed {seed}, {causes}");
             assert_outcome(&what, &bytes, layer, &buffer, &expected);
         }
     }
@@ -638,16 +560,12 @@ fn of_several_causes_the_smallest_is_given() {
 #[test]
 fn layers_of_the_book_are_listed_and_all_others_are_refused_9() {
     for layers in [1, 2, 31, 32] {
-        let mut book = Book::new(6, layers);
+        let bytes = shapes::state_in_each_layer(6, layers).bytes();
         for layer in 0..layers {
-            for atom in (0..5).filter(|atom| layer >> atom & 1 == 1) {
-                book = book.rule(layer, plain(atom), &[]);
-            }
-        }
-        let bytes = book.bytes();
-        for layer in 0..layers {
-            let record = (0..5).fold(0, |record, atom| record | (layer >> atom & 1) << (7 - atom));
-            let listing = oracle::listing(6, &[vec![record]]);
+            let state: Vec<bool> = (0..6)
+                .map(|atom| shapes::stands_in_layer(layer, atom))
+                .collect();
+            let listing = oracle::listing(6, &[oracle::record(&state)]);
             let expected = outcome(&listing, counts(0, 1), &[7; 14]);
             assert_outcome("a layer", &bytes, layer.into(), &[7; 14], &expected);
         }

@@ -2,14 +2,15 @@
 //! everything else is as document 01 says.
 
 use lesson_tests::book::{hex, not, plain, Book};
+use lesson_tests::causes::{every_set, AnyBytes};
 use lesson_tests::expected::{self, branching, BUFFER_TOO_SHORT, NO_STABLE_STATE};
 use lesson_tests::ffi;
 use lesson_tests::known::{self, Known};
 use lesson_tests::oracle::{self, Driven};
-use lesson_tests::plain as plain_rust;
 use lesson_tests::reader;
 use lesson_tests::rng::{seed, Rng};
-use lesson_tests::shapes::{self, Layering, B, NO_LAYERS};
+use lesson_tests::shapes::{self, Layering, B};
+use lesson_tests::truth::Truth;
 use std::thread;
 
 /// The engine's outcome on fenced copies is the refusal, with every byte as it was; or the answer,
@@ -46,29 +47,13 @@ fn assert_outcome(
 /// there is a state, and the oracle whether the one handed out is stable. The cause is returned,
 /// or 0.
 fn agree(what: &str, book: &[u8], layer: u32, buffer: &[u8]) -> u64 {
-    let (expected, records) = match reader::read(book) {
-        Ok(read) if read.atoms > 10 => {
-            let answer = plain_rust::one(book, layer, &mut buffer.to_vec());
-            let granted = answer & 0xFF == 0;
-            (if granted { Ok(answer) } else { Err(answer) }, None)
-        }
-        _ => match expected::one(book, layer, buffer.len()) {
-            Ok((answer, records)) => (Ok(answer), Some(records)),
-            Err(cause) => (Err(cause), None),
-        },
-    };
-    assert_outcome(
-        what,
-        book,
-        layer,
-        buffer,
-        expected,
-        |record| match &records {
-            Some(records) => records.iter().any(|other| other == record),
-            None => expected::test(book, layer, record) == expected::yes_or_no(true),
-        },
-    );
-    expected.err().unwrap_or(0)
+    let answer = Truth::new(book, layer).one(buffer);
+    let cause = answer & 0xFF;
+    let expected = if cause == 0 { Ok(answer) } else { Err(cause) };
+    assert_outcome(what, book, layer, buffer, expected, |record| {
+        expected::test(book, layer, record) == expected::yes_or_no(true)
+    });
+    cause
 }
 
 /// Compares engine and oracle at every layer of `number` books, with buffers from none to a record
@@ -235,13 +220,7 @@ fn twenty_branching_facts_are_searched_to_the_end() {
 
 #[test]
 fn more_than_twenty_branching_facts_are_refused_12() {
-    for known in [
-        known::pairs(10, 1),
-        known::displacing_pairs(10, 1),
-        known::single(21, true),
-        known::quarrelled(known::pairs(11, 0)),
-        known::pairs(128, 0),
-    ] {
+    for known in known::too_many_branching() {
         for length in [0, 1, 2, 3, 40] {
             let what = format!("g = {}", known.branching);
             let buffer = vec![7; length];
@@ -307,69 +286,42 @@ fn a_state_of_the_largest_lawful_books_is_handed_out() {
 
 #[test]
 fn any_bytes_come_to_what_reader_and_oracle_say() {
-    let seed = seed();
-    let mut rng = Rng::named(seed, "one, any call");
-    let mut tally = [0; 15];
-    let mut books = 0;
-    for (shape, generate) in shapes::EVERY_SHAPE {
-        let number = match shape.starts_with("large") {
-            true => 150,
-            false => 1_500,
-        };
-        for index in 0..number {
-            let bytes = shapes::quick(&mut rng, generate);
-            let layers = usize::from(bytes.get(7).copied().unwrap_or(1));
-            let layer = match rng.chance(85) {
-                true => rng.below(layers.max(1)) as u32,
-                false => rng
-                    .pick(&NO_LAYERS)
-                    .min(layers as u32 + rng.below(3) as u32),
-            };
-            let length = rng.pick(&[0, 1, 1, 2, 40]);
-            let buffer = rng.bytes(length);
-            let what = format!("seed {seed}, {shape}, book {index}");
-            tally[agree(&what, &bytes, layer, &buffer) as usize] += 1;
-        }
-        books += number;
-    }
-    println!("seed {seed}, one, any call: {books} books, answers 0 to 14: {tally:?}");
-    for answer in [0, 1, 2, 3, 4, 5, 6, 7, 8, 9, 12, 13, 14] {
-        assert!(tally[answer] >= 50, "{answer} is rare: {tally:?}");
-    }
-    assert_eq!(tally[10] + tally[11], 0);
+    let any_bytes = AnyBytes {
+        name: "one, any call",
+        large: 150,
+        other: 1_500,
+        given: &[0, 1, 2, 3, 4, 5, 6, 7, 8, 9, 12, 13, 14],
+        least: 50,
+    };
+    any_bytes.ask(shapes::quick, |rng, what, bytes| {
+        let layer = shapes::any_layer(rng, bytes);
+        let length = rng.pick(&[0, 1, 1, 2, 40]);
+        agree(what, bytes, layer, &rng.bytes(length))
+    });
 }
 
-/// Bits 0 to 7 of `causes` for causes 1 to 8, then 9, 12, 13 and 14.
 #[test]
 fn of_several_causes_the_smallest_is_given() {
-    const CAUSES: [u64; 12] = [1, 2, 3, 4, 5, 6, 7, 8, 9, 12, 13, 14];
     let seed = seed();
     let mut rng = Rng::named(seed, "one, smallest cause");
-    for causes in 0..1 << CAUSES.len() {
-        let wanted = |at: usize| causes >> at & 1 == 1;
-        let mut known = match wanted(9) {
+    for causes in every_set(&[1, 2, 3, 4, 5, 6, 7, 8, 9, 12, 13, 14]) {
+        let mut known = match causes.has(12) {
             true => known::displacing_pairs(10, 1),
             false => known::displacing_pairs(2, 0),
         };
         known.book.atoms = 22;
-        if wanted(11) {
+        if causes.has(14) {
             known = known::quarrelled(known);
         }
-        let bytes = shapes::broken(&mut rng, &known.book, causes as u8);
-        let layer = match wanted(8) {
-            true => rng.pick(&NO_LAYERS),
-            false => known.layer.into(),
-        };
-        let length = match wanted(10) {
+        let bytes = shapes::broken(&mut rng, &known.book, causes.of_the_book());
+        let layer = causes.layer(&mut rng, known.layer);
+        let length = match causes.has(13) {
             true => rng.below(3),
             false => rng.range(3, 9),
         };
         let buffer = rng.bytes(length);
-        let expected = match (0..CAUSES.len()).find(|&at| wanted(at)) {
-            Some(smallest) => Err(CAUSES[smallest]),
-            None => Ok(branching(4)),
-        };
-        let what = format!("seed {seed}, causes {causes:012b}");
+        let expected = causes.smallest().map_or(Ok(branching(4)), Err);
+        let what = format!("seed {seed}, {causes}");
         assert_outcome(&what, &bytes, layer, &buffer, expected, |record| {
             let driven = Driven::new(&known.book, known.layer);
             oracle::state(record, 22).is_some_and(|state| driven.stable(&state))

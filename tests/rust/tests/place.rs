@@ -2,14 +2,14 @@
 //! and against document 01's numbers.
 
 use lesson_tests::book::{hex, not, plain, Book};
-use lesson_tests::expected::{self, place_of, NO_STABLE_STATE, NO_SUCH_FACT};
+use lesson_tests::causes::{every_set, fields, AnyBytes};
+use lesson_tests::expected::{place_of, NO_STABLE_STATE, NO_SUCH_FACT};
 use lesson_tests::ffi;
 use lesson_tests::known::{self, Known, EVERY_FOLLOWING};
 use lesson_tests::oracle::Driven;
-use lesson_tests::plain as plain_rust;
-use lesson_tests::reader;
 use lesson_tests::rng::{seed, Rng};
 use lesson_tests::shapes::{self, Layering, B, NO_LAYERS};
+use lesson_tests::truth::Truth;
 use std::thread;
 
 /// What to add to a fact's number so that only a part of it is the fact.
@@ -172,13 +172,7 @@ fn twenty_branching_facts_are_searched_to_the_end() {
 
 #[test]
 fn more_than_twenty_branching_facts_are_refused_12_and_no_fact_11_before() {
-    for known in [
-        known::pairs(10, 1),
-        known::displacing_pairs(10, 1),
-        known::single(21, true),
-        known::quarrelled(known::pairs(11, 0)),
-        known::pairs(128, 0),
-    ] {
+    for known in known::too_many_branching() {
         let bytes = known.book.bytes();
         let layer = known.layer.into();
         let atoms = u32::from(known.book.atoms);
@@ -211,17 +205,12 @@ fn a_book_without_states_is_refused_14_for_each_fact_and_only_then() {
 #[test]
 fn layers_of_the_book_are_driven_and_all_others_are_refused_9() {
     for layers in [1, 2, 31, 32] {
-        let mut book = Book::new(5, layers);
-        for layer in 0..layers {
-            for atom in (0..5).filter(|atom| layer >> atom & 1 == 1) {
-                book = book.rule(layer, plain(atom), &[]);
-            }
-        }
-        let bytes = book.bytes();
+        let bytes = shapes::state_in_each_layer(5, layers).bytes();
         for layer in 0..layers {
             for fact in 0..5 {
-                let place = place_of(0, (layer >> fact & 1).into(), 1);
-                assert_answer("a layer", &bytes, layer.into(), fact, place);
+                let stands = shapes::stands_in_layer(layer, fact);
+                let place = place_of(0, stands.into(), 1);
+                assert_answer("a layer", &bytes, layer.into(), fact.into(), place);
             }
         }
         for layer in NO_LAYERS.into_iter().chain([layers.into()]) {
@@ -258,75 +247,47 @@ fn facts_of_the_largest_lawful_books_are_placed() {
 
 #[test]
 fn any_bytes_are_answered_as_by_reader_and_oracle() {
-    let seed = seed();
-    let mut rng = Rng::named(seed, "place, any call");
-    let mut tally = [0; 15];
-    let mut books = 0;
-    for (shape, generate) in shapes::EVERY_SHAPE {
-        let number = match shape.starts_with("large") {
-            true => 150,
-            false => 1_500,
+    let any_bytes = AnyBytes {
+        name: "place, any call",
+        large: 150,
+        other: 1_500,
+        given: &[0, 1, 2, 3, 4, 5, 6, 7, 8, 9, 11, 12, 14],
+        least: 50,
+    };
+    any_bytes.ask(shapes::quick, |rng, what, bytes| {
+        let layer = shapes::any_layer(rng, bytes);
+        let (facts, _) = fields(bytes);
+        let fact = match rng.chance(80) {
+            true => rng.below(facts.max(1)) as u32,
+            false => facts as u32 + rng.pick(&[0, 1, 256, 65_536]),
         };
-        for index in 0..number {
-            let bytes = shapes::quick(&mut rng, generate);
-            let field = |at: usize| usize::from(bytes.get(at).copied().unwrap_or(1));
-            let layer = match rng.chance(85) {
-                true => rng.below(field(7).max(1)) as u32,
-                false => rng
-                    .pick(&NO_LAYERS)
-                    .min(field(7) as u32 + rng.below(3) as u32),
-            };
-            let facts = field(5) % 2 * 256 + field(6);
-            let fact = match rng.chance(80) {
-                true => rng.below(facts.max(1)) as u32,
-                false => facts as u32 + rng.pick(&[0, 1, 256, 65_536]),
-            };
-            let expected = match reader::read(&bytes) {
-                Ok(book) if book.atoms > 10 => plain_rust::place(&bytes, layer, fact),
-                _ => expected::place(&bytes, layer, fact),
-            };
-            let what = format!("seed {seed}, {shape}, book {index}");
-            assert_answer(&what, &bytes, layer, fact, expected);
-            tally[(expected & 0xFF) as usize] += 1;
-        }
-        books += number;
-    }
-    println!("seed {seed}, place, any call: {books} books, answers 0 to 14: {tally:?}");
-    for answer in [0, 1, 2, 3, 4, 5, 6, 7, 8, 9, 11, 12, 14] {
-        assert!(tally[answer] >= 50, "{answer} is rare: {tally:?}");
-    }
-    assert_eq!(tally[10] + tally[13], 0);
+        let expected = Truth::new(bytes, layer).place(fact);
+        assert_answer(what, bytes, layer, fact, expected);
+        expected & 0xFF
+    });
 }
 
-/// Bits 0 to 7 of `causes` for causes 1 to 8, then 9, 11, 12 and 14.
 #[test]
 fn of_several_causes_the_smallest_is_given() {
-    const CAUSES: [u64; 12] = [1, 2, 3, 4, 5, 6, 7, 8, 9, 11, 12, 14];
     let seed = seed();
     let mut rng = Rng::named(seed, "place, smallest cause");
-    for causes in 0..1 << CAUSES.len() {
-        let wanted = |at: usize| causes >> at & 1 == 1;
-        let mut known = match wanted(10) {
+    for causes in every_set(&[1, 2, 3, 4, 5, 6, 7, 8, 9, 11, 12, 14]) {
+        let mut known = match causes.has(12) {
             true => known::displacing_pairs(10, 1),
             false => known::displacing_pairs(2, 0),
         };
-        if wanted(11) {
+        if causes.has(14) {
             known = known::quarrelled(known);
         }
-        let bytes = shapes::broken(&mut rng, &known.book, causes as u8);
-        let layer = match wanted(8) {
-            true => rng.pick(&NO_LAYERS),
-            false => known.layer.into(),
-        };
-        let fact = match wanted(9) {
+        let bytes = shapes::broken(&mut rng, &known.book, causes.of_the_book());
+        let layer = causes.layer(&mut rng, known.layer);
+        let fact = match causes.has(11) {
             true => rng.pick(&[known.book.atoms.into(), 256, 65_536, u32::MAX]),
             false => rng.below(4) as u32,
         };
-        let expected = match (0..CAUSES.len()).find(|&at| wanted(at)) {
-            Some(smallest) => CAUSES[smallest],
-            None => known.places()[fact as usize],
-        };
-        let what = format!("seed {seed}, causes {causes:012b}");
+        let granted = || known.places()[fact as usize];
+        let expected = causes.smallest().unwrap_or_else(granted);
+        let what = format!("seed {seed}, {causes}");
         assert_answer(&what, &bytes, layer, fact, expected);
     }
 }

@@ -1,6 +1,8 @@
 //! `lesson_test` of the compiled archive against the oracle and against document 01's numbers.
 
 use lesson_tests::book::{hex, not, plain, Book, Literal};
+use lesson_tests::causes::{every_set, fields, AnyBytes};
+use lesson_tests::examples;
 use lesson_tests::expected::{self, yes_or_no};
 use lesson_tests::ffi;
 use lesson_tests::misreadings::{self, Misread, Misreading, Misreading::*};
@@ -284,61 +286,13 @@ fn a_fact_reached_with_both_signs_is_in_no_stable_state() {
 
 #[test]
 fn starred_examples_have_the_states_of_document_01_and_no_others() {
-    let one = || Book::new(1, 1);
-    let two = || Book::new(2, 1);
-    let above = |atoms| Book::new(atoms, 2).arrow(0, 1);
-    let examples: [(Book, u8, &[u8]); 11] = [
-        (shapes::book_b(), 3, &[0x20]),
-        (shapes::book_b(), 1, &[0xA0]),
-        (shapes::book_b(), 2, &[0x80]),
-        (
-            two()
-                .rule(0, plain(P), &[not(Q)])
-                .rule(0, plain(Q), &[not(P)]),
-            0,
-            &[0x40, 0x80],
-        ),
-        (one().rule(0, plain(P), &[not(P)]), 0, &[]),
-        (one().rule(0, plain(P), &[]).rule(0, not(P), &[]), 0, &[]),
-        (one().rule(0, plain(P), &[plain(P)]), 0, &[0x00]),
-        (
-            Book::new(1, 3)
-                .arrow(0, 2)
-                .arrow(1, 2)
-                .rule(0, plain(P), &[])
-                .rule(1, not(P), &[]),
-            2,
-            &[],
-        ),
-        (
-            above(2)
-                .rule(0, plain(P), &[])
-                .rule(0, plain(Q), &[])
-                .rule(1, not(P), &[plain(Q)])
-                .rule(1, not(Q), &[plain(P)]),
-            1,
-            &[0x40, 0x80],
-        ),
-        (
-            above(1).rule(0, plain(P), &[]).rule(1, not(P), &[not(P)]),
-            1,
-            &[0x80],
-        ),
-        (
-            above(1)
-                .rule(0, plain(P), &[])
-                .rule(0, not(P), &[])
-                .rule(1, plain(P), &[plain(P)]),
-            1,
-            &[0x80],
-        ),
-    ];
-    for (at, (book, layer, records)) in examples.iter().enumerate() {
-        for state in states(book.atoms) {
+    for (at, example) in examples::starred().iter().enumerate() {
+        let (bytes, layer) = (example.book.bytes(), example.layer.into());
+        for state in states(example.book.atoms) {
             let record = oracle::record(&state);
-            let answer = yes_or_no(records.contains(&record[0]));
+            let answer = yes_or_no(example.records.contains(&record[0]));
             let what = format!("starred example {at}");
-            assert_answer(&what, &book.bytes(), (*layer).into(), &record, answer);
+            assert_answer(&what, &bytes, layer, &record, answer);
         }
     }
 }
@@ -424,16 +378,11 @@ fn each_fact_of_a_candidate_counts() {
 #[test]
 fn layers_of_the_book_are_driven_and_all_others_are_refused_9() {
     for layers in [1, 2, 4, 31, 32] {
-        let mut book = Book::new(5, layers);
-        // In each layer another state is stable.
+        let bytes = shapes::state_in_each_layer(5, layers).bytes();
         for layer in 0..layers {
-            for atom in (0..5).filter(|atom| layer >> atom & 1 == 1) {
-                book = book.rule(layer, plain(atom), &[]);
-            }
-        }
-        let bytes = book.bytes();
-        for layer in 0..layers {
-            let own: Vec<bool> = (0..5).map(|atom| layer >> atom & 1 == 1).collect();
+            let own: Vec<bool> = (0..5)
+                .map(|atom| shapes::stands_in_layer(layer, atom))
+                .collect();
             let other: Vec<bool> = own.iter().map(|stands| !stands).collect();
             for (state, answer) in [(own, yes_or_no(true)), (other, yes_or_no(false))] {
                 let record = oracle::record(&state);
@@ -476,55 +425,43 @@ fn any_call(rng: &mut Rng, atoms: usize, layers: usize) -> (u32, Vec<u8>) {
 
 #[test]
 fn any_bytes_are_answered_as_by_reader_and_oracle() {
-    let seed = seed();
-    let mut rng = Rng::named(seed, "any call");
-    let mut tally = [0; 12];
-    let mut books = 0;
-    for (shape, generate) in shapes::EVERY_SHAPE {
-        let number = match shape.starts_with("large") {
-            true => 100,
-            false => 3_000,
-        };
-        for index in 0..number {
-            let bytes = generate(&mut rng);
-            // A damaged book's fields are what a host would go by.
-            let field = |at: usize| usize::from(bytes.get(at).copied().unwrap_or(1));
-            let (layer, candidate) = any_call(&mut rng, field(5) % 2 * 256 + field(6), field(7));
-            let what = format!("seed {seed}, {shape}, book {index}");
-            let answer = agree(&what, &bytes, layer, &candidate);
-            tally[if answer == yes_or_no(true) {
-                11
-            } else {
-                answer as usize
-            }] += 1;
-        }
-        books += number;
-    }
-    println!("seed {seed}, any call: {books} books, answers 0 (no) to 10, and yes: {tally:?}");
-    for (answer, &times) in tally.iter().enumerate() {
-        assert!(times >= 100, "{answer} is rare: {tally:?}");
-    }
+    let any_bytes = AnyBytes {
+        name: "any call",
+        large: 100,
+        other: 3_000,
+        given: &[0, 1, 2, 3, 4, 5, 6, 7, 8, 9, 10],
+        least: 100,
+    };
+    let (mut yes, mut no) = (0, 0);
+    any_bytes.ask(
+        |rng, generate| generate(rng),
+        |rng, what, bytes| {
+            let (facts, layers) = fields(bytes);
+            let (layer, candidate) = any_call(rng, facts, layers);
+            let answer = agree(what, bytes, layer, &candidate);
+            yes += usize::from(answer == yes_or_no(true));
+            no += usize::from(answer == yes_or_no(false));
+            answer & 0xFF
+        },
+    );
+    assert!(yes >= 100 && no >= 100, "yes {yes} times, no {no} times");
 }
 
-/// Bit c - 1 of `causes` for cause c, 9 and 10 among them.
 #[test]
 fn of_several_causes_the_smallest_is_given() {
     let seed = seed();
     let mut rng = Rng::named(seed, "test, smallest cause");
-    for causes in 1..1024u32 {
-        let smallest = u64::from(causes.trailing_zeros()) + 1;
+    for causes in every_set(&[1, 2, 3, 4, 5, 6, 7, 8, 9, 10]).skip(1) {
+        let smallest = causes.smallest().expect("a cause");
         for _ in 0..10 {
-            let bytes = shapes::with_causes(&mut rng, causes as u8);
-            let what = format!("seed {seed}, causes {causes:010b}");
+            let bytes = shapes::with_causes(&mut rng, causes.of_the_book());
+            let what = format!("seed {seed}, {causes}");
             let atoms = reader::read(&bytes).map_or(3, |book| book.atoms);
             let right = usize::from(atoms).div_ceil(8);
-            let layer = match causes >> 8 & 1 {
-                0 => 0,
-                _ => rng.pick(&NO_LAYERS),
-            };
-            let candidate = match (causes >> 9 & 1, atoms % 8) {
-                (0, _) => vec![0; right],
-                (_, 0) => vec![0; right + 1],
+            let layer = causes.layer(&mut rng, 0);
+            let candidate = match (causes.has(10), atoms % 8) {
+                (false, _) => vec![0; right],
+                (true, 0) => vec![0; right + 1],
                 _ => rng.pick(&[&[][..], &[0xFF], &[0; 9]]).to_vec(),
             };
             assert_answer(&what, &bytes, layer, &candidate, smallest);

@@ -1,0 +1,98 @@
+//! Sets of causes, and counts of them: what the tests of several calls share.
+
+use crate::rng::{seed, Rng};
+use crate::shapes::{EVERY_SHAPE, NO_LAYERS};
+use std::fmt;
+
+/// Some of the causes 1 to 14. Bit c - 1 is for cause c.
+#[derive(Clone, Copy)]
+pub struct Causes(u16);
+
+/// Every set of these causes, the empty one first.
+pub fn every_set(causes: &[u64]) -> impl Iterator<Item = Causes> {
+    let all = causes.iter().fold(0, |all, cause| all | 1 << (cause - 1));
+    (0..1u16 << 14)
+        .filter(move |set| set & !all == 0)
+        .map(Causes)
+}
+
+impl Causes {
+    pub fn has(self, cause: u64) -> bool {
+        self.0 >> (cause - 1) & 1 == 1
+    }
+
+    pub fn smallest(self) -> Option<u64> {
+        (1..=14).find(|&cause| self.has(cause))
+    }
+
+    /// Those of the book, causes 1 to 8, as `shapes::broken` takes them.
+    pub fn of_the_book(self) -> u8 {
+        self.0 as u8
+    }
+
+    /// The right layer, or one for cause 9.
+    pub fn layer(self, rng: &mut Rng, right: u8) -> u32 {
+        match self.has(9) {
+            true => rng.pick(&NO_LAYERS),
+            false => right.into(),
+        }
+    }
+}
+
+impl fmt::Display for Causes {
+    fn fmt(&self, f: &mut fmt::Formatter) -> fmt::Result {
+        let causes: Vec<u64> = (1..=14).filter(|&cause| self.has(cause)).collect();
+        write!(f, "causes {causes:?}")
+    }
+}
+
+/// How many books of every shape a call is asked about, and what it may answer.
+pub struct AnyBytes<'a> {
+    /// Names the books' stream.
+    pub name: &'a str,
+    pub large: usize,
+    pub other: usize,
+    /// The causes that must come up, 0 for none, each `least` times; no others may.
+    pub given: &'a [usize],
+    pub least: usize,
+}
+
+/// A book of a shape, from its generator.
+type Take = fn(&mut Rng, fn(&mut Rng) -> Vec<u8>) -> Vec<u8>;
+
+impl AnyBytes<'_> {
+    /// Asks a call about books of every shape. `ask` takes what to say in a message and the book,
+    /// and gives the cause, or 0.
+    pub fn ask(&self, take: Take, mut ask: impl FnMut(&mut Rng, &str, &[u8]) -> u64) {
+        let (seed, name) = (seed(), self.name);
+        let mut rng = Rng::named(seed, name);
+        let mut tally = [0; 15];
+        let mut books = 0;
+        for (shape, generate) in EVERY_SHAPE {
+            let number = match shape.starts_with("large") {
+                true => self.large,
+                false => self.other,
+            };
+            for index in 0..number {
+                let bytes = take(&mut rng, generate);
+                let what = format!("seed {seed}, {shape}, book {index}");
+                tally[ask(&mut rng, &what, &bytes) as usize] += 1;
+            }
+            books += number;
+        }
+        println!("seed {seed}, {name}: {books} books, answers 0 to 14: {tally:?}");
+        for (cause, &times) in tally.iter().enumerate() {
+            let enough = match self.given.contains(&cause) {
+                true => times >= self.least,
+                false => times == 0,
+            };
+            assert!(enough, "{cause}, {times} times: {tally:?}");
+        }
+    }
+}
+
+/// The facts and the layers that a book's fields give, lawful or not: what a host would go by.
+pub fn fields(book: &[u8]) -> (usize, usize) {
+    let field = |at: usize| usize::from(book.get(at).copied().unwrap_or(1));
+    (field(5) % 2 * 256 + field(6), field(7))
+}
