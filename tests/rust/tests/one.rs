@@ -9,7 +9,7 @@ use lesson_tests::known::{self, Known};
 use lesson_tests::oracle::{self, Driven};
 use lesson_tests::reader;
 use lesson_tests::rng::{seed, Rng};
-use lesson_tests::shapes::{self, Layering, B};
+use lesson_tests::shapes::{self, Layering, B, NO_LAYERS};
 use lesson_tests::truth::Truth;
 use std::thread;
 
@@ -281,6 +281,35 @@ fn a_state_of_the_largest_lawful_books_is_handed_out() {
         let what = format!("seed {seed}, g = {branching}");
         assert_known_once(&what, &known);
         assert_known_once(&what, &known::chained(1));
+    }
+}
+
+/// L - 1 is the last, and L and 2^32 - 1 are among the others.
+#[test]
+fn layers_of_the_book_are_driven_and_all_others_are_refused_9() {
+    for layers in [1, 2, 31, 32] {
+        let bytes = shapes::state_in_each_layer(6, layers).bytes();
+        for layer in 0..layers {
+            let state: Vec<bool> = (0..6)
+                .map(|atom| shapes::stands_in_layer(layer, atom))
+                .collect();
+            let granted = Ok(branching(0));
+            assert_outcome(
+                "a layer",
+                &bytes,
+                layer.into(),
+                &[7; 3],
+                granted,
+                |record| record == oracle::record(&state),
+            );
+        }
+        for layer in NO_LAYERS.into_iter().chain([layers.into()]) {
+            for length in [0, 1, 3] {
+                assert_outcome("no layer", &bytes, layer, &vec![7; length], Err(9), |_| {
+                    false
+                });
+            }
+        }
     }
 }
 
