@@ -176,15 +176,8 @@ fn questions(rng: &mut Rng, book: &[u8], layer: u32) -> Vec<Asked> {
     let truth = Truth::new(book, layer);
     let (facts, _) = fields(book);
     let width = facts.div_ceil(8);
-    let (listed, listing) = truth.list(&[0; LONGEST_LISTING]);
-    let (length, records) = match listed & 0xFF {
-        0 => {
-            let length = 11 + (listed >> 16) as usize * width;
-            let records = listing[11..length].chunks_exact(width);
-            (length, records.map(<[u8]>::to_vec).collect())
-        }
-        _ => (12, Vec::new()),
-    };
+    let records = records(&truth, width);
+    let length = 11 + records.len() * width;
     let cause = reader::first_cause(book);
     let mut questions = vec![(Question::Check, Wanted::answer(cause.into()))];
     for candidate in candidates(rng, facts, width, &records) {
@@ -212,6 +205,19 @@ fn questions(rng: &mut Rng, book: &[u8], layer: u32) -> Vec<Asked> {
         questions.push((Question::Place { fact }, wanted));
     }
     questions
+}
+
+/// The records of the stable states; none where the listing is refused.
+fn records(truth: &Truth, width: usize) -> Vec<Vec<u8>> {
+    let (answer, listing) = truth.list(&[0; LONGEST_LISTING]);
+    match answer & 0xFF {
+        0 => {
+            let records = listing[11..].chunks_exact(width);
+            let count = (answer >> 16) as usize;
+            records.take(count).map(<[u8]>::to_vec).collect()
+        }
+        _ => Vec::new(),
+    }
 }
 
 /// What must come of `lesson_one`: the buffer as it was, or any of the records in its first bytes.
