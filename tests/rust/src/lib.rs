@@ -6,6 +6,7 @@
 
 #![deny(unsafe_code)]
 
+pub mod bitset;
 pub mod book;
 pub mod causes;
 #[allow(unsafe_code)]

@@ -1,0 +1,565 @@
+//! The calls as a Rust programmer free of the engine's forms would write them: facts as bit sets,
+//! a setting as one number, the heap where it helps. Every setting is tried once, and the records
+//! are sorted at the end. The benchmark's opponent; it shares nothing with the engine.
+
+use crate::expected::{
+    branching, counts, place_of, yes_or_no, BAD_CANDIDATE, BUFFER_TOO_SHORT, MAX_BRANCHING,
+    NO_STABLE_STATE, NO_SUCH_FACT, NO_SUCH_LAYER, TOO_MANY_BRANCHING,
+};
+use crate::reader::{self, Parts};
+use std::ops::ControlFlow;
+
+/// A set of facts. Fact 0 is the highest bit of the first word, so that the words' bytes are the
+/// record and sets compare as records do.
+type Set = [u64; 4];
+
+const EMPTY: Set = [0; 4];
+
+fn bit(atom: u8) -> (usize, u64) {
+    (usize::from(atom) / 64, 1 << 63 >> (atom % 64))
+}
+
+fn insert(set: &mut Set, atom: u8) {
+    let (word, bit) = bit(atom);
+    set[word] |= bit;
+}
+
+fn contains(set: &Set, atom: u8) -> bool {
+    let (word, bit) = bit(atom);
+    set[word] & bit != 0
+}
+
+/// The facts of `set` that `other` does not have.
+fn without(set: &Set, other: &Set) -> Set {
+    std::array::from_fn(|word| set[word] & !other[word])
+}
+
+fn within(set: &Set, other: &Set) -> bool {
+    without(set, other) == EMPTY
+}
+
+fn disjoint(set: &Set, other: &Set) -> bool {
+    (0..4).all(|word| set[word] & other[word] == 0)
+}
+
+/// The first `atoms` facts.
+fn first(atoms: u16) -> Set {
+    let mut set = EMPTY;
+    (0..atoms).for_each(|atom| insert(&mut set, atom as u8));
+    set
+}
+
+fn record(set: &Set) -> [u8; 32] {
+    let mut record = [0; 32];
+    for (bytes, word) in record.chunks_exact_mut(8).zip(set) {
+        bytes.copy_from_slice(&word.to_be_bytes());
+    }
+    record
+}
+
+/// A relevant rule.
+#[derive(Clone, Copy)]
+struct Rule {
+    /// The facts that its body has plain, and negated.
+    plain: Set,
+    negated: Set,
+    head: u8,
+    denies: bool,
+    layer: u8,
+    /// Which of `Displaced` is about its head; 0 where no rule can displace it.
+    contest: u16,
+}
+
+impl Rule {
+    fn holds(&self, state: &Set) -> bool {
+        within(&self.plain, state) && disjoint(&self.negated, state)
+    }
+
+    /// Whether the body holds in any state at all.
+    fn can_hold(&self) -> bool {
+        disjoint(&self.plain, &self.negated)
+    }
+}
+
+/// Bit i of an entry: rules of layer i are displaced that have the head which the entry is about.
+/// Entry 0 is about no head.
+type Displaced = [u32];
+
+impl Rule {
+    fn is_displaced(&self, displaced: &Displaced) -> bool {
+        displaced[usize::from(self.contest)] >> self.layer & 1 == 1
+    }
+}
+
+/// What a rule does to others where its body holds.
+#[derive(Clone, Copy)]
+struct Displacing {
+    rule: Rule,
+    contest: u16,
+    layers: u32,
+}
+
+/// A lawful book at the driven layer.
+struct Program {
+    atoms: u16,
+    rules: Vec<Rule>,
+    /// Those that can displace at all.
+    displacing: Vec<Displacing>,
+    contests: usize,
+}
+
+impl Program {
+    fn new(book: &Parts, layer: u8) -> Program {
+        let below = below(book);
+        let relevant = below[usize::from(layer)] | 1 << layer;
+        let counts = |rule: &Rule| relevant >> rule.layer & 1 == 1;
+        let mut rules: Vec<Rule> = book.rules.records().map(rule).filter(counts).collect();
+        let mut layers_of = [[0u32; 256]; 2];
+        for rule in &rules {
+            layers_of[usize::from(rule.denies)][usize::from(rule.head)] |= 1 << rule.layer;
+        }
+        let mut contest_of = [[0u16; 256]; 2];
+        let mut displacing = Vec::new();
+        let mut contests = 1;
+        for rule in &rules {
+            let (opposite, head) = (usize::from(!rule.denies), usize::from(rule.head));
+            let layers = layers_of[opposite][head] & below[usize::from(rule.layer)];
+            if layers != 0 {
+                let contest = &mut contest_of[opposite][head];
+                if *contest == 0 {
+                    *contest = contests;
+                    contests += 1;
+                }
+                displacing.push(Displacing {
+                    rule: *rule,
+                    contest: *contest,
+                    layers,
+                });
+            }
+        }
+        for rule in &mut rules {
+            rule.contest = contest_of[usize::from(rule.denies)][usize::from(rule.head)];
+        }
+        Program {
+            atoms: book.atoms,
+            rules,
+            displacing,
+            contests: contests.into(),
+        }
+    }
+
+    /// The branching facts, rising.
+    fn branching(&self) -> Vec<u8> {
+        let negated = self.rules.iter().map(|rule| &rule.negated);
+        let displacing = self.displacing.iter().map(|one| &one.rule.plain);
+        let branches = negated.chain(displacing).fold(EMPTY, |all, set| {
+            std::array::from_fn(|word| all[word] | set[word])
+        });
+        let facts = (0..self.atoms).map(|atom| atom as u8);
+        facts.filter(|&atom| contains(&branches, atom)).collect()
+    }
+
+    /// Whether a state is stable. Once no live rule whose body holds contradicts it, only what is
+    /// not founded is in the way.
+    fn stable(&self, state: &Set) -> bool {
+        let mut displaced = vec![0; self.contests];
+        for displacing in &self.displacing {
+            if displacing.rule.holds(state) {
+                displaced[usize::from(displacing.contest)] |= displacing.layers;
+            }
+        }
+        let mut supported = EMPTY;
+        let mut live = Vec::with_capacity(self.rules.len());
+        for rule in self.rules.iter().filter(|rule| rule.holds(state)) {
+            if !rule.denies {
+                insert(&mut supported, rule.head);
+            }
+            if !rule.is_displaced(&displaced) {
+                if contains(state, rule.head) == rule.denies {
+                    return false;
+                }
+                live.push(rule);
+            }
+        }
+        let defaults = without(&first(self.atoms), &supported);
+        disjoint(&defaults, state) && founded(&mut live, state, defaults, self.atoms)
+    }
+}
+
+/// Whether all names that the state gives are reached from the defaults over rules whose heads
+/// agree with it.
+fn founded(live: &mut Vec<&Rule>, state: &Set, defaults: Set, atoms: u16) -> bool {
+    let (mut plain, mut negated) = (EMPTY, defaults);
+    loop {
+        let waiting = live.len();
+        live.retain(|rule| {
+            if !(within(&rule.plain, &plain) && within(&rule.negated, &negated)) {
+                return true;
+            }
+            match rule.denies {
+                false => insert(&mut plain, rule.head),
+                true => insert(&mut negated, rule.head),
+            }
+            false
+        });
+        if live.len() == waiting {
+            return plain == *state && negated == without(&first(atoms), state);
+        }
+    }
+}
+
+/// What a body says of the branching facts: those that are in it, and those that have to stand.
+#[derive(Clone, Copy)]
+struct Guard {
+    decided: u32,
+    stand: u32,
+}
+
+impl Guard {
+    fn fits(self, setting: u32) -> bool {
+        setting & self.decided == self.stand
+    }
+}
+
+/// A program ready to be tried at the settings of its branching facts. The first of them is the
+/// highest bit of a setting.
+struct Search {
+    atoms: u16,
+    branching: Vec<u8>,
+    /// Rules with plain heads, in an order in which they fire where all fit, and their guards.
+    plain: Vec<Rule>,
+    plain_guards: Vec<Guard>,
+    /// The setting's bit for the head of each, 0 where it does not branch.
+    head_bits: Vec<u32>,
+    /// Rules with negated heads.
+    denying: Vec<(Guard, Rule)>,
+    displacing: Vec<(Guard, Displacing)>,
+    displaced: Vec<u32>,
+    /// By number: rules that wait for a plain fact, and displaced ones whose guard fits.
+    waiting: Vec<u16>,
+    shadowed: Vec<u16>,
+}
+
+impl Search {
+    /// Or cause 12.
+    fn new(program: Program) -> Result<Search, u64> {
+        let branching = program.branching();
+        if branching.len() > MAX_BRANCHING {
+            return Err(TOO_MANY_BRANCHING);
+        }
+        let as_setting = |set: &Set| {
+            let stands = |setting, &atom: &u8| setting << 1 | u32::from(contains(set, atom));
+            branching.iter().fold(0, stands)
+        };
+        let guard = |rule: &Rule| Guard {
+            decided: as_setting(&rule.plain) | as_setting(&rule.negated),
+            stand: as_setting(&rule.plain),
+        };
+        let (plain, denying) = in_firing_order(&program.rules);
+        let head_bit = |rule: &Rule| {
+            let mut head = EMPTY;
+            insert(&mut head, rule.head);
+            as_setting(&head)
+        };
+        let displacing = program.displacing.into_iter();
+        let displacing = displacing.filter(|one| one.rule.can_hold());
+        Ok(Search {
+            atoms: program.atoms,
+            plain_guards: plain.iter().map(guard).collect(),
+            head_bits: plain.iter().map(head_bit).collect(),
+            denying: denying.iter().map(|rule| (guard(rule), *rule)).collect(),
+            displacing: displacing.map(|one| (guard(&one.rule), one)).collect(),
+            displaced: vec![0; program.contests],
+            waiting: Vec::with_capacity(plain.len()),
+            shadowed: Vec::with_capacity(plain.len()),
+            branching,
+            plain,
+        })
+    }
+
+    /// The stable state that agrees with the setting, if there is one. A body's branching facts
+    /// are compared with the setting at once: where a body that does not fit were reached, the
+    /// setting would have failed.
+    fn state_at(&mut self, setting: u32) -> Option<Set> {
+        self.displace(setting);
+        let state = self.fill(setting)?;
+        for (guard, rule) in &self.denying {
+            let fires = guard.fits(setting) && within(&rule.plain, &state);
+            if fires && contains(&state, rule.head) && !rule.is_displaced(&self.displaced) {
+                return None;
+            }
+        }
+        // Facts that do not stand by default: a displaced rule speaks for them.
+        let mut contested = EMPTY;
+        for &at in &self.shadowed {
+            let rule = &self.plain[usize::from(at)];
+            if within(&rule.plain, &state) {
+                insert(&mut contested, rule.head);
+            }
+        }
+        let contested = without(&contested, &state);
+        (contested == EMPTY || self.denied(setting, &state, &contested)).then_some(state)
+    }
+
+    fn displace(&mut self, setting: u32) {
+        self.displaced.fill(0);
+        for (guard, displacing) in &self.displacing {
+            if guard.fits(setting) {
+                self.displaced[usize::from(displacing.contest)] |= displacing.layers;
+            }
+        }
+    }
+
+    /// The plain facts that follow, as if each branching fact that the setting denies were denied
+    /// by default. `None` as soon as one of these is reached, or where another is not reached.
+    fn fill(&mut self, setting: u32) -> Option<Set> {
+        self.waiting.clear();
+        self.shadowed.clear();
+        let mut state = EMPTY;
+        let (mut reached, mut reachable) = (0, 0);
+        for (at, guard) in self.plain_guards.iter().enumerate() {
+            if !guard.fits(setting) {
+                continue;
+            }
+            let rule = &self.plain[at];
+            if rule.is_displaced(&self.displaced) {
+                self.shadowed.push(at as u16);
+            } else if within(&rule.plain, &state) {
+                insert(&mut state, rule.head);
+                reached |= self.head_bits[at];
+                if reached & !setting != 0 {
+                    return None;
+                }
+            } else {
+                reachable |= self.head_bits[at];
+                self.waiting.push(at as u16);
+            }
+        }
+        if setting & !(reached | reachable) != 0 {
+            return None;
+        }
+        let mut left = self.waiting.len() + 1;
+        while self.waiting.len() < left && reached & !setting == 0 {
+            left = self.waiting.len();
+            self.waiting.retain(|&at| {
+                let rule = &self.plain[usize::from(at)];
+                let fires = within(&rule.plain, &state);
+                if fires {
+                    insert(&mut state, rule.head);
+                    reached |= self.head_bits[usize::from(at)];
+                }
+                !(fires || contains(&state, rule.head))
+            });
+        }
+        (reached == setting).then_some(state)
+    }
+
+    /// Whether the contested facts are denied by rules that are founded without them. What holds in
+    /// the state and is not displaced agrees with it, as `state_at` has seen.
+    fn denied(&self, setting: u32, state: &Set, contested: &Set) -> bool {
+        let plain = self.plain_guards.iter().copied().zip(&self.plain);
+        let denying = self.denying.iter().map(|(guard, rule)| (*guard, rule));
+        let fires = |&(guard, rule): &(Guard, &Rule)| {
+            guard.fits(setting) && within(&rule.plain, state) && !rule.is_displaced(&self.displaced)
+        };
+        let mut live: Vec<&Rule> = plain
+            .chain(denying)
+            .filter(fires)
+            .map(|(_, rule)| rule)
+            .collect();
+        let defaults = without(&without(&first(self.atoms), state), contested);
+        founded(&mut live, state, defaults, self.atoms)
+    }
+
+    /// Visits every stable state once, until the visitor has seen enough.
+    fn each_stable(&mut self, mut visit: impl FnMut(&Set) -> ControlFlow<()>) {
+        for setting in 0..1 << self.branching.len() {
+            if let Some(state) = self.state_at(setting) {
+                if visit(&state).is_break() {
+                    return;
+                }
+            }
+        }
+    }
+
+    fn list(&mut self, buffer: &mut [u8]) -> Result<u64, u64> {
+        let mut states = Vec::new();
+        self.each_stable(|state| {
+            states.push(*state);
+            ControlFlow::Continue(())
+        });
+        states.sort_unstable();
+        let width = usize::from(self.atoms).div_ceil(8);
+        let length = 11 + states.len() * width;
+        let listing = buffer.get_mut(..length).ok_or(BUFFER_TOO_SHORT)?;
+        listing[0] = 1;
+        listing[1..5].copy_from_slice(&(length as u32).to_be_bytes());
+        listing[5..7].copy_from_slice(&self.atoms.to_be_bytes());
+        listing[7..11].copy_from_slice(&(states.len() as u32).to_be_bytes());
+        for (place, state) in listing[11..].chunks_exact_mut(width).zip(&states) {
+            place.copy_from_slice(&record(state)[..width]);
+        }
+        Ok(counts(self.branching.len(), states.len()))
+    }
+
+    fn one(&mut self, buffer: &mut [u8]) -> Result<u64, u64> {
+        let width = usize::from(self.atoms).div_ceil(8);
+        let place = buffer.get_mut(..width).ok_or(BUFFER_TOO_SHORT)?;
+        let mut answer = Err(NO_STABLE_STATE);
+        let granted = branching(self.branching.len());
+        self.each_stable(|state| {
+            place.copy_from_slice(&record(state)[..width]);
+            answer = Ok(granted);
+            ControlFlow::Break(())
+        });
+        answer
+    }
+
+    fn place(&mut self, atom: u8) -> u64 {
+        let (mut standing, mut states) = (0, 0);
+        self.each_stable(|state| {
+            standing += usize::from(contains(state, atom));
+            states += 1;
+            match (1..states).contains(&standing) {
+                true => ControlFlow::Break(()),
+                false => ControlFlow::Continue(()),
+            }
+        });
+        place_of(self.branching.len(), standing, states)
+    }
+}
+
+/// The rules with plain heads in an order in which they fire if all negated facts are reached and
+/// nothing is displaced, and those with negated heads. Rules that do not even fire then are left
+/// out: their bodies hold in no stable state.
+fn in_firing_order(rules: &[Rule]) -> (Vec<Rule>, Vec<Rule>) {
+    let (mut denying, mut waiting): (Vec<Rule>, Vec<Rule>) = rules
+        .iter()
+        .filter(|rule| rule.can_hold())
+        .partition(|rule| rule.denies);
+    let mut fired = Vec::with_capacity(waiting.len());
+    let mut reached = EMPTY;
+    loop {
+        let before = fired.len();
+        waiting.retain(|rule| {
+            let fires = within(&rule.plain, &reached);
+            if fires {
+                insert(&mut reached, rule.head);
+                fired.push(*rule);
+            }
+            !fires
+        });
+        if fired.len() == before {
+            denying.retain(|rule| within(&rule.plain, &reached));
+            return (fired, denying);
+        }
+    }
+}
+
+/// Entry j, bit i: layer i is below layer j.
+fn below(book: &Parts) -> [u32; 32] {
+    let mut below = [0u32; 32];
+    for arrow in book.arrows.records() {
+        below[usize::from(arrow[1])] |= 1 << arrow[0];
+    }
+    for via in 0..usize::from(book.layers) {
+        let via_below = below[via];
+        for layer in &mut below {
+            if *layer >> via & 1 == 1 {
+                *layer |= via_below;
+            }
+        }
+    }
+    below
+}
+
+fn rule(record: &[u8]) -> Rule {
+    let (mut plain, mut negated) = (EMPTY, EMPTY);
+    for literal in record[3..].chunks_exact(2) {
+        match literal[0] < 0x80 {
+            true => insert(&mut plain, literal[1]),
+            false => insert(&mut negated, literal[1]),
+        }
+    }
+    Rule {
+        plain,
+        negated,
+        head: record[2],
+        denies: record[1] >= 0x80,
+        layer: record[0],
+        contest: 0,
+    }
+}
+
+/// The book at the driven layer, or the first of causes 1 to 9 that applies.
+fn program(book: &[u8], layer: u32) -> Result<Program, u64> {
+    match check(book) {
+        0 => {}
+        cause => return Err(cause),
+    }
+    let parts = reader::parts(book)?;
+    if layer >= parts.layers.into() {
+        return Err(NO_SUCH_LAYER);
+    }
+    Ok(Program::new(&parts, layer as u8))
+}
+
+/// The state that a record gives, or cause 10.
+fn candidate(record: &[u8], atoms: u16) -> Result<Set, u64> {
+    if record.len() != usize::from(atoms).div_ceil(8) {
+        return Err(BAD_CANDIDATE);
+    }
+    let mut bytes = [0; 32];
+    bytes[..record.len()].copy_from_slice(record);
+    let mut state = EMPTY;
+    for (word, bytes) in state.iter_mut().zip(bytes.chunks_exact(8)) {
+        *word = bytes
+            .iter()
+            .fold(0, |word, &byte| word << 8 | u64::from(byte));
+    }
+    match within(&state, &first(atoms)) {
+        true => Ok(state),
+        false => Err(BAD_CANDIDATE),
+    }
+}
+
+/// What `lesson_check` answers. Facts need no sets for this: the reader is the plain program.
+pub fn check(book: &[u8]) -> u64 {
+    reader::first_cause(book).into()
+}
+
+/// What `lesson_test` answers.
+pub fn test(book: &[u8], layer: u32, record: &[u8]) -> u64 {
+    let answer = program(book, layer).and_then(|program| {
+        let state = candidate(record, program.atoms)?;
+        Ok(yes_or_no(program.stable(&state)))
+    });
+    answer.unwrap_or_else(|cause| cause)
+}
+
+/// What `lesson_list` answers and does.
+pub fn list(book: &[u8], layer: u32, buffer: &mut [u8]) -> u64 {
+    program(book, layer)
+        .and_then(Search::new)
+        .and_then(|mut search| search.list(buffer))
+        .unwrap_or_else(|cause| cause)
+}
+
+/// What `lesson_one` answers and does.
+pub fn one(book: &[u8], layer: u32, buffer: &mut [u8]) -> u64 {
+    program(book, layer)
+        .and_then(Search::new)
+        .and_then(|mut search| search.one(buffer))
+        .unwrap_or_else(|cause| cause)
+}
+
+/// What `lesson_place` answers.
+pub fn place(book: &[u8], layer: u32, fact: u32) -> u64 {
+    let answer = program(book, layer).and_then(|program| {
+        if fact >= program.atoms.into() {
+            return Err(NO_SUCH_FACT);
+        }
+        Ok(Search::new(program)?.place(fact as u8))
+    });
+    answer.unwrap_or_else(|cause| cause)
+}

@@ -1,0 +1,275 @@
+//! The benchmark's opponent, a search with bit sets, against the oracle and the engine: every call,
+//! on every layer of many small books, and on books whose states are known.
+
+use lesson_tests::bitset;
+use lesson_tests::book::{hex, Book};
+use lesson_tests::expected::{self, branching, counts, place_of, yes_or_no, NO_STABLE_STATE};
+use lesson_tests::ffi;
+use lesson_tests::known::{self, Known, EVERY_FOLLOWING};
+use lesson_tests::oracle::{self, Driven};
+use lesson_tests::rng::{seed, Rng};
+use lesson_tests::shapes::{self, Layering, NO_LAYERS};
+
+const FILLER: u8 = 0xA5;
+
+/// A book in bytes at a layer, with words for messages.
+struct Case<'a> {
+    what: &'a str,
+    book: &'a [u8],
+    layer: u32,
+}
+
+impl Case<'_> {
+    /// The bit sets' answer and the engine's are the one expected.
+    fn assert_answers(&self, call: &str, [bits, engine]: [u64; 2], expected: u64) {
+        assert!(
+            [bits, engine] == [expected; 2],
+            "{}, layer {}, {call}: bit sets {bits:#X}, engine {engine:#X}, expected {expected:#X}\n{}",
+            self.what,
+            self.layer,
+            hex(self.book)
+        );
+    }
+
+    fn test(&self, record: &[u8], expected: u64) {
+        let answers = [
+            bitset::test(self.book, self.layer, record),
+            ffi::test_in_place(self.book, self.layer, record),
+        ];
+        self.assert_answers(&format!("test of {}", hex(record)), answers, expected);
+    }
+
+    /// Both listings stand in front of the untouched rest, or the buffers are as they were.
+    fn list(&self, length: usize, expected: (u64, &[u8])) {
+        let mut buffers = [vec![FILLER; length], vec![FILLER; length]];
+        let [bits, engine] = &mut buffers;
+        let answers = [
+            bitset::list(self.book, self.layer, bits),
+            ffi::list_in_place(self.book, self.layer, engine),
+        ];
+        self.assert_answers("list", answers, expected.0);
+        for buffer in &buffers {
+            assert!(buffer == expected.1, "{}\n{}", self.what, hex(self.book));
+        }
+    }
+
+    /// Each writes some record of `records`, which may be another, or nothing.
+    fn one(&self, length: usize, expected: u64, records: &[Vec<u8>]) {
+        let mut buffers = [vec![FILLER; length], vec![FILLER; length]];
+        let [bits, engine] = &mut buffers;
+        let answers = [
+            bitset::one(self.book, self.layer, bits),
+            ffi::one_in_place(self.book, self.layer, engine),
+        ];
+        self.assert_answers("one", answers, expected);
+        for buffer in &buffers {
+            let written = |record: &Vec<u8>| {
+                let (state, rest) = buffer.split_at(record.len());
+                state == record && rest.iter().all(|&byte| byte == FILLER)
+            };
+            let right = match expected & 0xFF {
+                0 => records.iter().any(written),
+                _ => buffer.iter().all(|&byte| byte == FILLER),
+            };
+            assert!(right, "{}: {}\n{}", self.what, hex(buffer), hex(self.book));
+        }
+    }
+
+    fn place(&self, fact: u32, expected: u64) {
+        let answers = [
+            bitset::place(self.book, self.layer, fact),
+            ffi::place_in_place(self.book, self.layer, fact),
+        ];
+        self.assert_answers(&format!("place of {fact}"), answers, expected);
+    }
+}
+
+/// Compares all calls at one layer of a small book; the number of its stable states.
+fn assert_layer(case: &Case, driven: &Driven) -> usize {
+    let atoms = driven.atoms();
+    let g = driven.branching_count();
+    let models = driven.stable_models();
+    for number in 0..1u32 << atoms {
+        let state: Vec<bool> = (0..atoms).map(|fact| number >> fact & 1 == 1).collect();
+        let stable = models.contains(&state);
+        case.test(&oracle::record(&state), yes_or_no(stable));
+    }
+    let listing = driven.listing();
+    let rest = [FILLER; 5];
+    let listed = [&listing[..], &rest].concat();
+    case.list(listed.len(), (counts(g, models.len()), &listed));
+    let short = vec![FILLER; listing.len() - 1];
+    case.list(short.len(), (expected::BUFFER_TOO_SHORT, &short));
+    let records: Vec<Vec<u8>> = models.iter().map(|model| oracle::record(model)).collect();
+    let answer = match models.is_empty() {
+        true => NO_STABLE_STATE,
+        false => branching(g),
+    };
+    case.one(usize::from(atoms).div_ceil(8) + 2, answer, &records);
+    case.one(0, expected::BUFFER_TOO_SHORT, &records);
+    for fact in 0..atoms {
+        let standing = models.iter().filter(|model| model[usize::from(fact)]);
+        let place = place_of(g, standing.count(), models.len());
+        case.place(fact.into(), place);
+    }
+    case.place(atoms.into(), expected::NO_SUCH_FACT);
+    models.len()
+}
+
+/// Compares all calls at all layers of `number` books.
+fn sweep(shape: &str, number: usize, generate: impl Fn(&mut Rng) -> Book) {
+    let seed = seed();
+    let mut rng = Rng::named(seed, shape);
+    let mut states = [0; 3];
+    for index in 0..number {
+        let book = generate(&mut rng);
+        let bytes = book.bytes();
+        let what = format!("seed {seed}, {shape}, book {index}");
+        for layer in 0..book.layers {
+            let case = Case {
+                what: &what,
+                book: &bytes,
+                layer: layer.into(),
+            };
+            states[assert_layer(&case, &Driven::new(&book, layer)).min(2)] += 1;
+        }
+    }
+    println!("seed {seed}, {shape}: {number} books, layers with 0, 1, more states: {states:?}");
+    assert!(states.iter().all(|&times| times > 100), "{states:?}");
+}
+
+#[test]
+fn every_call_in_books_with_choices_is_the_oracles_and_the_engines() {
+    sweep("bit sets, choices", 1_500, shapes::choices);
+}
+
+#[test]
+fn every_call_in_books_in_chains_is_the_oracles_and_the_engines() {
+    sweep("bit sets, chains", 1_500, |rng| {
+        shapes::layered(rng, Layering::Chain)
+    });
+}
+
+#[test]
+fn every_call_in_books_in_diamonds_is_the_oracles_and_the_engines() {
+    sweep("bit sets, diamonds", 1_500, |rng| {
+        shapes::layered(rng, Layering::Diamond)
+    });
+}
+
+#[test]
+fn every_call_in_books_with_any_arrows_is_the_oracles_and_the_engines() {
+    sweep("bit sets, any arrows", 1_500, |rng| {
+        shapes::layered(rng, Layering::Any)
+    });
+}
+
+#[test]
+fn every_call_in_books_with_many_states_is_the_oracles_and_the_engines() {
+    sweep("bit sets, many states", 400, |rng| {
+        shapes::crowded(rng, Layering::Diamond)
+    });
+}
+
+/// All calls on a book whose states are known, with more than 64 facts too.
+fn assert_known(what: &str, known: &Known) {
+    let bytes = known.book.bytes();
+    let case = Case {
+        what,
+        book: &bytes,
+        layer: known.layer.into(),
+    };
+    let listing = known.listing();
+    let width = usize::from(known.book.atoms).div_ceil(8);
+    let records: Vec<Vec<u8>> = listing[11..].chunks(width).map(<[u8]>::to_vec).collect();
+    case.list(listing.len(), (known.answer(), &listing));
+    let answer = match known.count {
+        0 => NO_STABLE_STATE,
+        _ => branching(known.branching),
+    };
+    case.one(width, answer, &records);
+    for (fact, place) in (0..).zip(known.places()) {
+        case.place(fact, place);
+    }
+    for record in &records[..records.len().min(8)] {
+        case.test(record, yes_or_no(true));
+        let mut other = record.clone();
+        other[0] ^= 0x80;
+        case.test(&other, yes_or_no(records.contains(&other)));
+    }
+}
+
+#[test]
+fn known_states_of_larger_books_are_found_by_both() {
+    let mut rng = Rng::named(seed(), "bit sets, known");
+    assert_known("pairs", &known::pairs(4, 1));
+    assert_known("displacing pairs", &known::displacing_pairs(4, 1));
+    assert_known("free", &known::free(6, 61, 70));
+    assert_known("a quarrel", &known::quarrelled(known::free(4, 125, 140)));
+    assert_known("counted", &known::counted(37, 9));
+    for following in EVERY_FOLLOWING {
+        let what = format!("{following:?}");
+        assert_known(&what, &known::followed(5, 5, 200, following));
+    }
+    for atoms in [63, 64, 65, 128, 129, 192, 255, 256] {
+        let small = shapes::crowded(&mut rng, Layering::Any);
+        let layer = rng.below(small.layers.into()) as u8;
+        assert_known("spread", &known::spread(&mut rng, &small, layer, atoms));
+    }
+    assert_known("largest", &known::busy(&mut rng, 7));
+    assert_known("worst order", &known::chained(2));
+}
+
+#[test]
+fn largest_planted_states_pass_both_and_their_neighbours_fail_both() {
+    let mut rng = Rng::named(seed(), "bit sets, planted");
+    for _ in 0..200 {
+        let planted = shapes::planted(&mut rng);
+        let book = planted.book.bytes();
+        let case = Case {
+            what: "planted",
+            book: &book,
+            layer: planted.layer.into(),
+        };
+        case.test(&oracle::record(&planted.state), yes_or_no(true));
+        let driven = Driven::new(&planted.book, planted.layer);
+        let mut other = planted.state.clone();
+        let fact = rng.below(other.len());
+        other[fact] = !other[fact];
+        case.test(&oracle::record(&other), yes_or_no(driven.stable(&other)));
+    }
+}
+
+#[test]
+fn any_bytes_are_refused_by_both_with_the_same_cause() {
+    let seed = seed();
+    let mut rng = Rng::named(seed, "bit sets, any bytes");
+    let mut tally = [0; 15];
+    for (shape, generate) in shapes::EVERY_SHAPE {
+        for index in 0..300 {
+            let bytes = shapes::quick(&mut rng, generate);
+            let layers = usize::from(bytes.get(7).copied().unwrap_or(1));
+            let case = Case {
+                what: &format!("seed {seed}, {shape}, book {index}"),
+                book: &bytes,
+                layer: match rng.chance(80) {
+                    true => rng.below(layers.max(1)) as u32,
+                    false => rng.pick(&NO_LAYERS),
+                },
+            };
+            let checked = [bitset::check(&bytes), ffi::check_in_place(&bytes)];
+            case.assert_answers("check", checked, checked[1]);
+            let fact = rng.below(300) as u32;
+            let placed = ffi::place_in_place(&bytes, case.layer, fact);
+            case.place(fact, placed);
+            let width = rng.range(1, 2);
+            let candidate = rng.bytes(width);
+            case.test(&candidate, expected::test(&bytes, case.layer, &candidate));
+            tally[(placed & 0xFF) as usize] += 1;
+        }
+    }
+    println!("seed {seed}, bit sets, any bytes: 4500 books, answers 0 to 14: {tally:?}");
+    for cause in [0, 1, 2, 3, 4, 5, 6, 7, 8, 9, 11, 12] {
+        assert!(tally[cause] >= 10, "{cause} is rare: {tally:?}");
+    }
+}
