@@ -66,7 +66,7 @@ struct Rule {
     head: u8,
     denies: bool,
     layer: u8,
-    /// Which of `Displaced` is about its head; 0 where no rule can displace it.
+    /// The number of the contest about its head, 0 where no rule can displace it.
     contest: u16,
 }
 
@@ -81,16 +81,6 @@ impl Rule {
     }
 }
 
-/// Bit i of an entry: rules of layer i are displaced that have the head which the entry is about.
-/// Entry 0 is about no head.
-type Displaced = [u32];
-
-impl Rule {
-    fn is_displaced(&self, displaced: &Displaced) -> bool {
-        displaced[usize::from(self.contest)] >> self.layer & 1 == 1
-    }
-}
-
 /// What a rule does to others where its body holds.
 #[derive(Clone, Copy)]
 struct Displacing {
@@ -102,6 +92,8 @@ struct Displacing {
 /// A lawful book at the driven layer.
 struct Program {
     atoms: u16,
+    /// All its facts.
+    facts: Set,
     rules: Vec<Rule>,
     /// Those that can displace at all.
     displacing: Vec<Displacing>,
@@ -142,6 +134,7 @@ impl Program {
         }
         Program {
             atoms: book.atoms,
+            facts: first(book.atoms),
             rules,
             displacing,
             contests: contests.into(),
@@ -162,7 +155,7 @@ impl Program {
     /// Whether a state is stable. Once no live rule whose body holds contradicts it, only what is
     /// not founded is in the way.
     fn stable(&self, state: &Set) -> bool {
-        let mut displaced = vec![0; self.contests];
+        let mut displaced = vec![0u32; self.contests];
         for displacing in &self.displacing {
             if displacing.rule.holds(state) {
                 displaced[usize::from(displacing.contest)] |= displacing.layers;
@@ -170,40 +163,44 @@ impl Program {
         }
         let mut supported = EMPTY;
         let mut live = Vec::with_capacity(self.rules.len());
-        for rule in self.rules.iter().filter(|rule| rule.holds(state)) {
+        for (at, rule) in self.rules.iter().enumerate() {
+            if !rule.holds(state) {
+                continue;
+            }
             if !rule.denies {
                 insert(&mut supported, rule.head);
             }
-            if !rule.is_displaced(&displaced) {
+            if displaced[usize::from(rule.contest)] >> rule.layer & 1 == 0 {
                 if contains(state, rule.head) == rule.denies {
                     return false;
                 }
-                live.push(rule);
+                live.push(at as u16);
             }
         }
-        let defaults = without(&first(self.atoms), &supported);
-        disjoint(&defaults, state) && founded(&mut live, state, defaults, self.atoms)
+        let defaults = without(&self.facts, &supported);
+        let denied = without(&self.facts, state);
+        disjoint(&defaults, state) && founded(&self.rules, &mut live, defaults, (state, &denied))
     }
 }
 
-/// Whether all names that the state gives are reached from the defaults over rules whose heads
-/// agree with it.
-fn founded(live: &mut Vec<&Rule>, state: &Set, defaults: Set, atoms: u16) -> bool {
+/// Whether all names of a state, the plain and the negated ones, are reached from the defaults over
+/// the live rules, whose heads agree with it.
+fn founded(rules: &[Rule], live: &mut Vec<u16>, defaults: Set, names: (&Set, &Set)) -> bool {
     let (mut plain, mut negated) = (EMPTY, defaults);
     loop {
         let waiting = live.len();
-        live.retain(|rule| {
-            if !(within(&rule.plain, &plain) && within(&rule.negated, &negated)) {
-                return true;
-            }
+        live.retain(|&at| {
+            let rule = &rules[usize::from(at)];
+            let fires = within(&rule.plain, &plain) && within(&rule.negated, &negated);
             match rule.denies {
+                _ if !fires => {}
                 false => insert(&mut plain, rule.head),
                 true => insert(&mut negated, rule.head),
             }
-            false
+            !fires
         });
         if live.len() == waiting {
-            return plain == *state && negated == without(&first(atoms), state);
+            return (&plain, &negated) == names;
         }
     }
 }
@@ -221,21 +218,48 @@ impl Guard {
     }
 }
 
+/// The rules that can displace those with one head, and in which layers they do so at a setting.
+struct Contest {
+    displacing: Vec<(Guard, u32)>,
+    setting: u32,
+    layers: u32,
+}
+
+impl Contest {
+    fn new() -> Contest {
+        Contest {
+            displacing: Vec::new(),
+            // No setting has a bit as high.
+            setting: 1 << 31,
+            layers: 0,
+        }
+    }
+
+    /// Worked out when a setting first asks: most settings fail before.
+    fn displaces(&mut self, rule: &Rule, setting: u32) -> bool {
+        if self.setting != setting {
+            let fitting = self.displacing.iter().filter(|one| one.0.fits(setting));
+            self.layers = fitting.fold(0, |layers, one| layers | one.1);
+            self.setting = setting;
+        }
+        self.layers >> rule.layer & 1 == 1
+    }
+}
+
 /// A program ready to be tried at the settings of its branching facts. The first of them is the
 /// highest bit of a setting.
 struct Search {
     atoms: u16,
+    facts: Set,
     branching: Vec<u8>,
-    /// Rules with plain heads, in an order in which they fire where all fit, and their guards.
-    plain: Vec<Rule>,
-    plain_guards: Vec<Guard>,
-    /// The setting's bit for the head of each, 0 where it does not branch.
+    /// Those with plain heads in an order in which they fire where all fit, then the others; and
+    /// their guards.
+    rules: Vec<Rule>,
+    guards: Vec<Guard>,
+    /// The setting's bit for each plain head, 0 where it does not branch.
     head_bits: Vec<u32>,
-    /// Rules with negated heads.
-    denying: Vec<(Guard, Rule)>,
-    displacing: Vec<(Guard, Displacing)>,
-    displaced: Vec<u32>,
-    /// By number: rules that wait for a plain fact, and displaced ones whose guard fits.
+    contests: Vec<Contest>,
+    /// By number: rules that are not reached yet, and displaced ones whose guard fits.
     waiting: Vec<u16>,
     shadowed: Vec<u16>,
 }
@@ -255,25 +279,28 @@ impl Search {
             decided: as_setting(&rule.plain) | as_setting(&rule.negated),
             stand: as_setting(&rule.plain),
         };
-        let (plain, denying) = in_firing_order(&program.rules);
         let head_bit = |rule: &Rule| {
             let mut head = EMPTY;
             insert(&mut head, rule.head);
             as_setting(&head)
         };
-        let displacing = program.displacing.into_iter();
-        let displacing = displacing.filter(|one| one.rule.can_hold());
+        let rules = in_firing_order(&program.rules);
+        let plain = rules.iter().filter(|rule| !rule.denies);
+        let mut contests: Vec<Contest> = (0..program.contests).map(|_| Contest::new()).collect();
+        for one in program.displacing.iter().filter(|one| one.rule.can_hold()) {
+            let contest = &mut contests[usize::from(one.contest)];
+            contest.displacing.push((guard(&one.rule), one.layers));
+        }
         Ok(Search {
             atoms: program.atoms,
-            plain_guards: plain.iter().map(guard).collect(),
-            head_bits: plain.iter().map(head_bit).collect(),
-            denying: denying.iter().map(|rule| (guard(rule), *rule)).collect(),
-            displacing: displacing.map(|one| (guard(&one.rule), one)).collect(),
-            displaced: vec![0; program.contests],
-            waiting: Vec::with_capacity(plain.len()),
-            shadowed: Vec::with_capacity(plain.len()),
+            facts: program.facts,
+            guards: rules.iter().map(guard).collect(),
+            head_bits: plain.map(head_bit).collect(),
+            contests,
+            waiting: Vec::with_capacity(rules.len()),
+            shadowed: Vec::with_capacity(rules.len()),
             branching,
-            plain,
+            rules,
         })
     }
 
@@ -281,18 +308,17 @@ impl Search {
     /// are compared with the setting at once: where a body that does not fit were reached, the
     /// setting would have failed.
     fn state_at(&mut self, setting: u32) -> Option<Set> {
-        self.displace(setting);
         let state = self.fill(setting)?;
-        for (guard, rule) in &self.denying {
-            let fires = guard.fits(setting) && within(&rule.plain, &state);
-            if fires && contains(&state, rule.head) && !rule.is_displaced(&self.displaced) {
+        for at in self.head_bits.len()..self.rules.len() {
+            let head = self.rules[at].head;
+            if contains(&state, head) && self.fires(at, setting, &state) {
                 return None;
             }
         }
-        // Facts that do not stand by default: a displaced rule speaks for them.
+        // Facts that do not stand, and not by default: a displaced rule speaks for them.
         let mut contested = EMPTY;
         for &at in &self.shadowed {
-            let rule = &self.plain[usize::from(at)];
+            let rule = &self.rules[usize::from(at)];
             if within(&rule.plain, &state) {
                 insert(&mut contested, rule.head);
             }
@@ -301,13 +327,12 @@ impl Search {
         (contested == EMPTY || self.denied(setting, &state, &contested)).then_some(state)
     }
 
-    fn displace(&mut self, setting: u32) {
-        self.displaced.fill(0);
-        for (guard, displacing) in &self.displacing {
-            if guard.fits(setting) {
-                self.displaced[usize::from(displacing.contest)] |= displacing.layers;
-            }
-        }
+    /// Whether a rule's body holds in a state that agrees with the setting, and it is live.
+    fn fires(&mut self, at: usize, setting: u32, state: &Set) -> bool {
+        let rule = &self.rules[at];
+        self.guards[at].fits(setting)
+            && within(&rule.plain, state)
+            && !self.contests[usize::from(rule.contest)].displaces(rule, setting)
     }
 
     /// The plain facts that follow, as if each branching fact that the setting denies were denied
@@ -317,21 +342,21 @@ impl Search {
         self.shadowed.clear();
         let mut state = EMPTY;
         let (mut reached, mut reachable) = (0, 0);
-        for (at, guard) in self.plain_guards.iter().enumerate() {
-            if !guard.fits(setting) {
+        for (at, &head_bit) in self.head_bits.iter().enumerate() {
+            if !self.guards[at].fits(setting) {
                 continue;
             }
-            let rule = &self.plain[at];
-            if rule.is_displaced(&self.displaced) {
+            let rule = &self.rules[at];
+            if self.contests[usize::from(rule.contest)].displaces(rule, setting) {
                 self.shadowed.push(at as u16);
             } else if within(&rule.plain, &state) {
                 insert(&mut state, rule.head);
-                reached |= self.head_bits[at];
+                reached |= head_bit;
                 if reached & !setting != 0 {
                     return None;
                 }
             } else {
-                reachable |= self.head_bits[at];
+                reachable |= head_bit;
                 self.waiting.push(at as u16);
             }
         }
@@ -342,7 +367,7 @@ impl Search {
         while self.waiting.len() < left && reached & !setting == 0 {
             left = self.waiting.len();
             self.waiting.retain(|&at| {
-                let rule = &self.plain[usize::from(at)];
+                let rule = &self.rules[usize::from(at)];
                 let fires = within(&rule.plain, &state);
                 if fires {
                     insert(&mut state, rule.head);
@@ -354,21 +379,19 @@ impl Search {
         (reached == setting).then_some(state)
     }
 
-    /// Whether the contested facts are denied by rules that are founded without them. What holds in
-    /// the state and is not displaced agrees with it, as `state_at` has seen.
-    fn denied(&self, setting: u32, state: &Set, contested: &Set) -> bool {
-        let plain = self.plain_guards.iter().copied().zip(&self.plain);
-        let denying = self.denying.iter().map(|(guard, rule)| (*guard, rule));
-        let fires = |&(guard, rule): &(Guard, &Rule)| {
-            guard.fits(setting) && within(&rule.plain, state) && !rule.is_displaced(&self.displaced)
-        };
-        let mut live: Vec<&Rule> = plain
-            .chain(denying)
-            .filter(fires)
-            .map(|(_, rule)| rule)
-            .collect();
-        let defaults = without(&without(&first(self.atoms), state), contested);
-        founded(&mut live, state, defaults, self.atoms)
+    /// Whether the contested facts are denied by rules that are founded without them. What fires
+    /// agrees with the state, as `state_at` has seen.
+    fn denied(&mut self, setting: u32, state: &Set, contested: &Set) -> bool {
+        let mut live = std::mem::take(&mut self.waiting);
+        live.clear();
+        let numbers = 0..self.rules.len();
+        let firing = numbers.filter(|&at| self.fires(at, setting, state));
+        live.extend(firing.map(|at| at as u16));
+        let denied = without(&self.facts, state);
+        let defaults = without(&denied, contested);
+        let all = founded(&self.rules, &mut live, defaults, (state, &denied));
+        self.waiting = live;
+        all
     }
 
     /// Visits every stable state once, until the visitor has seen enough.
@@ -430,14 +453,14 @@ impl Search {
 }
 
 /// The rules with plain heads in an order in which they fire if all negated facts are reached and
-/// nothing is displaced, and those with negated heads. Rules that do not even fire then are left
+/// nothing is displaced, then those with negated heads. Rules that do not even fire then are left
 /// out: their bodies hold in no stable state.
-fn in_firing_order(rules: &[Rule]) -> (Vec<Rule>, Vec<Rule>) {
-    let (mut denying, mut waiting): (Vec<Rule>, Vec<Rule>) = rules
+fn in_firing_order(rules: &[Rule]) -> Vec<Rule> {
+    let (denying, mut waiting): (Vec<Rule>, Vec<Rule>) = rules
         .iter()
         .filter(|rule| rule.can_hold())
         .partition(|rule| rule.denies);
-    let mut fired = Vec::with_capacity(waiting.len());
+    let mut fired = Vec::with_capacity(rules.len());
     let mut reached = EMPTY;
     loop {
         let before = fired.len();
@@ -450,8 +473,9 @@ fn in_firing_order(rules: &[Rule]) -> (Vec<Rule>, Vec<Rule>) {
             !fires
         });
         if fired.len() == before {
-            denying.retain(|rule| within(&rule.plain, &reached));
-            return (fired, denying);
+            let reachable = |rule: &Rule| within(&rule.plain, &reached);
+            fired.extend(denying.into_iter().filter(reachable));
+            return fired;
         }
     }
 }
