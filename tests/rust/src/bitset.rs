@@ -44,9 +44,11 @@ fn disjoint(set: &Set, other: &Set) -> bool {
 
 /// The first `atoms` facts.
 fn first(atoms: u16) -> Set {
-    let mut set = EMPTY;
-    (0..atoms).for_each(|atom| insert(&mut set, atom as u8));
-    set
+    std::array::from_fn(|word| match usize::from(atoms).saturating_sub(64 * word) {
+        0 => 0,
+        some if some < 64 => !(u64::MAX >> some),
+        _ => u64::MAX,
+    })
 }
 
 fn record(set: &Set) -> [u8; 32] {
@@ -104,8 +106,9 @@ impl Program {
     fn new(book: &Parts, layer: u8) -> Program {
         let below = below(book);
         let relevant = below[usize::from(layer)] | 1 << layer;
-        let counts = |rule: &Rule| relevant >> rule.layer & 1 == 1;
-        let mut rules: Vec<Rule> = book.rules.records().map(rule).filter(counts).collect();
+        let mut rules = Vec::with_capacity(book.rules.count.into());
+        let counts = |record: &&[u8]| relevant >> record[0] & 1 == 1;
+        rules.extend(book.rules.records().filter(counts).map(rule));
         let mut layers_of = [[0u32; 256]; 2];
         for rule in &rules {
             layers_of[usize::from(rule.denies)][usize::from(rule.head)] |= 1 << rule.layer;

@@ -5,7 +5,7 @@ use crate::book::{not, plain, Book, Literal};
 use crate::expected::{counts, place_of};
 use crate::oracle::{self, body_holds, Driven};
 use crate::rng::Rng;
-use crate::shapes::{all_arrows, hidden_order};
+use crate::shapes::{all_arrows, hidden_order, Planted};
 
 /// A book at a driven layer, with what its listing has.
 pub struct Known {
@@ -31,6 +31,15 @@ impl Known {
             .collect();
         records.sort();
         oracle::listing(self.book.atoms, &records)
+    }
+
+    /// The book with one of its stable states.
+    pub fn planted(&self, number: usize) -> Planted {
+        Planted {
+            book: self.book.clone(),
+            layer: self.layer,
+            state: (self.state)(number),
+        }
     }
 
     /// What `lesson_list` answers.
@@ -204,6 +213,34 @@ pub fn followed(choices: u16, followers: u16, atoms: u16, following: Following) 
     }
 }
 
+/// The last facts may stand or not, and the first ones follow them so that a search which sets these
+/// one after the other, the last one fastest, comes to records before and after all others in turn.
+pub fn front_and_end(choices: u16, atoms: u16) -> Known {
+    let first = atoms - choices;
+    let last = atoms - 1;
+    let known = free(choices, first, atoms);
+    let mut book = known.book.rule(1, plain(0), &[plain(last)]);
+    for atom in 1..choices {
+        let choice = first + atom - 1;
+        book = book
+            .rule(1, plain(atom), &[plain(choice), plain(last)])
+            .rule(1, plain(atom), &[not(choice), not(last)]);
+    }
+    let state = known.state;
+    Known {
+        book,
+        state: Box::new(move |number| {
+            let mut state = state(number);
+            state[0] = state[usize::from(last)];
+            for atom in 1..usize::from(choices) {
+                state[atom] = state[usize::from(first) + atom - 1] == state[usize::from(last)];
+            }
+            state
+        }),
+        ..known
+    }
+}
+
 /// Exactly `count` states, two at least: the first facts, read as a number, are below it. One more
 /// fact stands in no state and rules the others out.
 pub fn counted(count: usize, atoms: u16) -> Known {
@@ -285,6 +322,80 @@ pub fn too_many_branching() -> [Known; 5] {
         quarrelled(pairs(11, 0)),
         pairs(128, 0),
     ]
+}
+
+/// The same book with one fact more, which has no rule and stands in no state.
+pub fn spared(known: Known) -> Known {
+    let Known {
+        mut book, state, ..
+    } = known;
+    book.atoms += 1;
+    Known {
+        book,
+        state: Box::new(move |number| {
+            let mut state = state(number);
+            state.push(false);
+            state
+        }),
+        ..known
+    }
+}
+
+/// So many branching facts, of which the first `choices` may stand or not and the others never do.
+pub fn chosen(choices: u16, branching: u16) -> Known {
+    let known = free(choices, 0, branching + 1);
+    let mut book = known.book;
+    for atom in choices..branching {
+        book = book.rule(1, plain(branching), &[not(atom), plain(branching)]);
+    }
+    Known {
+        book,
+        branching: branching.into(),
+        ..known
+    }
+}
+
+/// Ten branching facts and so many rules, eight at least: four choices, and facts that follow from
+/// these and from each other.
+pub fn sized(rng: &mut Rng, rules: usize) -> Known {
+    const CHOICES: u16 = 4;
+    const BRANCHING: u16 = 10;
+    let mut book = Book::new(256, 1);
+    for at in 0..CHOICES {
+        let (p, q) = (2 * at, 2 * at + 1);
+        // The last two have no rule and never stand.
+        book = book
+            .rule(0, plain(p), &[not(q), not(8)])
+            .rule(0, plain(q), &[not(p), not(9)]);
+    }
+    while book.rules.len() < rules {
+        let atom = rng.range(BRANCHING.into(), 255);
+        let before = rng.below(atom) as u16;
+        let choice = Literal {
+            atom: rng.below(BRANCHING.into()) as u16,
+            negated: rng.chance(70),
+        };
+        book = book.rule(0, plain(atom as u16), &[plain(before), choice]);
+    }
+    rng.shuffle(&mut book.rules);
+    let rules = book.rules.clone();
+    Known {
+        book,
+        layer: 0,
+        branching: BRANCHING.into(),
+        count: 1 << CHOICES,
+        state: Box::new(move |number| {
+            let mut state = vec![false; 256];
+            for at in 0..usize::from(CHOICES) {
+                state[2 * at + usize::from(bit(number, at))] = true;
+            }
+            for atom in BRANCHING..256 {
+                let mut about = rules.iter().filter(|rule| rule.head.atom == atom);
+                state[usize::from(atom)] = about.any(|rule| body_holds(rule, &state));
+            }
+            state
+        }),
+    }
 }
 
 /// A small book's facts under other numbers among `atoms`, and facts that follow them over plain
@@ -460,6 +571,75 @@ pub fn chained(choices: u16) -> Known {
     }
 }
 
+/// What becomes of each setting of `slowest` at its end.
+#[derive(Clone, Copy, PartialEq, Eq)]
+pub enum Ending {
+    /// A stable state.
+    Stable,
+    /// None: only the comparison after the last pass shows it.
+    Unstable,
+}
+
+/// The slowest book that we know for an engine which makes passes over the rules: 1,024 rules of 16
+/// literals, of both signs in no order. Each setting adds one fact a pass over a chain that stands
+/// in reverse, and in each pass the rules about `STOP` fail at their last literals.
+pub fn slowest(rng: &mut Rng, choices: u16, ending: Ending) -> Known {
+    const STOP: u16 = 255;
+    // One that always stands and has no rule over others, and one that has no rule at all.
+    let (base, never) = (choices, choices + 1);
+    let chain = choices + 2..STOP - 1;
+    let doubted = STOP - 1;
+    let mut full = |last: Literal| -> Vec<Literal> {
+        let mut body: Vec<Literal> = (0..15)
+            .map(|_| rng.pick(&[plain(base), not(never)]))
+            .collect();
+        body.push(last);
+        body
+    };
+    let mut book = Book::new(256, 2).arrow(0, 1).rule(0, plain(base), &[]);
+    for atom in 0..choices {
+        book = book
+            .rule(0, plain(atom), &full(plain(base)))
+            .rule(0, not(atom), &full(plain(base)))
+            .rule(1, plain(atom), &sixteen(&[plain(atom)]))
+            .rule(1, not(atom), &sixteen(&[not(atom)]));
+    }
+    if ending == Ending::Unstable {
+        // Where it does not stand this is not by default, and where it does, its rule is displaced.
+        book = book
+            .rule(0, plain(doubted), &[])
+            .rule(1, not(doubted), &[not(doubted)])
+            .rule(1, not(doubted), &[plain(doubted)]);
+    }
+    while book.rules.len() + chain.len() < 1024 {
+        book = book.rule(0, plain(STOP), &full(plain(STOP)));
+    }
+    for atom in chain.clone().rev() {
+        let before = match atom == chain.start {
+            true => base,
+            false => atom - 1,
+        };
+        book = book.rule(0, plain(atom), &full(plain(before)));
+    }
+    Known {
+        book,
+        layer: 1,
+        branching: usize::from(choices) + 1 + usize::from(ending == Ending::Unstable),
+        count: match ending {
+            Ending::Stable => 1 << choices,
+            Ending::Unstable => 0,
+        },
+        state: Box::new(move |number| {
+            (0..256)
+                .map(|atom| match atom < choices {
+                    true => bit(number, atom.into()),
+                    false => atom == base || chain.contains(&atom),
+                })
+                .collect()
+        }),
+    }
+}
+
 #[cfg(test)]
 mod tests {
     use super::*;
@@ -520,5 +700,20 @@ mod tests {
         let chained = chained(3);
         assert_eq!(chained.book.rules.len(), 1_024);
         assert_known("chained", &chained);
+        assert_known("front and end", &front_and_end(4, 9));
+        assert_known("spared", &spared(pairs(3, 1)));
+        for choices in 0..5 {
+            assert_known("chosen", &chosen(choices, 6));
+        }
+        for rules in [8, 32, 128, 512, 1_024] {
+            let sized = sized(&mut rng, rules);
+            assert_eq!(sized.book.rules.len(), rules);
+            assert_known("sized", &sized);
+        }
+        for ending in [Ending::Stable, Ending::Unstable] {
+            let slowest = slowest(&mut rng, 3, ending);
+            assert_eq!(slowest.book.rules.len(), 1_024);
+            assert_known("slowest", &slowest);
+        }
     }
 }
