@@ -13,8 +13,10 @@ use std::env;
 use std::hint::black_box;
 use std::time::{Duration, Instant};
 
-/// The most rounds of a row, and the time after which it begins no other one.
-const ROUNDS: u32 = 20;
+/// The fewest and the most rounds of a row, and the time after which it begins no other than the
+/// fewest.
+const FEWEST: u32 = 2;
+const MOST: u32 = 20;
 const BUDGET: Duration = Duration::from_millis(300);
 
 /// The shortest time that is measured at once.
@@ -59,8 +61,8 @@ fn row(name: &str, book: &[u8], mut runs: [Run; 3]) {
     let start = Instant::now();
     let measured = runs.each_mut().map(|run| enough(run));
     let mut best = measured.map(|(_, one)| one);
-    for _ in 1..ROUNDS {
-        if start.elapsed() >= BUDGET {
+    for round in 1..MOST {
+        if round >= FEWEST && start.elapsed() >= BUDGET {
             break;
         }
         for ((run, (calls, _)), best) in runs.iter_mut().zip(measured).zip(&mut best) {
@@ -304,7 +306,7 @@ fn main() {
         Some(other) => panic!("{other}: the only option is --full"),
     };
     let seed = seed();
-    println!("Time of a call, best of up to {ROUNDS} rounds, seed {seed}.\n");
+    println!("Time of a call, best of {FEWEST} to {MOST} rounds, seed {seed}.\n");
     println!("| Call and book | bytes | engine | plain Rust | ratio | bit sets | ratio |");
     println!("|---|---|---|---|---|---|---|");
     checks_and_tests();
