@@ -6,7 +6,7 @@ use Prim.Native.Nat.{ℕ, _+_, _*_, _<_, _≤_}
 use native.Mathlib.Omega.{arith}
 use borrow.Author.Tests.{ltb-true, ltb-false, lt-ltb}
 use lib.Dec.{ltb}
-use lib.ListN.{length, replicate}
+use lib.ListN.{length}
 use Rattle.base.specs.Bounds.{maxAtoms}
 use Rattle.base.specs.Lists.{flat}
 use Rattle.base.proofs.Members.{_∈_}
@@ -21,6 +21,7 @@ use Rattle.search.specs.declared.Goal.the-variants.{First}
 use Rattle.search.specs.declared.Visit.{Visit}
 use Rattle.search.specs.Found.{atSetting, foundBy}
 use Rattle.search.specs.Visits.{reaches, stopped, Met, Visits, done, next, Searched}
+use Rattle.setting.specs.Setting.{settingOf}
 use Rattle.search.specs.Searchable.{Searchable}
 use Rattle.search.proofs.VisitLaws.{visits-count, visits-added}
 use Rattle.passes.specs.Tallied.{searched, Tallied}
@@ -76,7 +77,7 @@ module _ {book rows overridden atoms : List ℕ} {layer n : ℕ} (w : Searchable
       )
   one-written (m ∷ k ∷ ms) x h = absurd (omega (arith, one-at-most n (m ∷ k ∷ ms) start part end part′ refl x))
 
-  module _ (s : Searched n (foundBy (atSetting P atoms) atoms (replicate 256 false)) start part end part′) where
+  module _ (s : Searched n (foundBy (atSetting P atoms) atoms (settingOf atoms 0)) start part end part′) where
     t : Tallied P First 0 (end .count) (end .standing)
     t = tallied w First 0 (length part) part end part′ s
 

@@ -22,6 +22,8 @@ use Rattle.search.specs.declared.Goal.the-variants.{All}
 use Rattle.search.specs.declared.Visit.{Visit}
 use Rattle.search.specs.Found.{atSetting, foundBy}
 use Rattle.search.specs.Visits.{reaches, Kept, Searched}
+use Rattle.setting.specs.Setting.{settingOf}
+use Rattle.setting.proofs.SettingLaws.{setting-none}
 use Rattle.search.specs.Searchable.{Searchable}
 use Rattle.search.proofs.FoundLaws.{found-stable, stable-found, found-once, found-count}
 use Rattle.search.proofs.VisitLaws.{visits-goal, visits-count, visits-standing, visits-added}
@@ -51,9 +53,11 @@ module _ {book rows overridden atoms : List ℕ} {layer n : ℕ} (w : Searchable
   abbrev P : Program
   P = programOf book layer
 
-  pub found-is : foundBy (atSetting P atoms) atoms (replicate 256 false) ≡ searched P
+  pub found-is : foundBy (atSetting P atoms) atoms (settingOf atoms 0) ≡ searched P
   unfolding searched
-  found-is = ap (λ (l : List ℕ). foundBy (atSetting P l) l (replicate 256 false)) (w .listed)
+  found-is =
+      ap (λ (o : Interpretation). foundBy (atSetting P atoms) atoms o) (sym (setting-none atoms))
+      ∙ ap (λ (l : List ℕ). foundBy (atSetting P l) l (replicate 256 false)) (w .listed)
 
   pub start-fits : 0 + 2 ^ length atoms ≤ 4294967296
   start-fits = omega (arith, pow-le-pow-right {n = 2} (omega arith) (w .atoms-few))
@@ -62,7 +66,7 @@ module _ {book rows overridden atoms : List ℕ} {layer n : ℕ} (w : Searchable
   start-kept goal atom hi part h = record { order = omega arith; fits = h; whole = mult-zero (recordSize n); few = omega arith }
 
   module _ (goal : Goal) (atom hi : ℕ) (part : List ℕ) (end : Visit) (part′ : List ℕ)
-      (s : Searched n (foundBy (atSetting P atoms) atoms (replicate 256 false)) (record { goal = goal; atom = atom; count = 0; standing = 0; lo = 0; hi = hi }) part end part′) where
+      (s : Searched n (foundBy (atSetting P atoms) atoms (settingOf atoms 0)) (record { goal = goal; atom = atom; count = 0; standing = 0; lo = 0; hi = hi }) part end part′) where
     abbrev start : Visit
     start = record { goal = goal; atom = atom; count = 0; standing = 0; lo = 0; hi = hi }
 

@@ -9,7 +9,7 @@ use native.Mathlib.Decide.{ℕ-discrete}
 use native.Mathlib.Omega.{arith}
 use lib.Bits.{bitAnd, bitOr}
 use lib.Dec.{T, T-not}
-use lib.ListN.{length, getD, set, take, drop, length-set, replicate, length-replicate}
+use lib.ListN.{length, getD, set, take, drop, length-set}
 use lib.Seq.{drop-cons, take-all, set-set, getD-set-same, getD-set-other}
 use Rattle.base.proofs.Members.{_∈_}
 use Rattle.layers.specs.Masks.{bitOf}
@@ -21,8 +21,10 @@ use Rattle.models.specs.Branching.{branchingAtoms}
 use Rattle.table.specs.Rows.{rowCount, rowAt, rowsOf}
 use Rattle.table.specs.Table.{programOf}
 use Rattle.table.proofs.RowLaws.{row-of}
+use Rattle.setting.specs.Setting.{settingOf}
 use Rattle.setting.specs.RuleMasks.{RuleMasks, plainMask, negatedMask, Open, Headed}
 use Rattle.setting.proofs.BitMaskLaws.{single, single-only}
+use Rattle.setting.proofs.SettingLaws.{setting-size, setting-false, setting-true}
 use Rattle.insertion.proofs.Once.{Once}
 use Rattle.insertion.proofs.SortedLaws.{getD-member}
 use Rattle.search.specs.Found.{atSetting, foundBy}
@@ -120,9 +122,9 @@ module _ {book rows overridden atoms : List ℕ} {layer n : ℕ} (w : Searchable
 pub listed-once : {book rows overridden atoms : List ℕ} {layer n : ℕ} → Searchable book rows overridden atoms layer n → Once atoms
 listed-once {book} {layer = layer} w = subst Once (sym (w .listed)) (branching-once (programOf book layer) (w .formed))
 
-pub decided-start : (atoms : List ℕ) → Decided atoms atoms (replicate 256 false) 0 0
+pub decided-start : (atoms : List ℕ) → Decided atoms atoms (settingOf atoms 0) 0 0
 decided-start atoms = record {
-  size = length-replicate {A = Bool} 256 false;
+  size = setting-size atoms 0;
   few = omega arith;
   last = let z : length atoms - length atoms ≡ 0 = omega arith in ap (λ (k : ℕ). drop k atoms) (sym z);
   standing-in = λ i z. absurd (no-bit i z);
@@ -186,7 +188,7 @@ module _ (atoms : List ℕ) (once : Once atoms) (few : length atoms ≤ 20) (und
   suffix : later ≡ drop (length atoms - length later) atoms
   suffix = later-is ∙ (let e : suc i ≡ length atoms - length later = omega (arith, later-size, s .few) in ap (λ (x : ℕ). drop x atoms) e)
 
-  pub decided-false : Decided atoms later (set o f false) standing (bitOr denied (single i))
+  decided-false : Decided atoms later (set o f false) standing (bitOr denied (single i))
   unfolding atomHolds
   decided-false = record {
     size = length-set o f false ∙ s .size;
@@ -201,7 +203,7 @@ module _ (atoms : List ℕ) (once : Once atoms) (few : length atoms ≤ 20) (und
         (or-cases denied (single i) p z);
   }
 
-  pub decided-true : Decided atoms later (set (set o f false) f true) (bitOr standing (single i)) denied
+  decided-true : Decided atoms later (set (set o f false) f true) (bitOr standing (single i)) denied
   unfolding atomHolds
   decided-true = rw (set-set o f false true) (record {
     size = length-set o f true ∙ s .size;
@@ -215,3 +217,44 @@ module _ (atoms : List ℕ) (once : Once atoms) (few : length atoms ≤ 20) (und
         (or-cases standing (single i) p z);
     denied-in = λ p z. let d = s .denied-in p z in (still p (d .0), subst (λ (c : Bool). T (not c)) (sym (getD-set-other o f (getD atoms p 0) true false (not-first p (d .0)))) (d .1));
   })
+
+-- the same for the setting that the masks stand for, as the two halves of the search have it
+module _ (atoms : List ℕ) (once : Once atoms) (few : length atoms ≤ 20) (undecided : List ℕ) (standing denied : ℕ) (s : Decided atoms undecided (settingOf atoms standing) standing denied)
+    (some : length undecided ≡ 0 → ⊥) (bf : getD undecided 0 0 < 256) where
+  abbrev X : Interpretation
+  X = settingOf atoms standing
+
+  abbrev f : ℕ
+  f = getD undecided 0 0
+
+  unset : (k : ℕ) → bitOf standing k ≡ 1 → getD atoms k 0 ≡ f → ⊥
+  unset k z e = not-first atoms once few undecided X standing denied s some f refl bf k (s .standing-in k z .0) e
+
+  pub first-half : set X f false ≡ settingOf atoms standing
+  first-half =
+      setting-false atoms standing (length atoms - length undecided) f (before-end atoms once few undecided X standing denied s some f refl bf) (low atoms once few undecided X standing denied s some f refl bf)
+      (f-is atoms once few undecided X standing denied s some f refl bf) bf unset
+
+  pub second-half : set (set X f false) f true ≡ settingOf atoms (bitOr standing (single (length atoms - length undecided)))
+  second-half =
+      setting-true atoms standing (length atoms - length undecided) f (before-end atoms once few undecided X standing denied s some f refl bf) (low atoms once few undecided X standing denied s some f refl bf)
+      (f-is atoms once few undecided X standing denied s some f refl bf) bf unset
+
+  pub decided-first : Decided atoms (take (length undecided - 1) (drop 1 undecided)) (settingOf atoms standing) standing (bitOr denied (single (length atoms - length undecided)))
+  decided-first =
+      subst (λ (o : Interpretation). Decided atoms (take (length undecided - 1) (drop 1 undecided)) o standing (bitOr denied (single (length atoms - length undecided)))) first-half
+      (decided-false atoms once few undecided X standing denied s some f refl bf)
+
+  pub decided-second : Decided atoms (take (length undecided - 1) (drop 1 undecided)) (settingOf atoms (bitOr standing (single (length atoms - length undecided)))) (bitOr standing (single (length atoms - length undecided))) denied
+  decided-second =
+      subst (λ (o : Interpretation). Decided atoms (take (length undecided - 1) (drop 1 undecided)) o (bitOr standing (single (length atoms - length undecided))) denied) second-half
+      (decided-true atoms once few undecided X standing denied s some f refl bf)
+
+-- an undecided atom is one of 256
+pub first-small : {book rows overridden atoms : List ℕ} {layer n : ℕ} (w : Searchable book rows overridden atoms layer n) (undecided : List ℕ) (o : Interpretation) (standing denied : ℕ)
+    → Decided atoms undecided o standing denied → (length undecided ≡ 0 → ⊥) → getD undecided 0 0 < 256
+first-small {book} {atoms = atoms} {layer = layer} w undecided o standing denied s some =
+    let h : length atoms - length undecided < length atoms = omega (arith, s .few) in
+    let e : getD undecided 0 0 ≡ getD atoms (length atoms - length undecided) 0 = ap (λ (l : List ℕ). getD l 0 0) (s .last ∙ drop-cons atoms (length atoms - length undecided) 0 h) in
+    let m : getD atoms (length atoms - length undecided) 0 ∈ branchingAtoms (programOf book layer) = subst (λ (l : List ℕ). getD atoms (length atoms - length undecided) 0 ∈ l) (w .listed) (getD-member atoms (length atoms - length undecided) 0 h) in
+    omega (arith, branching-small (programOf book layer) (w .formed) (getD atoms (length atoms - length undecided) 0) m, w .size, w .few)

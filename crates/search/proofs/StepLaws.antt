@@ -1,5 +1,5 @@
 -- One call of the search: a leaf, or two halves with one fact decided each way. Used by the proof of `search`. Assumes nothing.
-use mathlib.Core.Path.{_≡_, refl, sym, ap, subst, _∙_}
+use mathlib.Core.Path.{_≡_, refl, sym, ap, ap₂, subst, _∙_}
 use mathlib.Core.Bool.{Bool, true, false}
 use mathlib.Core.List.{List, [], _∷_, _++_}
 use Prim.Native.Nat.{ℕ, suc, _+_, _-_, _^_, _<_, _≤_}
@@ -78,18 +78,20 @@ module _ (n : ℕ) (leaf : Interpretation → List Interpretation) (undecided : 
             let t : take (length (g ∷ fs) - 1) fs ≡ fs = take-all (length (g ∷ fs) - 1) fs (omega arith) in
             rw (t, q, set-set o g false true) refl
 
-    pub both-halves : (f : ℕ) → f ≡ getD undecided 0 0 → (v : Visit) (p : List ℕ) (v₁ : Visit) (p₁ : List ℕ) (v₂ : Visit) (p₂ : List ℕ)
-        → Searched n (foundBy leaf later (set o f false)) v p v₁ p₁ → Searched n (foundBy leaf later (set (set o f false) f true)) v₁ p₁ v₂ p₂
-        → Searched n (foundBy leaf undecided o) v p v₂ p₂
-    both-halves f e v p v₁ p₁ v₂ p₂ a b =
-        subst (λ (ms : List Interpretation). Searched n ms v p v₂ p₂) (sym (halves f e))
-        (searched-append n (foundBy leaf later (set o f false)) (foundBy leaf later (set (set o f false) f true)) v p v₁ p₁ v₂ p₂ a b)
+    -- the two halves, with the first undecided fact decided each way
+    module _ (o₁ : Interpretation) (e₁ : set o (getD undecided 0 0) false ≡ o₁) where
+      pub both-halves : (o₂ : Interpretation) → set (set o (getD undecided 0 0) false) (getD undecided 0 0) true ≡ o₂
+          → (v : Visit) (p : List ℕ) (v₁ : Visit) (p₁ : List ℕ) (v₂ : Visit) (p₂ : List ℕ)
+          → Searched n (foundBy leaf later o₁) v p v₁ p₁ → Searched n (foundBy leaf later o₂) v₁ p₁ v₂ p₂ → Searched n (foundBy leaf undecided o) v p v₂ p₂
+      both-halves o₂ e₂ v p v₁ p₁ v₂ p₂ a b =
+          subst (λ (ms : List Interpretation). Searched n ms v p v₂ p₂)
+          (sym (halves (getD undecided 0 0) refl ∙ ap₂ (λ (x y : Interpretation). foundBy leaf later x ++ foundBy leaf later y) e₁ e₂))
+          (searched-append n (foundBy leaf later o₁) (foundBy leaf later o₂) v p v₁ p₁ v₂ p₂ a b)
 
     pub first-fits : (c : ℕ) → c + 2 ^ length undecided ≤ limit → c + 2 ^ length later ≤ limit
     first-fits c h = omega (arith, ap (λ (k : ℕ). 2 ^ k) later-length, pow-suc 2 (length later))
 
-    module _ (one : (x : Interpretation) → length (leaf x) ≤ 1) (f : ℕ) (v : Visit) (p : List ℕ) (v₁ : Visit) (p₁ : List ℕ)
-        (a : Searched n (foundBy leaf later (set o f false)) v p v₁ p₁) where
+    module _ (one : (x : Interpretation) → length (leaf x) ≤ 1) (o₁ : Interpretation) (v : Visit) (p : List ℕ) (v₁ : Visit) (p₁ : List ℕ) (a : Searched n (foundBy leaf later o₁) v p v₁ p₁) where
       pub second-kept : Kept n v p → Kept n v₁ p₁
       second-kept k = visits-kept n (a .seen) v p v₁ p₁ (a .visits) k
 
@@ -101,7 +103,7 @@ module _ (n : ℕ) (leaf : Interpretation → List Interpretation) (undecided : 
             pow-suc 2 (length later),
             visits-count n (a .seen) v p v₁ p₁ (a .visits),
             ap length (a .split) ∙ length-append (a .seen) (a .rest),
-            found-le leaf one later (set o f false),
+            found-le leaf one later o₁,
           )
 
 -- at most one model for each setting, in the code's words

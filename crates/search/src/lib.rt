@@ -9,6 +9,7 @@ ghost use Rattle.search.specs.Found.{agreeOn, atSetting, foundBy};
 ghost use Rattle.search.specs.Visits.{stopped, Kept, Met, Searched};
 ghost use Rattle.table.specs.Rows.{rowCount};
 ghost use Rattle.table.specs.Table.{programOf};
+ghost use Rattle.setting.specs.Setting.{settingOf};
 ghost use Rattle.setting.specs.RuleMasks.{RuleMasks};
 ghost use Rattle.search.specs.Searchable.{Searchable, Denied};
 ghost use Rattle.search.specs.Decided.{Decided};
@@ -18,6 +19,7 @@ use records::atom_bit;
 use records::insert_state;
 use records::record_size;
 use setting::headed;
+use setting::setting_of;
 use table::atom_holds;
 use tester::fill;
 use tester::is_stable;
@@ -159,14 +161,22 @@ pub fn visit_setting(
     overridden: &[u32],
     atoms: &[u8],
     n: usize,
-    setting: [bool; 256],
+    standing: u32,
     part: &mut [u8],
     v: Visit,
 ) -> Visit
     requires { ⌜ Searchable (now book) (now rows) (now overridden) (now atoms) layer n × Kept n v (now part) × (v .count < 4294967296) × (stopped v ≡ false) ⌝ }
-    ensures { λ r. ⌜ Searched n (atSetting (programOf (now (book .entry)) layer) (now (atoms .entry)) setting) v (now (part .entry)) r (now (part .exit)) ⌝ }
+    ensures { λ r. ⌜ Searched n (atSetting (programOf (now (book .entry)) layer) (now (atoms .entry)) (settingOf (now (atoms .entry)) standing)) v (now (part .entry)) r (now (part .exit)) ⌝ }
 {
-    let found = model_at(book, layer, rows, overridden, atoms, n, setting);
+    let found = model_at(
+        book,
+        layer,
+        rows,
+        overridden,
+        atoms,
+        n,
+        setting_of(atoms, standing),
+    );
     let state = found.state;
     if found.ok {
         return meet(state, n, part, v);
@@ -175,7 +185,8 @@ pub fn visit_setting(
 }
 
 // Goes through the settings of the undecided branching facts, each at most once, and visits the stable model of each setting, if
-// there is one. The facts decided so far are in `setting`, and as masks in `standing` and `denied`; `atoms` has all branching facts.
+// there is one. `atoms` has all branching facts; of those decided so far, `standing` has the bits of those that stand and `denied`
+// the bits of the others.
 // Where no rule can reach a fact that stands, no setting of the others has a stable model, and none is gone through.
 pub fn search(
     book: &[u8],
@@ -186,14 +197,13 @@ pub fn search(
     atoms: &[u8],
     undecided: &[u8],
     n: usize,
-    setting: [bool; 256],
     standing: u32,
     denied: u32,
     part: &mut [u8],
     v: Visit,
 ) -> Visit
-    requires { ⌜ Searchable (now book) (now rows) (now overridden) (now atoms) layer n × Kept n v (now part) × (v .count + 2 ^ length (now undecided) ≤ 4294967296) × RuleMasks (now book) (now rows) (now atoms) (now masks) (rowCount (now rows)) × Decided (now atoms) (now undecided) setting standing denied ⌝ }
-    ensures { λ r. ⌜ Searched n (foundBy (atSetting (programOf (now (book .entry)) layer) (now (atoms .entry))) (now (undecided .entry)) setting) v (now (part .entry)) r (now (part .exit)) ⌝ }
+    requires { ⌜ Searchable (now book) (now rows) (now overridden) (now atoms) layer n × Kept n v (now part) × (v .count + 2 ^ length (now undecided) ≤ 4294967296) × RuleMasks (now book) (now rows) (now atoms) (now masks) (rowCount (now rows)) × Decided (now atoms) (now undecided) (settingOf (now atoms) standing) standing denied ⌝ }
+    ensures { λ r. ⌜ Searched n (foundBy (atSetting (programOf (now (book .entry)) layer) (now (atoms .entry))) (now (undecided .entry)) (settingOf (now (atoms .entry)) standing)) v (now (part .entry)) r (now (part .exit)) ⌝ }
 {
     if stops(v) {
         return v;
@@ -202,13 +212,10 @@ pub fn search(
         return v;
     }
     if undecided.len() == 0 {
-        return visit_setting(book, layer, rows, overridden, atoms, n, setting, part, v);
+        return visit_setting(book, layer, rows, overridden, atoms, n, standing, part, v);
     }
-    let f = wide(undecided[0]);
     let rest = undecided.len();
     let bit = 1 << ((atoms.len() - rest) as u32);
-    let mut decided = setting;
-    decided[f] = false;
     let half = search(
         book,
         layer,
@@ -218,13 +225,11 @@ pub fn search(
         atoms,
         &undecided[1..rest],
         n,
-        decided,
         standing,
         denied | bit,
         part,
         v,
     );
-    decided[f] = true;
     search(
         book,
         layer,
@@ -234,7 +239,6 @@ pub fn search(
         atoms,
         &undecided[1..rest],
         n,
-        decided,
         standing | bit,
         denied,
         part,

@@ -6,6 +6,7 @@ ghost use Prim.Native.Nat.{_*_, _<_, _≤_};
 ghost use lib.ListN.{length, getD};
 ghost use Rattle.base.specs.Bounds.{maxBranching, maxRules};
 ghost use Rattle.table.specs.Rows.{rowCount, RowsFit};
+ghost use Rattle.setting.specs.Setting.{settingOf};
 ghost use Rattle.setting.specs.RuleMasks.{AtomBits, BodyMask, RuleMasks, Headed};
 use base::wide;
 use base::wide16;
@@ -71,6 +72,22 @@ pub fn rule_masks(book: &[u8], rows: &[u16], atoms: &[u8]) -> [u32; 3072]
         j += 1;
     }
     masks
+}
+
+// The setting that a mask stands for.
+pub fn setting_of(atoms: &[u8], standing: u32) -> [bool; 256]
+    requires { ⌜ length (now atoms) ≤ maxBranching ⌝ }
+    ensures { λ r. ⌜ r ≡ settingOf (now (atoms .entry)) standing ⌝ }
+{
+    let mut setting = [false; 256];
+    let mut i = 0;
+    while i < atoms.len() {
+        if (standing >> (i as u32)) & 1 == 1 {
+            setting[wide(atoms[i])] = true;
+        }
+        i += 1;
+    }
+    setting
 }
 
 // A row's head where nothing of its body is denied, and else no bit. There is no branch in it: what is denied at one setting and not

@@ -2,6 +2,7 @@
 -- found (QuickLaws), a leaf, and two halves with the first undecided fact decided each way (StepLaws). Assumes nothing.
 use mathlib.Core.Path.{sym, _∙_}
 use lib.ListN.{length}
+use Rattle.setting.specs.Setting.{settingOf}
 use Rattle.search.proofs.QuickLaws as quick
 use Rattle.search.proofs.StepLaws as laws
 use Rattle.search.proofs.VisitLaws as visits
@@ -13,7 +14,6 @@ use borrow.Fn.PlainCycle.{Measures, is, falls, and}
 use Rattle.search.proofs.search.Reads as search′
 use Rattle.search.proofs.search.Kinds as search-kinds
 use Rattle.search.proofs.+search.Lts-search as search-lts
-use Rattle.base.proofs.wide.Reads as wide-reads
 use Rattle.search.proofs.stops.Reads as stops-reads
 use Rattle.search.proofs.visit_setting.Reads as visit-setting-reads
 use Rattle.setting.proofs.headed.Reads as headed-reads
@@ -36,8 +36,6 @@ search-stops-requires : (t : ℕ) → search-lts.Need-stops-requires (
   headed-reads.Learnt,
   visit-setting-reads.Asked,
   visit-setting-reads.Learnt,
-  wide-reads.Asked,
-  wide-reads.Learnt,
   search-below t,
   search′.Post,
 ) (search-at t) search′.Post
@@ -50,8 +48,6 @@ search-returns : (t : ℕ) → search-lts.Need-returns (
   headed-reads.Learnt,
   visit-setting-reads.Asked,
   visit-setting-reads.Learnt,
-  wide-reads.Asked,
-  wide-reads.Learnt,
   search-below t,
   search′.Post,
 ) (search-at t) search′.Post
@@ -64,8 +60,6 @@ search-headed-requires : (t : ℕ) → search-lts.Need-headed-requires (
   headed-reads.Learnt,
   visit-setting-reads.Asked,
   visit-setting-reads.Learnt,
-  wide-reads.Asked,
-  wide-reads.Learnt,
   search-below t,
   search′.Post,
 ) (search-at t) search′.Post
@@ -78,12 +72,10 @@ search-returns-2 : (t : ℕ) → search-lts.Need-returns-2 (
   headed-reads.Learnt,
   visit-setting-reads.Asked,
   visit-setting-reads.Learnt,
-  wide-reads.Asked,
-  wide-reads.Learnt,
   search-below t,
   search′.Post,
 ) (search-at t) search′.Post
-search-returns-2 t c = let s = c .before .before .before .before .before .before .before .before .before .before .before in let a = s .args in let q = s .pre .1 in laws.none-searched (a .n) _ (quick.none-found (q .0) (q .3) (a .setting) (q .4) (c .before .headed .result) (c .before .headed .ensures) (c .if2 .taken)) (a .v) (a .part .now)
+search-returns-2 t c = let s = c .before .before .before .before .before .before .before .before .before .before .before in let a = s .args in let q = s .pre .1 in laws.none-searched (a .n) _ (quick.none-found (q .0) (q .3) (settingOf (a .atoms .now) (a .standing)) (q .4) (c .before .headed .result) (c .before .headed .ensures) (c .if2 .taken)) (a .v) (a .part .now)
 
 search-visit-setting-requires : (t : ℕ) → search-lts.Need-visit-setting-requires (
   stops-reads.Asked,
@@ -92,8 +84,6 @@ search-visit-setting-requires : (t : ℕ) → search-lts.Need-visit-setting-requ
   headed-reads.Learnt,
   visit-setting-reads.Asked,
   visit-setting-reads.Learnt,
-  wide-reads.Asked,
-  wide-reads.Learnt,
   search-below t,
   search′.Post,
 ) (search-at t) search′.Post
@@ -106,8 +96,6 @@ search-same-length : (t : ℕ) → search-lts.Need-same-length (
   headed-reads.Learnt,
   visit-setting-reads.Asked,
   visit-setting-reads.Learnt,
-  wide-reads.Asked,
-  wide-reads.Learnt,
   search-below t,
   search′.Post,
 ) (search-at t) search′.Post
@@ -120,40 +108,10 @@ search-returns-3 : (t : ℕ) → search-lts.Need-returns-3 (
   headed-reads.Learnt,
   visit-setting-reads.Asked,
   visit-setting-reads.Learnt,
-  wide-reads.Asked,
-  wide-reads.Learnt,
   search-below t,
   search′.Post,
 ) (search-at t) search′.Post
-search-returns-3 t c = let s = c .before .before .before .before .before .before .before .before .before .before .before .before .before .before .before .before in let a = s .args in let q = s .pre .1 in laws.leaf-searched (a .n) (laws.leafOf (a .book .now) (a .atoms .now) (a .layer)) (a .undecided .now) (a .setting) (c .before .before .before .before .if3 .taken) (a .v) (a .part .now) _ _ (c .before .before .visit-setting .ensures)
-
-search-shared-slice-read-wide : (t : ℕ) → search-lts.Need-shared-slice-read-wide (
-  stops-reads.Asked,
-  stops-reads.Learnt,
-  headed-reads.Asked,
-  headed-reads.Learnt,
-  visit-setting-reads.Asked,
-  visit-setting-reads.Learnt,
-  wide-reads.Asked,
-  wide-reads.Learnt,
-  search-below t,
-  search′.Post,
-) (search-at t) search′.Post
-search-shared-slice-read-wide t c = search needs
-
-search-wide-requires : (t : ℕ) → search-lts.Need-wide-requires (
-  stops-reads.Asked,
-  stops-reads.Learnt,
-  headed-reads.Asked,
-  headed-reads.Learnt,
-  visit-setting-reads.Asked,
-  visit-setting-reads.Learnt,
-  wide-reads.Asked,
-  wide-reads.Learnt,
-  search-below t,
-  search′.Post,
-) (search-at t) search′.Post
-search-wide-requires t c κs = search needs
+search-returns-3 t c = let s = c .before .before .before .before .before .before .before .before .before .before .before .before .before .before .before .before in let a = s .args in let q = s .pre .1 in laws.leaf-searched (a .n) (laws.leafOf (a .book .now) (a .atoms .now) (a .layer)) (a .undecided .now) (settingOf (a .atoms .now) (a .standing)) (c .before .before .before .before .if3 .taken) (a .v) (a .part .now) _ _ (c .before .before .visit-setting .ensures)
 
 search-sub-bit : (t : ℕ) → search-lts.Need-sub-bit (
   stops-reads.Asked,
@@ -162,12 +120,10 @@ search-sub-bit : (t : ℕ) → search-lts.Need-sub-bit (
   headed-reads.Learnt,
   visit-setting-reads.Asked,
   visit-setting-reads.Learnt,
-  wide-reads.Asked,
-  wide-reads.Learnt,
   search-below t,
   search′.Post,
 ) (search-at t) search′.Post
-search-sub-bit t c = let s = c .before .before .before .before .before .before .before .before .before .before .before .before .before .before in let a = s .args in let q = s .pre .1 in omega (arith, q .4 .few)
+search-sub-bit t c = let s = c .before .before .before .before .before .before .before .before .before .before .before .before in let a = s .args in let q = s .pre .1 in omega (arith, q .4 .few)
 
 search-cast-bit : (t : ℕ) → search-lts.Need-cast-bit (
   stops-reads.Asked,
@@ -176,12 +132,10 @@ search-cast-bit : (t : ℕ) → search-lts.Need-cast-bit (
   headed-reads.Learnt,
   visit-setting-reads.Asked,
   visit-setting-reads.Learnt,
-  wide-reads.Asked,
-  wide-reads.Learnt,
   search-below t,
   search′.Post,
 ) (search-at t) search′.Post
-search-cast-bit t c = let s = c .before .before .before .before .before .before .before .before .before .before .before .before .before .before in let a = s .args in let q = s .pre .1 in record { fits = omega (arith, q .0 .atoms-few) }
+search-cast-bit t c = let s = c .before .before .before .before .before .before .before .before .before .before .before .before in let a = s .args in let q = s .pre .1 in record { fits = omega (arith, q .0 .atoms-few) }
 
 search-shl-bit : (t : ℕ) → search-lts.Need-shl-bit (
   stops-reads.Asked,
@@ -190,26 +144,10 @@ search-shl-bit : (t : ℕ) → search-lts.Need-shl-bit (
   headed-reads.Learnt,
   visit-setting-reads.Asked,
   visit-setting-reads.Learnt,
-  wide-reads.Asked,
-  wide-reads.Learnt,
   search-below t,
   search′.Post,
 ) (search-at t) search′.Post
-search-shl-bit t c = let s = c .before .before .before .before .before .before .before .before .before .before .before .before .before .before in let a = s .args in let q = s .pre .1 in omega (arith, q .0 .atoms-few, c .before .before .if3 .left, q .4 .few)
-
-search-array-write-decided : (t : ℕ) → search-lts.Need-array-write-decided (
-  stops-reads.Asked,
-  stops-reads.Learnt,
-  headed-reads.Asked,
-  headed-reads.Learnt,
-  visit-setting-reads.Asked,
-  visit-setting-reads.Learnt,
-  wide-reads.Asked,
-  wide-reads.Learnt,
-  search-below t,
-  search′.Post,
-) (search-at t) search′.Post
-search-array-write-decided t c = omega (arith, c .wide .ensures .1)
+search-shl-bit t c = let s = c .before .before .before .before .before .before .before .before .before .before .before .before in let a = s .args in let q = s .pre .1 in omega (arith, q .0 .atoms-few, c .if3 .left, q .4 .few)
 
 search-sub-search : (t : ℕ) → search-lts.Need-sub-search (
   stops-reads.Asked,
@@ -218,8 +156,6 @@ search-sub-search : (t : ℕ) → search-lts.Need-sub-search (
   headed-reads.Learnt,
   visit-setting-reads.Asked,
   visit-setting-reads.Learnt,
-  wide-reads.Asked,
-  wide-reads.Learnt,
   search-below t,
   search′.Post,
 ) (search-at t) search′.Post
@@ -232,8 +168,6 @@ search-part-search-start : (t : ℕ) → search-lts.Need-part-search-start (
   headed-reads.Learnt,
   visit-setting-reads.Asked,
   visit-setting-reads.Learnt,
-  wide-reads.Asked,
-  wide-reads.Learnt,
   search-below t,
   search′.Post,
 ) (search-at t) search′.Post
@@ -246,8 +180,6 @@ search-part-search-end : (t : ℕ) → search-lts.Need-part-search-end (
   headed-reads.Learnt,
   visit-setting-reads.Asked,
   visit-setting-reads.Learnt,
-  wide-reads.Asked,
-  wide-reads.Learnt,
   search-below t,
   search′.Post,
 ) (search-at t) search′.Post
@@ -260,26 +192,10 @@ search-search-requires : (t : ℕ) → search-lts.Need-search-requires (
   headed-reads.Learnt,
   visit-setting-reads.Asked,
   visit-setting-reads.Learnt,
-  wide-reads.Asked,
-  wide-reads.Learnt,
   search-below t,
   search′.Post,
 ) (search-at t) search′.Post
-search-search-requires t c κs = let s = c .before .before .before .before .before .before .before .before .before .before .before .before .before .before .before .before in let a = s .args in let q = s .pre .1 in (omega (arith, laws.later-length (a .n) (laws.leafOf (a .book .now) (a .atoms .now) (a .layer)) (a .undecided .now) (a .setting) (c .before .before .before .before .if3 .left)), (q .0, q .1, laws.first-fits (a .n) (laws.leafOf (a .book .now) (a .atoms .now) (a .layer)) (a .undecided .now) (a .setting) (c .before .before .before .before .if3 .left) (a .v .count) (q .2), q .3, quick.decided-false (a .atoms .now) (quick.listed-once (q .0)) (q .0 .atoms-few) (a .undecided .now) (a .setting) (a .standing) (a .denied) (q .4) (c .before .before .before .before .if3 .left) (c .before .before .wide .result) (c .before .before .wide .ensures .0) (c .before .before .wide .ensures .1)))
-
-search-array-write-decided-2 : (t : ℕ) → search-lts.Need-array-write-decided-2 (
-  stops-reads.Asked,
-  stops-reads.Learnt,
-  headed-reads.Asked,
-  headed-reads.Learnt,
-  visit-setting-reads.Asked,
-  visit-setting-reads.Learnt,
-  wide-reads.Asked,
-  wide-reads.Learnt,
-  search-below t,
-  search′.Post,
-) (search-at t) search′.Post
-search-array-write-decided-2 t c = omega (arith, c .before .before .before .before .before .wide .ensures .1)
+search-search-requires t c κs = let s = c .before .before .before .before .before .before .before .before .before .before .before .before .before .before in let a = s .args in let q = s .pre .1 in (omega (arith, laws.later-length (a .n) (laws.leafOf (a .book .now) (a .atoms .now) (a .layer)) (a .undecided .now) (settingOf (a .atoms .now) (a .standing)) (c .before .before .if3 .left)), (q .0, q .1, laws.first-fits (a .n) (laws.leafOf (a .book .now) (a .atoms .now) (a .layer)) (a .undecided .now) (settingOf (a .atoms .now) (a .standing)) (c .before .before .if3 .left) (a .v .count) (q .2), q .3, quick.decided-first (a .atoms .now) (quick.listed-once (q .0)) (q .0 .atoms-few) (a .undecided .now) (a .standing) (a .denied) (q .4) (c .before .before .if3 .left) (quick.first-small (q .0) (a .undecided .now) (settingOf (a .atoms .now) (a .standing)) (a .standing) (a .denied) (q .4) (c .before .before .if3 .left))))
 
 search-sub-search-2 : (t : ℕ) → search-lts.Need-sub-search-2 (
   stops-reads.Asked,
@@ -288,8 +204,6 @@ search-sub-search-2 : (t : ℕ) → search-lts.Need-sub-search-2 (
   headed-reads.Learnt,
   visit-setting-reads.Asked,
   visit-setting-reads.Learnt,
-  wide-reads.Asked,
-  wide-reads.Learnt,
   search-below t,
   search′.Post,
 ) (search-at t) search′.Post
@@ -302,8 +216,6 @@ search-part-search-start-2 : (t : ℕ) → search-lts.Need-part-search-start-2 (
   headed-reads.Learnt,
   visit-setting-reads.Asked,
   visit-setting-reads.Learnt,
-  wide-reads.Asked,
-  wide-reads.Learnt,
   search-below t,
   search′.Post,
 ) (search-at t) search′.Post
@@ -316,8 +228,6 @@ search-part-search-end-2 : (t : ℕ) → search-lts.Need-part-search-end-2 (
   headed-reads.Learnt,
   visit-setting-reads.Asked,
   visit-setting-reads.Learnt,
-  wide-reads.Asked,
-  wide-reads.Learnt,
   search-below t,
   search′.Post,
 ) (search-at t) search′.Post
@@ -330,12 +240,10 @@ search-search-requires-2 : (t : ℕ) → search-lts.Need-search-requires-2 (
   headed-reads.Learnt,
   visit-setting-reads.Asked,
   visit-setting-reads.Learnt,
-  wide-reads.Asked,
-  wide-reads.Learnt,
   search-below t,
   search′.Post,
 ) (search-at t) search′.Post
-search-search-requires-2 t c κs = let s = c .before .before .before .before .before .before .before .before .before .before .before .before .before .before .before .before .before .before .before .before .before in let a = s .args in let q = s .pre .1 in let one = laws.leaf-one (a .book .now) (a .rows .now) (a .overridden .now) (a .atoms .now) (a .layer) (a .n) (q .0) in (omega (arith, laws.later-length (a .n) (laws.leafOf (a .book .now) (a .atoms .now) (a .layer)) (a .undecided .now) (a .setting) (c .before .before .before .before .before .before .before .before .before .if3 .left)), (q .0, laws.second-kept (a .n) (laws.leafOf (a .book .now) (a .atoms .now) (a .layer)) (a .undecided .now) (a .setting) (c .before .before .before .before .before .before .before .before .before .if3 .left) one _ (a .v) (a .part .now) _ _ (c .before .before .before .before .search .ensures) (q .1), laws.second-fits (a .n) (laws.leafOf (a .book .now) (a .atoms .now) (a .layer)) (a .undecided .now) (a .setting) (c .before .before .before .before .before .before .before .before .before .if3 .left) one _ (a .v) (a .part .now) _ _ (c .before .before .before .before .search .ensures) (q .2), q .3, quick.decided-true (a .atoms .now) (quick.listed-once (q .0)) (q .0 .atoms-few) (a .undecided .now) (a .setting) (a .standing) (a .denied) (q .4) (c .before .before .before .before .before .before .before .before .before .if3 .left) (c .before .before .before .before .before .before .before .wide .result) (c .before .before .before .before .before .before .before .wide .ensures .0) (c .before .before .before .before .before .before .before .wide .ensures .1)))
+search-search-requires-2 t c κs = let s = c .before .before .before .before .before .before .before .before .before .before .before .before .before .before .before .before .before .before .before in let a = s .args in let q = s .pre .1 in let one = laws.leaf-one (a .book .now) (a .rows .now) (a .overridden .now) (a .atoms .now) (a .layer) (a .n) (q .0) in (omega (arith, laws.later-length (a .n) (laws.leafOf (a .book .now) (a .atoms .now) (a .layer)) (a .undecided .now) (settingOf (a .atoms .now) (a .standing)) (c .before .before .before .before .before .before .before .if3 .left)), (q .0, laws.second-kept (a .n) (laws.leafOf (a .book .now) (a .atoms .now) (a .layer)) (a .undecided .now) (settingOf (a .atoms .now) (a .standing)) (c .before .before .before .before .before .before .before .if3 .left) one _ (a .v) (a .part .now) _ _ (c .before .before .before .before .search .ensures) (q .1), laws.second-fits (a .n) (laws.leafOf (a .book .now) (a .atoms .now) (a .layer)) (a .undecided .now) (settingOf (a .atoms .now) (a .standing)) (c .before .before .before .before .before .before .before .if3 .left) one _ (a .v) (a .part .now) _ _ (c .before .before .before .before .search .ensures) (q .2), q .3, quick.decided-second (a .atoms .now) (quick.listed-once (q .0)) (q .0 .atoms-few) (a .undecided .now) (a .standing) (a .denied) (q .4) (c .before .before .before .before .before .before .before .if3 .left) (quick.first-small (q .0) (a .undecided .now) (settingOf (a .atoms .now) (a .standing)) (a .standing) (a .denied) (q .4) (c .before .before .before .before .before .before .before .if3 .left))))
 
 search-same-length-2 : (t : ℕ) → search-lts.Need-same-length-2 (
   stops-reads.Asked,
@@ -344,8 +252,6 @@ search-same-length-2 : (t : ℕ) → search-lts.Need-same-length-2 (
   headed-reads.Learnt,
   visit-setting-reads.Asked,
   visit-setting-reads.Learnt,
-  wide-reads.Asked,
-  wide-reads.Learnt,
   search-below t,
   search′.Post,
 ) (search-at t) search′.Post
@@ -358,12 +264,10 @@ search-returns-4 : (t : ℕ) → search-lts.Need-returns-4 (
   headed-reads.Learnt,
   visit-setting-reads.Asked,
   visit-setting-reads.Learnt,
-  wide-reads.Asked,
-  wide-reads.Learnt,
   search-below t,
   search′.Post,
 ) (search-at t) search′.Post
-search-returns-4 t c = let s = c .before .before .before .before .before .before .before .before .before .before .before .before .before .before .before .before .before .before .before .before .before .before .before .before in let a = s .args in let q = s .pre .1 in laws.both-halves (a .n) (laws.leafOf (a .book .now) (a .atoms .now) (a .layer)) (a .undecided .now) (a .setting) (c .before .before .before .before .before .before .before .before .before .before .before .before .if3 .left) (c .before .before .before .before .before .before .before .before .before .before .wide .result) (c .before .before .before .before .before .before .before .before .before .before .wide .ensures .0) (a .v) (a .part .now) _ _ _ _ (c .before .before .before .before .before .before .before .search .ensures) (c .before .before .search2 .ensures)
+search-returns-4 t c = let s = c .before .before .before .before .before .before .before .before .before .before .before .before .before .before .before .before .before .before .before .before .before .before in let a = s .args in let q = s .pre .1 in laws.both-halves (a .n) (laws.leafOf (a .book .now) (a .atoms .now) (a .layer)) (a .undecided .now) (settingOf (a .atoms .now) (a .standing)) (c .before .before .before .before .before .before .before .before .before .before .if3 .left) _ (quick.first-half (a .atoms .now) (quick.listed-once (q .0)) (q .0 .atoms-few) (a .undecided .now) (a .standing) (a .denied) (q .4) (c .before .before .before .before .before .before .before .before .before .before .if3 .left) (quick.first-small (q .0) (a .undecided .now) (settingOf (a .atoms .now) (a .standing)) (a .standing) (a .denied) (q .4) (c .before .before .before .before .before .before .before .before .before .before .if3 .left))) _ (quick.second-half (a .atoms .now) (quick.listed-once (q .0)) (q .0 .atoms-few) (a .undecided .now) (a .standing) (a .denied) (q .4) (c .before .before .before .before .before .before .before .before .before .before .if3 .left) (quick.first-small (q .0) (a .undecided .now) (settingOf (a .atoms .now) (a .standing)) (a .standing) (a .denied) (q .4) (c .before .before .before .before .before .before .before .before .before .before .if3 .left))) (a .v) (a .part .now) _ _ _ _ (c .before .before .before .before .before .before .before .search .ensures) (c .before .before .search2 .ensures)
 
 pub +search-spec : {M : Type 1} → statement M
 +search-spec = close μ-search λ t. search-lts.spec (
@@ -373,8 +277,6 @@ pub +search-spec : {M : Type 1} → statement M
   headed-reads.Learnt,
   visit-setting-reads.Asked,
   visit-setting-reads.Learnt,
-  wide-reads.Asked,
-  wide-reads.Learnt,
   search-below t,
   search′.Post,
 )
@@ -387,17 +289,13 @@ pub +search-spec : {M : Type 1} → statement M
     (search-visit-setting-requires t)
     (search-same-length t)
     (search-returns-3 t)
-    (search-shared-slice-read-wide t)
-    (search-wide-requires t)
     (search-sub-bit t)
     (search-cast-bit t)
     (search-shl-bit t)
-    (search-array-write-decided t)
     (search-sub-search t)
     (search-part-search-start t)
     (search-part-search-end t)
     (search-search-requires t)
-    (search-array-write-decided-2 t)
     (search-sub-search-2 t)
     (search-part-search-start-2 t)
     (search-part-search-end-2 t)

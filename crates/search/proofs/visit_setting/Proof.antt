@@ -1,24 +1,36 @@
 -- `visit_setting` meets its contract: the setting's model, if there is one, is met. Assumes nothing.
+use mathlib.Core.Path.{sym, ap, _∙_}
+use Rattle.models.specs.StableModels.{Interpretation}
+use Rattle.table.specs.Table.{programOf}
+use Rattle.search.specs.Found.{atSetting}
 use Rattle.search.proofs.StepLaws.{setting-met, setting-empty}
 use borrow.Author.Needs.{needs}
 use Rattle.search.proofs.visit_setting.Statement.{statement}
 use Rattle.search.proofs.visit_setting.Tie as tie
 
+setting-of-requires : tie.Need-setting-of-requires
+setting-of-requires c κs = c .before .before .before .before .before .pre .0 .atoms-few
+
 model-at-requires : tie.Need-model-at-requires
-model-at-requires c κs = c .before .before .before .before .before .pre .0
+model-at-requires c κs = c .before .before .before .before .before .before .pre .0
 
 meet-requires : tie.Need-meet-requires
-meet-requires c κs = let q = c .before .before .before .before .before .before .before .before .before .pre in (q .0 .some, q .0 .few, q .1, q .2, q .3)
+meet-requires c κs = let q = c .before .before .before .before .before .before .before .before .before .before .pre in (q .0 .some, q .0 .few, q .1, q .2, q .3)
 
 same-length : tie.Need-same-length
 same-length c = search needs
 
 returns : tie.Need-returns
-returns c = let a = c .before .before .before .before .before .before .before .before .before .before .before .before .args in setting-met (a .n) _ (c .before .before .before .before .before .before .model-at .result .ok) _ (c .before .before .before .before .before .before .model-at .ensures) (c .before .before .before .before .if1 .taken) (a .v) (a .part .now) _ _ (c .before .before .meet .ensures)
+returns c =
+    let a = c .before .before .before .before .before .before .before .before .before .before .before .before .before .args in
+    setting-met (a .n) _ (c .before .before .before .before .before .before .model-at .result .ok) _ (ap (λ (o : Interpretation). atSetting (programOf (a .book .now) (a .layer)) (a .atoms .now) o) (sym (c .before .before .before .before .before .before .before .setting-of .ensures)) ∙ c .before .before .before .before .before .before .model-at .ensures) (c .before .before .before .before .if1 .taken) (a .v) (a .part .now) _ _ (c .before .before .meet .ensures)
 
 returns-2 : tie.Need-returns-2
-returns-2 c = let a = c .before .before .before .before .before .before .before .before .args in setting-empty (a .n) _ (c .before .before .model-at .result .ok) _ (c .before .before .model-at .ensures) (c .if1 .left) (a .v) (a .part .now)
+returns-2 c =
+    let a = c .before .before .before .before .before .before .before .before .before .args in
+    setting-empty (a .n) _ (c .before .before .model-at .result .ok) _ (ap (λ (o : Interpretation). atSetting (programOf (a .book .now) (a .layer)) (a .atoms .now) o) (sym (c .before .before .before .setting-of .ensures)) ∙ c .before .before .model-at .ensures) (c .if1 .left) (a .v) (a .part .now)
 
 pub visit-setting-spec : {M : Type 1} → statement M
 visit-setting-spec =
-    tie.close (tie.spec model-at-requires meet-requires same-length returns returns-2)
+    tie.close
+    (tie.spec setting-of-requires model-at-requires meet-requires same-length returns returns-2)
