@@ -1,88 +1,26 @@
--- Two arrays of marks, filled by passes over the rows until nothing is added: what a pass keeps, that its marks are sound, that
--- the unmarked names fall, and that all that follows is marked at the end. Used by fill. Assumes nothing.
-use mathlib.Core.Path.{_≡_, refl, sym, ap, subst, _∙_}
-use mathlib.Core.Logic.{_⊎_, inl, inr, ⊎-elim}
+-- Two arrays of marks, filled by passes over the rows until nothing is added: what a pass keeps, and that all that follows is
+-- marked at the end. Used by fill. Assumes nothing.
+use mathlib.Core.Path.{_≡_, refl, sym, subst, _∙_}
 use mathlib.Core.Bool.{Bool, true, false, not, _&&_, cond, true≢false}
-use mathlib.Core.List.{List, [], _∷_}
-use Prim.Native.Nat.{ℕ, zero, suc, _+_, _-_, _<_, _≤_}
+use mathlib.Core.List.{List}
+use Prim.Native.Nat.{ℕ, _+_, _-_, _<_, _≤_}
 use native.Mathlib.Decide.{decLt}
 use native.Mathlib.Omega.{arith}
 use lib.Dec.{T}
-use lib.ListN.{length, getD, set, length-set, replicate}
+use lib.ListN.{length, set, replicate}
 use Rattle.base.specs.Lists.{all}
 use Rattle.format.specs.Book.{Literal, Rule}
-use Rattle.models.specs.StableModels.{atomHolds, positive, negative, complement}
-use Rattle.base.proofs.Members.{and-left, and-right, and-both, all-at, all-of}
+use Rattle.models.specs.StableModels.{atomHolds, complement}
+use Rattle.base.proofs.Members.{and-both, all-of}
 use Rattle.table.specs.Names.{literalNamed}
 use Rattle.table.specs.Rows.{rowCount, headName, rowAt}
 use Rattle.table.proofs.NameLaws.{name-low, name-high}
-use Rattle.table.proofs.RowLaws.{row-in, row-of}
-use Rattle.tester.proofs.MarkLaws.{blank, set-only, set-keeps}
-use Rattle.tester.specs.Marks.{literalMarked, alive, adds, FollowsFrom, from-start, by-row, Conflict}
-
--- how many are false
-pub falses : List Bool → ℕ
-falses [] = 0
-falses (b ∷ bs) = cond b 0 1 + falses bs
-
-falses-set : (l : List Bool) (i : ℕ) → i < length l → getD l i false ≡ false → falses (set l i true) + 1 ≡ falses l
-unfolding falses
-falses-set [] i h e = absurd (omega arith)
-falses-set (b ∷ bs) zero h e = rw e (omega arith)
-falses-set (b ∷ bs) (suc i) h e = omega (arith, falses-set bs i (omega arith) e)
-
--- a mark more
-record OneMore (p q p′ q′ : List Bool) (x : Literal) : Type 0 where
-  size : (length p′ ≡ length p) × (length q′ ≡ length q)
-  only : (l : Literal) → T (literalMarked p′ q′ l) → T (literalMarked p q l) ⊎ (l ≡ x)
-  keeps : (l : Literal) → T (literalMarked p q l) → T (literalMarked p′ q′ l)
-  fewer : falses p′ + falses q′ + 1 ≡ falses p + falses q
-
-off : (c : Bool) → T (not c) → c ≡ false
-off true t = absurd t
-off false t = refl
-
-module _ (p q : List Bool) (h : ℕ) where
-  more-low : h < 256 → length p ≡ 256 → T (not (literalMarked p q (literalNamed h))) → OneMore p q (set p h true) q (literalNamed h)
-  unfolding literalMarked atomHolds
-  more-low b e n = record {
-    size = (length-set p h true, refl);
-    only = λ l t. at-only (l .atom) (l .negated) t;
-    keeps = λ l t. at-keeps (l .atom) (l .negated) t;
-    fewer = omega (arith, falses-set p h (omega arith) (off (getD p h false) (subst (λ (x : Literal). T (not (literalMarked p q x))) (name-low h b) n)));
-  }
-    where
-      at-only : (f : ℕ) (c : Bool) → T (literalMarked (set p h true) q (record { atom = f; negated = c })) → T (literalMarked p q (record { atom = f; negated = c })) ⊎ (record { atom = f; negated = c } ≡ literalNamed h)
-      at-only f true t = inl t
-      at-only f false t = ⊎-elim (λ u. inl u) (λ u. inr (ap (λ (x : ℕ). positive x) u ∙ sym (name-low h b))) (set-only p h f (omega arith) t)
-
-      at-keeps : (f : ℕ) (c : Bool) → T (literalMarked p q (record { atom = f; negated = c })) → T (literalMarked (set p h true) q (record { atom = f; negated = c }))
-      at-keeps f true t = t
-      at-keeps f false t = set-keeps p h f (omega arith) t
-
-  more-high : 256 ≤ h → h < 512 → length q ≡ 256 → T (not (literalMarked p q (literalNamed h))) → OneMore p q p (set q (h - 256) true) (literalNamed h)
-  unfolding literalMarked atomHolds
-  more-high b k e n = record {
-    size = (refl, length-set q (h - 256) true);
-    only = λ l t. at-only (l .atom) (l .negated) t;
-    keeps = λ l t. at-keeps (l .atom) (l .negated) t;
-    fewer = omega (arith, falses-set q (h - 256) (omega arith) (off (getD q (h - 256) false) (subst (λ (x : Literal). T (not (literalMarked p q x))) (name-high h b) n)));
-  }
-    where
-      at-only : (f : ℕ) (c : Bool) → T (literalMarked p (set q (h - 256) true) (record { atom = f; negated = c })) → T (literalMarked p q (record { atom = f; negated = c })) ⊎ (record { atom = f; negated = c } ≡ literalNamed h)
-      at-only f false t = inl t
-      at-only f true t = ⊎-elim (λ u. inl u) (λ u. inr (ap (λ (x : ℕ). negative x) u ∙ sym (name-high h b))) (set-only q (h - 256) f (omega arith) t)
-
-      at-keeps : (f : ℕ) (c : Bool) → T (literalMarked p q (record { atom = f; negated = c })) → T (literalMarked p (set q (h - 256) true) (record { atom = f; negated = c }))
-      at-keeps f false t = t
-      at-keeps f true t = set-keeps q (h - 256) f (omega arith) t
+use Rattle.table.proofs.RowLaws.{row-of}
+use Rattle.tester.proofs.MarkLaws.{blank}
+use Rattle.tester.proofs.GrowingLaws.{falses, OneMore, one-low, one-high, grown-none, grown-both, grown-one, SoundMarks, grown-sound, head-follows}
+use Rattle.tester.specs.Marks.{literalMarked, alive, adds, FollowsFrom, from-start, by-row, Conflict, Grown}
 
 module _ (book rows rejects : List ℕ) where
-  -- what holds at every moment
-  pub record SoundMarks (start p q : List Bool) : Type 0 where
-    pub sound : (l : Literal) → T (literalMarked p q l) → FollowsFrom book rows rejects start l
-    pub started : (f : ℕ) → T (atomHolds start f) → T (atomHolds q f)
-
   -- no row before j adds its head
   abbrev pub Closed : List Bool → List Bool → ℕ → Type 0
   Closed p q j = (i : ℕ) → i < j → adds p q rejects (rowAt book rows i) ≡ false
@@ -91,13 +29,13 @@ module _ (book rows rejects : List ℕ) where
   pub record Pass (p₀ q₀ p q : List Bool) (added : Bool) (j : ℕ) : Type 0 where
     pub within : j ≤ rowCount rows
     pub size : (length p ≡ 256) × (length q ≡ 256)
-    pub held : (start : List Bool) → SoundMarks start p₀ q₀ → SoundMarks start p q
+    pub grown : Grown book rows rejects p₀ q₀ p q
     pub fewer : falses p + falses q + cond added 1 0 ≤ falses p₀ + falses q₀
     pub closed : added ≡ false → Closed p q j
 
   -- between passes
   pub record Filling (start p q : List Bool) (added : Bool) : Type 0 where
-    pub held : SoundMarks start p q
+    pub held : SoundMarks book rows rejects start p q
     pub closed : added ≡ false → Closed p q (rowCount rows)
 
 at-most-one : (x : Bool) → cond x 1 0 ≤ 1
@@ -110,14 +48,14 @@ forced false d e t = subst T e t
 
 module _ {book rows rejects : List ℕ} where
   pub pass-start : (p q : List Bool) → (length p ≡ 256) × (length q ≡ 256) → Pass book rows rejects p q p q false 0
-  pass-start p q w = record { within = omega arith; size = w; held = λ start v. v; fewer = omega arith; closed = λ e i h. absurd (omega arith) }
+  pass-start p q w = record { within = omega arith; size = w; grown = grown-none p q; fewer = omega arith; closed = λ e i h. absurd (omega arith) }
 
   pub pass-skip : {p₀ q₀ p q : List Bool} {ad : Bool} {j : ℕ} → Pass book rows rejects p₀ q₀ p q ad j → j < rowCount rows
       → (r : Bool) → r ≡ adds p q rejects (rowAt book rows j) → r ≡ false → Pass book rows rejects p₀ q₀ p q ad (j + 1)
   pass-skip {p₀} {q₀} {p} {q} {ad} {j} w h r er n = record {
     within = omega arith;
     size = w .size;
-    held = w .held;
+    grown = w .grown;
     fewer = w .fewer;
     closed = λ e i b. go e i b (decLt i j);
   }
@@ -126,34 +64,18 @@ module _ {book rows rejects : List ℕ} where
       go e i b (yes a) = w .closed e i a
       go e i b (no a) = subst (λ (x : ℕ). adds p q rejects (rowAt book rows x) ≡ false) {x = j} {y = i} (omega arith) (sym er ∙ n)
 
-  -- what an adding row says
-  module _ {start p q : List Bool} (j : ℕ) (w : SoundMarks book rows rejects start p q) (h : j < rowCount rows) (a : adds p q rejects (rowAt book rows j) ≡ true) where
-    rest-of : T (alive rejects (rowAt book rows j) && all (literalMarked p q) (rowAt book rows j .body))
-    unfolding adds
-    rest-of = and-right (not (literalMarked p q (rowAt book rows j .head))) (alive rejects (rowAt book rows j) && all (literalMarked p q) (rowAt book rows j .body)) (subst T (sym a) tt)
-
-    head-follows : FollowsFrom book rows rejects start (rowAt book rows j .head)
-    head-follows =
-        by-row (rowAt book rows j) (row-in book rows j h)
-        (and-left (alive rejects (rowAt book rows j)) (all (literalMarked p q) (rowAt book rows j .body)) rest-of)
-        (λ l k. w .sound l (all-at (literalMarked p q) (and-right (alive rejects (rowAt book rows j)) (all (literalMarked p q) (rowAt book rows j .body)) rest-of) k))
-
   pass-add : {p₀ q₀ p q p′ q′ : List Bool} {ad : Bool} {j : ℕ} → Pass book rows rejects p₀ q₀ p q ad j → j < rowCount rows
       → adds p q rejects (rowAt book rows j) ≡ true → OneMore p q p′ q′ (rowAt book rows j .head) → Pass book rows rejects p₀ q₀ p′ q′ true (j + 1)
-  unfolding atomHolds literalMarked
-  pass-add {ad = ad} {j = j} w h a m = record {
+  pass-add {p = p} {q = q} {ad = ad} {j = j} w h a m = record {
     within = omega arith;
     size = (m .size .0 ∙ w .size .0, m .size .1 ∙ w .size .1);
-    held = λ start v. record {
-      sound = λ l t. ⊎-elim (λ u. w .held start v .sound l u) (λ e. subst (FollowsFrom book rows rejects start) (sym e) (head-follows j (w .held start v) h a)) (m .only l t);
-      started = λ f t. m .keeps (negative f) (w .held start v .started f t);
-    };
+    grown = grown-both (w .grown) (grown-one p q j h a m);
     fewer = omega (arith, w .fewer, m .fewer, at-most-one ad);
     closed = λ e. absurd (true≢false e);
   }
 
   pub filling-more : {start p₀ q₀ p q : List Bool} {a ad : Bool} {j : ℕ} → Filling book rows rejects start p₀ q₀ a → Pass book rows rejects p₀ q₀ p q ad j → rowCount rows ≤ j → Filling book rows rejects start p q ad
-  filling-more {start} v w h = record { held = w .held start (v .held); closed = λ e i b. w .closed e i (omega arith) }
+  filling-more v w h = record { held = grown-sound (w .grown) (v .held); closed = λ e i b. w .closed e i (omega arith) }
 
   -- nothing is added any more: all that follows is marked
   pub full : {start p q : List Bool} → Filling book rows rejects start p q false → (l : Literal) → FollowsFrom book rows rejects start l → T (literalMarked p q l)
@@ -202,25 +124,14 @@ module _ {book rows rejects : List ℕ} where
   module _ {start p q : List Bool} where
     pub head-at : (j : ℕ) → SoundMarks book rows rejects start p q → j < rowCount rows → (r : Bool) → r ≡ adds p q rejects (rowAt book rows j) → r ≡ true → (h : ℕ) → h ≡ headName rows j → FollowsFrom book rows rejects start (literalNamed h)
     unfolding rowAt
-    head-at j w b r er t h e = subst (λ (x : ℕ). FollowsFrom book rows rejects start (literalNamed x)) (sym e) (head-follows j w b (sym er ∙ t))
+    head-at j w b r er t h e = subst (λ (x : ℕ). FollowsFrom book rows rejects start (literalNamed x)) (sym e) (head-follows p q j (w .sound) b (sym er ∙ t))
 
     pub opposite-at : SoundMarks book rows rejects start p q → (h o : ℕ) → literalNamed o ≡ complement (literalNamed h) → (c : Bool) → c ≡ literalMarked p q (literalNamed o) → c ≡ true → FollowsFrom book rows rejects start (complement (literalNamed h))
     opposite-at w h o e c m t = subst (FollowsFrom book rows rejects start) e (w .sound (literalNamed o) (subst T (sym (sym m ∙ t)) tt))
 
   module _ {p₀ q₀ p q : List Bool} {ad : Bool} {j : ℕ} (w : Pass book rows rejects p₀ q₀ p q ad j) (b : j < rowCount rows) (r : Bool) (er : r ≡ adds p q rejects (rowAt book rows j)) (t : r ≡ true) (h : ℕ) (e : h ≡ headName rows j) where
-    a : adds p q rejects (rowAt book rows j) ≡ true
-    a = sym er ∙ t
-
-    open-head : T (not (literalMarked p q (literalNamed h)))
-    unfolding rowAt adds
-    open-head =
-        subst (λ (x : ℕ). T (not (literalMarked p q (literalNamed x)))) (sym e)
-        (and-left (not (literalMarked p q (rowAt book rows j .head))) (alive rejects (rowAt book rows j) && all (literalMarked p q) (rowAt book rows j .body)) (subst T (sym a) tt))
-
     pub pass-low : h < 256 → Pass book rows rejects p₀ q₀ (set p h true) q true (j + 1)
-    unfolding rowAt
-    pass-low k = pass-add w b a (subst (λ (x : ℕ). OneMore p q (set p h true) q (literalNamed x)) e (more-low p q h k (w .size .0) open-head))
+    pass-low k = pass-add w b (sym er ∙ t) (one-low book rows rejects p q (w .size) j (sym er ∙ t) h e k)
 
     pub pass-high : 256 ≤ h → h < 512 → Pass book rows rejects p₀ q₀ p (set q (h - 256) true) true (j + 1)
-    unfolding rowAt
-    pass-high k i = pass-add w b a (subst (λ (x : ℕ). OneMore p q p (set q (h - 256) true) (literalNamed x)) e (more-high p q h k i (w .size .1) open-head))
+    pass-high k i = pass-add w b (sym er ∙ t) (one-high book rows rejects p q (w .size) j (sym er ∙ t) h e k i)

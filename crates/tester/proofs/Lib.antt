@@ -1,4 +1,5 @@
 pub mod MarkLaws
+pub mod GrowingLaws
 pub mod FillingLaws
 pub mod MaskLaws
 pub mod AgreementLaws

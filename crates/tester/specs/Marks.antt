@@ -32,6 +32,12 @@ pub data FollowsFrom (book rows rejects : List ℕ) (start : List Bool) : Litera
   by-row : (r : Rule) → List·Memᴰ r (rowsOf book rows) → T (alive rejects r)
       → ((l : Literal) → List·Memᴰ l (r .body) → FollowsFrom book rows rejects start l) → FollowsFrom book rows rejects start (r .head)
 
+-- marks added: none is lost, and they follow from every start from which the marks at entry follow
+pub record Grown (book rows rejects : List ℕ) (p₀ q₀ p q : List Bool) : Type 0 where
+  pub keeps : (l : Literal) → T (literalMarked p₀ q₀ l) → T (literalMarked p q l)
+  pub sound : (start : List Bool) → ((l : Literal) → T (literalMarked p₀ q₀ l) → FollowsFrom book rows rejects start l)
+      → (l : Literal) → T (literalMarked p q l) → FollowsFrom book rows rejects start l
+
 -- a fact that follows both ways
 pub record Conflict (book rows rejects : List ℕ) (start : List Bool) : Type 0 where
   pub atom : ℕ

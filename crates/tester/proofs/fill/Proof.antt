@@ -6,7 +6,8 @@ use mathlib.Core.Logic.{⊎-elim}
 use mathlib.Core.Bool.{false, cond, true≢false}
 use Prim.Native.Nat.{_+_, _-_, _/_, _<_}
 use lib.ListN.{length}
-use Rattle.tester.proofs.FillingLaws.{falses, SoundMarks, Pass, Filling, pass-start, pass-skip, pass-low, pass-high, filling-start, filling-more, full, conflict, head-at, opposite-at}
+use Rattle.tester.proofs.GrowingLaws.{falses, SoundMarks, grown-sound}
+use Rattle.tester.proofs.FillingLaws.{Pass, Filling, pass-start, pass-skip, pass-low, pass-high, filling-start, filling-more, full, conflict, head-at, opposite-at}
 use borrow.Author.Needs.{needs}
 use native.Mathlib.Omega.{arith}
 use Rattle.tester.proofs.fill.Statement.{statement}
@@ -71,7 +72,7 @@ returns c =
     let start = c .before .before .before .before .before .before .before .before .before .before .before .before .before .before .before .before .before .args .start in
     let l = c .before .before .before .before .before .before .before .before .before .before .before .loop2 in
     let h = c .before .before .before .before .before .row-head in
-    let w : SoundMarks (c .before .before .before .before .before .before .before .before .before .before .before .before .before .before .before .before .before .args .book .now) (c .before .before .before .before .before .before .before .before .before .before .before .before .before .before .before .before .before .args .rows .now) (c .before .before .before .before .before .before .before .before .before .before .before .before .before .before .before .before .before .args .rejects .now) start (l .positive) (l .negative) = l .inv .held start (c .before .before .before .before .before .before .before .before .before .before .before .before .before .loop .inv .3 .held) in
+    let w : SoundMarks (c .before .before .before .before .before .before .before .before .before .before .before .before .before .before .before .before .before .args .book .now) (c .before .before .before .before .before .before .before .before .before .before .before .before .before .before .before .before .before .args .rows .now) (c .before .before .before .before .before .before .before .before .before .before .before .before .before .before .before .before .before .args .rejects .now) start (l .positive) (l .negative) = grown-sound (l .inv .grown) (c .before .before .before .before .before .before .before .before .before .before .before .before .before .loop .inv .3 .held) in
     record {
       sound = w .sound;
       full = λ e. absurd (true≢false e);
