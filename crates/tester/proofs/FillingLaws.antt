@@ -77,6 +77,10 @@ module _ {book rows rejects : List ℕ} where
   pub filling-more : {start p₀ q₀ p q : List Bool} {a ad : Bool} {j : ℕ} → Filling book rows rejects start p₀ q₀ a → Pass book rows rejects p₀ q₀ p q ad j → rowCount rows ≤ j → Filling book rows rejects start p q ad
   filling-more v w h = record { held = grown-sound (w .grown) (v .held); closed = λ e i b. w .closed e i (omega arith) }
 
+  -- the waiting lists go on where a pass has added, so that another pass follows
+  pub filling-grown : {start p₀ q₀ p q : List Bool} {ad : Bool} → Filling book rows rejects start p₀ q₀ ad → ad ≡ true → Grown book rows rejects p₀ q₀ p q → Filling book rows rejects start p q ad
+  filling-grown v t g = record { held = grown-sound g (v .held); closed = λ e. absurd (true≢false (sym t ∙ e)) }
+
   -- nothing is added any more: all that follows is marked
   pub full : {start p q : List Bool} → Filling book rows rejects start p q false → (l : Literal) → FollowsFrom book rows rejects start l → T (literalMarked p q l)
   unfolding literalMarked adds

@@ -1,5 +1,5 @@
 -- Marks that grow by rows that add their heads, in whatever order the rows are tried: none is lost, all of them follow, and the
--- unmarked names fall. Used by the passes of fill. Assumes nothing.
+-- unmarked names fall. Used by the passes of fill and by the waiting lists. Assumes nothing.
 use mathlib.Core.Path.{_≡_, refl, sym, ap, subst, _∙_}
 use mathlib.Core.Logic.{_⊎_, inl, inr, ⊎-elim}
 use mathlib.Core.Bool.{Bool, true, false, not, _&&_, cond}
@@ -29,6 +29,19 @@ unfolding falses
 falses-set [] i h e = absurd (omega arith)
 falses-set (b ∷ bs) zero h e = rw e (omega arith)
 falses-set (b ∷ bs) (suc i) h e = omega (arith, falses-set bs i (omega arith) e)
+
+-- where no mark is lost, no more are false
+falses-fall : (l l′ : List Bool) → length l′ ≡ length l → ((i : ℕ) → T (getD l i false) → T (getD l′ i false)) → falses l′ ≤ falses l
+unfolding falses
+falses-fall [] [] e k = omega arith
+falses-fall [] (b ∷ l′) e k = absurd (omega arith)
+falses-fall (a ∷ l) [] e k = absurd (omega arith)
+falses-fall (a ∷ l) (b ∷ l′) e k = omega (arith, head-falls a b (k 0), falses-fall l l′ (omega arith) (λ i. k (suc i)))
+  where
+    head-falls : (x y : Bool) → (T x → T y) → cond y 0 1 ≤ cond x 0 1
+    head-falls x true f = omega arith
+    head-falls false false f = omega arith
+    head-falls true false f = absurd (f tt)
 
 -- a mark more
 pub record OneMore (p q p′ q′ : List Bool) (x : Literal) : Type 0 where
@@ -126,3 +139,7 @@ module _ {book rows rejects : List ℕ} where
     pub grown-sound : {start : List Bool} → SoundMarks book rows rejects start p₀ q₀ → SoundMarks book rows rejects start p q
     unfolding atomHolds literalMarked
     grown-sound {start} w = record { sound = g .sound start (w .sound); started = λ f t. g .keeps (negative f) (w .started f t) }
+
+    pub grown-fewer : length p ≡ length p₀ → length q ≡ length q₀ → falses p + falses q ≤ falses p₀ + falses q₀
+    unfolding atomHolds literalMarked
+    grown-fewer x y = omega (arith, falses-fall p₀ p x (λ f. g .keeps (positive f)), falses-fall q₀ q y (λ f. g .keeps (negative f)))

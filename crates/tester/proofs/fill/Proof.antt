@@ -1,30 +1,31 @@
 -- Between passes the marks are sound and hold the start; where a pass adds nothing, no row adds. A pass is measured by the rows
 -- left, the passes by the unmarked names and whether the last one added: each pass that adds marks a name that was not marked.
+-- The waiting lists only add sound marks, and come where a pass has added, so that another pass follows.
 -- The inner loop does not see the start, so its invariant speaks of every start.
 use mathlib.Core.Path.{_≡_, refl, sym}
 use mathlib.Core.Logic.{⊎-elim}
 use mathlib.Core.Bool.{false, cond, true≢false}
 use Prim.Native.Nat.{_+_, _-_, _/_, _<_}
 use lib.ListN.{length}
-use Rattle.tester.proofs.GrowingLaws.{falses, SoundMarks, grown-sound}
-use Rattle.tester.proofs.FillingLaws.{Pass, Filling, pass-start, pass-skip, pass-low, pass-high, filling-start, filling-more, full, conflict, head-at, opposite-at}
+use Rattle.tester.proofs.GrowingLaws.{falses, SoundMarks, grown-sound, grown-fewer}
+use Rattle.tester.proofs.FillingLaws.{Pass, Filling, pass-start, pass-skip, pass-low, pass-high, filling-start, filling-more, filling-grown, full, conflict, head-at, opposite-at}
 use borrow.Author.Needs.{needs}
 use native.Mathlib.Omega.{arith}
 use Rattle.tester.proofs.fill.Statement.{statement}
 use Rattle.tester.proofs.fill.Tie as tie
 
 abbrev Inv-loop2 : tie.InvT-loop2
-Inv-loop2 book rows rejects count positive₀ negative₀ added₀ j₀ positive negative added j = Pass book rows rejects positive₀ negative₀ positive negative added j
+Inv-loop2 book rows rejects count positive₀ negative₀ added₀ plain j₀ positive negative added j = Pass book rows rejects positive₀ negative₀ positive negative added j
 
 abbrev μ-loop2 : tie.MeasureT-loop2
-μ-loop2 book rows rejects count positive₀ negative₀ added₀ j₀ positive negative added j = count - j
+μ-loop2 book rows rejects count positive₀ negative₀ added₀ plain j₀ positive negative added j = count - j
 
 abbrev Inv-loop : tie.InvT-loop
-Inv-loop book rows rejects count positive₀ negative₀ added₀ positive negative added =
+Inv-loop book rows rejects count positive₀ negative₀ added₀ plain₀ positive negative added plain =
     (count ≡ length rows / 4) × (length positive ≡ 256) × (length negative ≡ 256) × Filling book rows rejects negative₀ positive negative added
 
 abbrev μ-loop : tie.MeasureT-loop
-μ-loop book rows rejects count positive₀ negative₀ added₀ positive negative added = falses positive + falses negative + cond added 1 0
+μ-loop book rows rejects count positive₀ negative₀ added₀ plain₀ positive negative added plain = falses positive + falses negative + cond added 1 0
 
 loop-holds : tie.Need-loop-holds Inv-loop2 μ-loop2 Inv-loop μ-loop
 loop-holds c = (refl, search needs, search needs, filling-start (c .before .before .before .args .start))
@@ -32,14 +33,6 @@ loop-holds c = (refl, search needs, search needs, filling-start (c .before .befo
 loop2-holds : tie.Need-loop2-holds Inv-loop2 μ-loop2 Inv-loop μ-loop
 loop2-holds c =
     pass-start (c .before .loop .positive) (c .before .loop .negative) (c .before .loop .inv .1, c .before .loop .inv .2)
-
-loop-less : tie.Need-loop-less Inv-loop2 μ-loop2 Inv-loop μ-loop
-loop-less c = rw (c .before .before .loop-test .taken) (omega (arith, c .before .loop2 .inv .fewer))
-
-loop-again : tie.Need-loop-again Inv-loop2 μ-loop2 Inv-loop μ-loop
-loop-again c =
-    let n = c .before .loop2 in
-    (refl, n .inv .size .0, n .inv .size .1, filling-more (c .before .before .before .loop .inv .3) (n .inv) (c .loop2-test .left))
 
 slice-aggregate-row-adds : tie.Need-slice-aggregate-row-adds Inv-loop2 μ-loop2 Inv-loop μ-loop
 slice-aggregate-row-adds c = search needs
@@ -107,6 +100,44 @@ loop2-again c =
     v)
     (c .if1 .came)
 
+sub-plain : tie.Need-sub-plain Inv-loop2 μ-loop2 Inv-loop μ-loop
+sub-plain c = search needs
+
+loop-less : tie.Need-loop-less Inv-loop2 μ-loop2 Inv-loop μ-loop
+loop-less c = rw (c .before .before .before .loop-test .taken) (omega (arith, c .before .before .loop2 .inv .fewer))
+
+loop-again : tie.Need-loop-again Inv-loop2 μ-loop2 Inv-loop μ-loop
+loop-again c =
+    let n = c .before .before .loop2 in
+    (refl, n .inv .size .0, n .inv .size .1, filling-more (c .before .before .before .before .loop .inv .3) (n .inv) (c .before .loop2-test .left))
+
+slice-aggregate-propagate : tie.Need-slice-aggregate-propagate Inv-loop2 μ-loop2 Inv-loop μ-loop
+slice-aggregate-propagate c = search needs
+
+slice-aggregate-propagate-2 : tie.Need-slice-aggregate-propagate-2 Inv-loop2 μ-loop2 Inv-loop μ-loop
+slice-aggregate-propagate-2 c = search needs
+
+propagate-requires : tie.Need-propagate-requires Inv-loop2 μ-loop2 Inv-loop μ-loop
+propagate-requires c κs = search needs
+
+loop-less-2 : tie.Need-loop-less-2 Inv-loop2 μ-loop2 Inv-loop μ-loop
+loop-less-2 c =
+    let n = c .before .before .before .before .before .before .before .before .loop2 in
+    rw (c .before .before .before .before .before .before .before .before .before .loop-test .taken) (omega (arith, n .inv .fewer, grown-fewer (c .before .before .propagate .ensures) (search needs) (search needs)))
+
+loop-again-2 : tie.Need-loop-again-2 Inv-loop2 μ-loop2 Inv-loop μ-loop
+loop-again-2 c =
+    let n = c .before .before .before .before .before .before .before .before .loop2 in
+    (refl, search needs, search needs, filling-grown (filling-more (c .before .before .before .before .before .before .before .before .before .before .loop .inv .3) (n .inv) (c .before .before .before .before .before .before .before .loop2-test .left)) (c .before .before .before .before .before .if5 .taken) (c .before .before .propagate .ensures))
+
+loop-less-3 : tie.Need-loop-less-3 Inv-loop2 μ-loop2 Inv-loop μ-loop
+loop-less-3 c = rw (c .before .before .before .before .loop-test .taken) (omega (arith, c .before .before .before .loop2 .inv .fewer))
+
+loop-again-3 : tie.Need-loop-again-3 Inv-loop2 μ-loop2 Inv-loop μ-loop
+loop-again-3 c =
+    let n = c .before .before .before .loop2 in
+    (refl, n .inv .size .0, n .inv .size .1, filling-more (c .before .before .before .before .before .loop .inv .3) (n .inv) (c .before .before .loop2-test .left))
+
 returns-2 : tie.Need-returns-2 Inv-loop2 μ-loop2 Inv-loop μ-loop
 returns-2 c =
     let l = c .before .loop in
@@ -123,8 +154,6 @@ fill-spec =
     μ-loop
     loop-holds
     loop2-holds
-    loop-less
-    loop-again
     slice-aggregate-row-adds
     slice-aggregate-row-adds-2
     row-adds-requires
@@ -139,4 +168,14 @@ fill-spec =
     add-j
     loop2-less
     loop2-again
+    sub-plain
+    loop-less
+    loop-again
+    slice-aggregate-propagate
+    slice-aggregate-propagate-2
+    propagate-requires
+    loop-less-2
+    loop-again-2
+    loop-less-3
+    loop-again-3
     returns-2)
