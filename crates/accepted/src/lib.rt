@@ -1,8 +1,9 @@
 // What an accepted book gives to the calls above: its numbers, where its rules' records start, and the table of the rules that
 // count at a layer. Its bytes are believed because the check has walked them.
 ghost use mathlib.Core.Path.{_≡_};
-ghost use Prim.Native.Nat.{_<_, _≤_};
-ghost use Rattle.base.specs.Bounds.{maxAtoms, maxLayers};
+ghost use Prim.Native.Nat.{_*_, _<_, _≤_};
+ghost use lib.ListN.{length};
+ghost use Rattle.base.specs.Bounds.{maxAtoms, maxLayers, maxRules};
 ghost use Rattle.layers.specs.Masks.{LowerMasks};
 ghost use Rattle.format.specs.Book.{arrowsOf, bookOf};
 ghost use Rattle.table.specs.Table.{programOf, TableMade};
@@ -17,7 +18,6 @@ use book::Verdict;
 use book::check_book;
 use format::be16;
 use format::be32;
-use table::RuleTable;
 use table::rule_table;
 
 // The number of facts.
@@ -44,14 +44,21 @@ pub fn rules_start(book: &[u8]) -> usize
     20 + be32(book, 8)
 }
 
-// The table of the rules that count at a layer, from each layer's mask of the layers below it.
-pub fn prepare(book: &[u8], layer: usize, lower: [u32; 32]) -> RuleTable
+// Writes the table of the rules that count at a layer, from each layer's mask of the layers below it, and says how many there are.
+pub fn prepare(
+    book: &[u8],
+    layer: usize,
+    lower: [u32; 32],
+    rows: &mut [u16],
+    overridden: &mut [u32],
+) -> usize
     requires { ⌜ IsAccepted (now book) ⌝ }
     requires { ⌜ layer < bookOf (now book) .layers ⌝ }
     requires { ⌜ LowerMasks (arrowsOf (now book)) lower ⌝ }
-    ensures { λ r. ⌜ TableMade (programOf (now (book .entry)) layer) (now (book .entry)) (r .rows) (r .overridden) (r .count) ⌝ }
+    requires { ⌜ (length (now rows) ≡ 4 * maxRules) × (length (now overridden) ≡ maxRules) ⌝ }
+    ensures { λ r. ⌜ TableMade (programOf (now (book .entry)) layer) (now (book .entry)) (now (rows .exit)) (now (overridden .exit)) r ⌝ }
 {
-    rule_table(book, rules_start(book), layer, lower)
+    rule_table(book, rules_start(book), layer, lower, rows, overridden)
 }
 
 // Accepted, with the masks, or refused for the first of causes 1 to 9 that applies: what every call that drives a layer asks first.

@@ -80,10 +80,9 @@ fn list_at(book: &[u8], layer: usize, lower: [u32; 32], buffer: &mut [u8]) -> Li
     ensures { λ r. ⌜ Answers (firstOf (searchTests (programOf (now (book .entry)) layer) (length (now (buffer .entry))))) (programOf (now (book .entry)) layer) (now (buffer .entry)) r (now (buffer .exit)) ⌝ }
 {
     let n = atom_count(book);
-    let table = prepare(book, layer, lower);
-    let rows = table.rows;
-    let overridden = table.overridden;
-    let count = table.count;
+    let mut rows: [u16; 4096] = [0; 4096];
+    let mut overridden: [u32; 1024] = [0; 1024];
+    let count = prepare(book, layer, lower, &mut rows, &mut overridden);
     let listed = branching_atoms(book, layer, &rows[0..4 * count], &overridden[0..count], n);
     let atoms = listed.atoms;
     let g = listed.count;

@@ -82,10 +82,9 @@ fn place_at(book: &[u8], layer: usize, lower: [u32; 32], fact: usize) -> PlaceRe
     if n <= fact {
         return PlaceReply::Refused(Cause::NoSuchFact);
     }
-    let table = prepare(book, layer, lower);
-    let rows = table.rows;
-    let overridden = table.overridden;
-    let count = table.count;
+    let mut rows: [u16; 4096] = [0; 4096];
+    let mut overridden: [u32; 1024] = [0; 1024];
+    let count = prepare(book, layer, lower, &mut rows, &mut overridden);
     let listed = branching_atoms(book, layer, &rows[0..4 * count], &overridden[0..count], n);
     let atoms = listed.atoms;
     let g = listed.count;

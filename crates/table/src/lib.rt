@@ -1,7 +1,8 @@
 // The table of the rules that count at a layer, as the test and the search read it: four numbers a rule in one flat array,
 // and for each rule the mask of the layers in which it overrides rules. Made once a call; bodies stay where they are in the book.
 ghost use mathlib.Core.Path.{_≡_};
-ghost use Prim.Native.Nat.{_<_, _≤_};
+ghost use Prim.Native.Nat.{_*_, _<_, _≤_};
+ghost use Rattle.base.specs.Bounds.{maxRules};
 ghost use lib.ListN.{length, drop};
 ghost use Rattle.base.specs.Lists.{all};
 ghost use Rattle.format.specs.Book.{literalOf, literalsOf};
@@ -100,19 +101,15 @@ fn name_of(a: u8, b: u8) -> usize
     wide(b) + 256
 }
 
-pub struct RuleRows {
-    pub rows: [u16; 4096],
-    pub count: usize,
-}
-
-// The rows of the rules whose layer is in the mask, in their order: one walk over the records by length byte.
-pub fn make_rows(book: &[u8], first: usize, mask: u32) -> RuleRows
+// Writes the rows of the rules whose layer is in the mask, in their order, and says how many there are: one walk over the records by
+// length byte.
+pub fn make_rows(book: &[u8], first: usize, mask: u32, rows: &mut [u16]) -> usize
     requires { ⌜ RuleRecords (drop first (now book)) ⌝ }
     requires { ⌜ first ≤ length (now book) ⌝ }
     requires { ⌜ length (now book) < 65536 ⌝ }
-    ensures { λ r. ⌜ RowsMade (now (book .entry)) first mask (r .rows) (r .count) ⌝ }
+    requires { ⌜ length (now rows) ≡ 4 * maxRules ⌝ }
+    ensures { λ r. ⌜ RowsMade (now (book .entry)) first mask (now (rows .exit)) r ⌝ }
 {
-    let mut rows: [u16; 4096] = [0; 4096];
     let mut count = 0;
     let mut at = first;
     while at < book.len() {
@@ -129,7 +126,7 @@ pub fn make_rows(book: &[u8], first: usize, mask: u32) -> RuleRows
         }
         at = at + 1 + len;
     }
-    RuleRows { rows, count }
+    count
 }
 
 // Bit i at name h: a row has this head, in layer i.
@@ -149,15 +146,14 @@ fn head_layers(rows: &[u16]) -> [u32; 512]
     masks
 }
 
-// Each row's mask of the layers in which it overrides a rule: `lower` has each layer's mask of the layers below it.
-pub fn overridden_layers(rows: &[u16], lower: [u32; 32]) -> [u32; 1024]
+// Writes each row's mask of the layers in which it overrides a rule: `lower` has each layer's mask of the layers below it.
+pub fn overridden_layers(rows: &[u16], lower: [u32; 32], masks: &mut [u32])
     requires { ⌜ RowsBounded (now rows) ⌝ }
-    requires { ⌜ rowCount (now rows) ≤ 1024 ⌝ }
-    ensures { λ r. ⌜ Overridden (now (rows .entry)) lower r (rowCount (now (rows .entry))) ⌝ }
+    requires { ⌜ rowCount (now rows) ≤ length (now masks) ⌝ }
+    ensures { λ _. ⌜ Overridden (now (rows .entry)) lower (now (masks .exit)) (rowCount (now (rows .entry))) ⌝ }
 {
     let heads = head_layers(rows);
     let count = rows.len() / 4;
-    let mut masks: [u32; 1024] = [0; 1024];
     let mut j = 0;
     while j < count {
         let o = opposite(row_head(rows, j));
@@ -165,28 +161,23 @@ pub fn overridden_layers(rows: &[u16], lower: [u32; 32]) -> [u32; 1024]
         masks[j] = heads[o] & lower[layer];
         j += 1;
     }
-    masks
 }
 
-pub struct RuleTable {
-    pub rows: [u16; 4096],
-    pub overridden: [u32; 1024],
-    pub count: usize,
-}
-
-// The table of the program at a layer: the rules of that layer and of those below it.
-pub fn rule_table(book: &[u8], first: usize, layer: usize, lower: [u32; 32]) -> RuleTable
+// Writes the table of the program at a layer, of the rules of that layer and of those below it, and says how many there are.
+pub fn rule_table(
+    book: &[u8],
+    first: usize,
+    layer: usize,
+    lower: [u32; 32],
+    rows: &mut [u16],
+    overridden: &mut [u32],
+) -> usize
     requires { ⌜ Prepared (now book) first lower ⌝ }
     requires { ⌜ layer < 32 ⌝ }
-    ensures { λ r. ⌜ TableMade (programOf (now (book .entry)) layer) (now (book .entry)) (r .rows) (r .overridden) (r .count) ⌝ }
+    requires { ⌜ (length (now rows) ≡ 4 * maxRules) × (length (now overridden) ≡ maxRules) ⌝ }
+    ensures { λ r. ⌜ TableMade (programOf (now (book .entry)) layer) (now (book .entry)) (now (rows .exit)) (now (overridden .exit)) r ⌝ }
 {
-    let made = make_rows(book, first, lower[layer] | (1 << (layer as u32)));
-    let rows = made.rows;
-    let count = made.count;
-    let overridden = overridden_layers(&rows[0..4 * count], lower);
-    RuleTable {
-        rows,
-        overridden,
-        count,
-    }
+    let count = make_rows(book, first, lower[layer] | (1 << (layer as u32)), rows);
+    overridden_layers(&rows[0..4 * count], lower, overridden);
+    count
 }

@@ -37,10 +37,9 @@ fn candidate_stable(book: &[u8], layer: usize, lower: [u32; 32], candidate: &[u8
     ensures { λ r. ⌜ r ≡ stable (programOf (now (book .entry)) layer) (interpretationOf n (now (candidate .entry))) ⌝ }
 {
     let m = read_candidate(candidate, n);
-    let table = prepare(book, layer, lower);
-    let rows = table.rows;
-    let overridden = table.overridden;
-    let count = table.count;
+    let mut rows: [u16; 4096] = [0; 4096];
+    let mut overridden: [u32; 1024] = [0; 1024];
+    let count = prepare(book, layer, lower, &mut rows, &mut overridden);
     is_stable(
         book,
         &rows[0..4 * count],

@@ -7,18 +7,18 @@ use Rattle.one_call.proofs.OneLaws.{branching-refused, branching-passes
 use borrow.Author.Needs.{needs}
 use Rattle.one_call.proofs.one_at.Statement.{statement}
 use Rattle.one_call.proofs.one_at.Tie as tie
-use Rattle.one_call.proofs.one_at.Reads as reads
-use Rattle.one_call.proofs.one_at.Lts as lts
-use Rattle.accepted.proofs.atom_count.Reads as atom-count-reads
-use Rattle.accepted.proofs.prepare.Reads as prepare-reads
-use Rattle.branching.proofs.branching_atoms.Reads as branching-atoms-reads
-use Rattle.one_call.proofs.one_found.Reads as one-found-reads
 
 atom-count-requires : tie.Need-atom-count-requires
 atom-count-requires c κs = search needs
 
+slice-aggregate-prepare : tie.Need-slice-aggregate-prepare
+slice-aggregate-prepare c = search needs
+
+slice-aggregate-prepare-2 : tie.Need-slice-aggregate-prepare-2
+slice-aggregate-prepare-2 c = search needs
+
 prepare-requires : tie.Need-prepare-requires
-prepare-requires c κs = search needs
+prepare-requires c κs = let s = c .before .before .before .before .before .pre in (s .0, (s .1 .0, (s .1 .1, search needs)))
 
 mul-branching-atoms : tie.Need-mul-branching-atoms
 mul-branching-atoms c = search needs
@@ -43,10 +43,10 @@ part-branching-atoms-end-2 c = search needs
 
 branching-atoms-requires : tie.Need-branching-atoms-requires
 unfolding programAt
-branching-atoms-requires c κs = (lent-table (c .before .before .before .before .before .before .prepare .ensures), (c .before .before .before .before .before .before .before .atom-count .ensures .0, c .before .before .before .before .before .before .before .atom-count .ensures .2))
+branching-atoms-requires c κs = (lent-table (c .before .before .before .before .before .before .prepare .ensures), (c .before .before .before .before .before .before .before .before .before .atom-count .ensures .0, c .before .before .before .before .before .before .before .before .before .atom-count .ensures .2))
 
 returns : tie.Need-returns
-returns c = branching-refused (c .before .before .before .before .before .before .before .before .before .before .before .before .before .args .book .now) (c .before .before .before .before .before .before .before .before .before .before .before .before .before .args .layer) (c .before .before .before .before .before .before .before .before .before .before .before .before .before .pre .0) (c .before .before .before .before .before .before .before .before .before .prepare .ensures) (c .before .before .branching-atoms .ensures) (c .before .before .before .before .before .before .before .before .before .before .before .before .before .args .buffer .now) (c .if1 .taken)
+returns c = let a = c .before .before .before .before .before .before .before .before .before .before .before .before .before .before .before .args in branching-refused (a .book .now) (a .layer) (c .before .before .before .before .before .before .before .before .before .before .before .before .before .before .before .pre .0) (c .before .before .before .before .before .before .before .before .before .prepare .ensures) (c .before .before .branching-atoms .ensures) (a .buffer .now) (c .if1 .taken)
 
 mul-one-found : tie.Need-mul-one-found
 mul-one-found c = search needs
@@ -79,19 +79,21 @@ part-one-found-end-3 : tie.Need-part-one-found-end-3
 part-one-found-end-3 c = search needs
 
 one-found-requires : tie.Need-one-found-requires
-one-found-requires c κs = let s = c .before .before .before .before .before .before .before .before .before .before .before .before .before .before .before .before .before .before .before .before in let a = s .args in searchable (a .book .now) (a .layer) (s .pre .0) (c .before .before .before .before .before .before .before .before .before .before .before .before .before .before .before .before .prepare .ensures) (c .before .before .before .before .before .before .before .before .before .branching-atoms .ensures) (c .before .before .before .before .before .before .before .if1 .left) (c .before .before .before .before .before .before .before .before .before .before .before .before .before .before .before .before .before .atom-count .result) (c .before .before .before .before .before .before .before .before .before .before .before .before .before .before .before .before .before .atom-count .ensures .0) (c .before .before .before .before .before .before .before .before .before .before .before .before .before .before .before .before .before .atom-count .ensures .1) (c .before .before .before .before .before .before .before .before .before .before .before .before .before .before .before .before .before .atom-count .ensures .2)
+one-found-requires c κs = let a = c .before .before .before .before .before .before .before .before .before .before .before .before .before .before .before .before .before .before .before .before .before .before .args in searchable (a .book .now) (a .layer) (c .before .before .before .before .before .before .before .before .before .before .before .before .before .before .before .before .before .before .before .before .before .before .pre .0) (c .before .before .before .before .before .before .before .before .before .before .before .before .before .before .before .before .prepare .ensures) (c .before .before .before .before .before .before .before .before .before .branching-atoms .ensures) (c .before .before .before .before .before .before .before .if1 .left) (c .before .before .before .before .before .before .before .before .before .before .before .before .before .before .before .before .before .before .before .atom-count .result) (c .before .before .before .before .before .before .before .before .before .before .before .before .before .before .before .before .before .before .before .atom-count .ensures .0) (c .before .before .before .before .before .before .before .before .before .before .before .before .before .before .before .before .before .before .before .atom-count .ensures .1) (c .before .before .before .before .before .before .before .before .before .before .before .before .before .before .before .before .before .before .before .atom-count .ensures .2)
 
 same-length : tie.Need-same-length
 same-length c = search needs
 
 returns-2 : tie.Need-returns-2
-returns-2 c = let s = c .before .before .before .before .before .before .before .before .before .before .before .before .before .before .before .before .before .before .before .before .before .before .before in let a = s .args in branching-passes (a .book .now) (a .layer) (s .pre .0) (c .before .before .before .before .before .before .before .before .before .before .before .before .before .before .before .before .before .before .before .prepare .ensures) (c .before .before .before .before .before .before .before .before .before .before .before .before .branching-atoms .ensures) (a .buffer .now) (c .before .before .before .before .before .before .before .before .before .before .if1 .left) _ _ (c .before .before .one-found .ensures)
+returns-2 c = let a = c .before .before .before .before .before .before .before .before .before .before .before .before .before .before .before .before .before .before .before .before .before .before .before .before .before .args in branching-passes (a .book .now) (a .layer) (c .before .before .before .before .before .before .before .before .before .before .before .before .before .before .before .before .before .before .before .before .before .before .before .before .before .pre .0) (c .before .before .before .before .before .before .before .before .before .before .before .before .before .before .before .before .before .before .before .prepare .ensures) (c .before .before .before .before .before .before .before .before .before .before .before .before .branching-atoms .ensures) (a .buffer .now) (c .before .before .before .before .before .before .before .before .before .before .if1 .left) _ _ (c .before .before .one-found .ensures)
 
 pub one-at-spec : {M : Type 1} → statement M
 one-at-spec =
     tie.close
     (tie.spec
     atom-count-requires
+    slice-aggregate-prepare
+    slice-aggregate-prepare-2
     prepare-requires
     mul-branching-atoms
     sub-branching-atoms

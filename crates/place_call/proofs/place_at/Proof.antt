@@ -7,21 +7,21 @@ use Rattle.place_call.proofs.PlaceLaws.{fact-refused, branching-refused
 use borrow.Author.Needs.{needs}
 use Rattle.place_call.proofs.place_at.Statement.{statement}
 use Rattle.place_call.proofs.place_at.Tie as tie
-use Rattle.place_call.proofs.place_at.Reads as reads
-use Rattle.place_call.proofs.place_at.Lts as lts
-use Rattle.accepted.proofs.atom_count.Reads as atom-count-reads
-use Rattle.accepted.proofs.prepare.Reads as prepare-reads
-use Rattle.branching.proofs.branching_atoms.Reads as branching-atoms-reads
-use Rattle.place_call.proofs.place_found.Reads as place-found-reads
 
 atom-count-requires : tie.Need-atom-count-requires
 atom-count-requires c κs = search needs
 
 returns : tie.Need-returns
-returns c = fact-refused (c .before .before .before .args .book .now) (c .before .before .before .args .layer) (c .before .before .before .args .fact) (c .before .atom-count .result) (c .before .atom-count .ensures .0) (c .if1 .taken)
+returns c = let a = c .before .before .before .args in fact-refused (a .book .now) (a .layer) (a .fact) (c .before .atom-count .result) (c .before .atom-count .ensures .0) (c .if1 .taken)
+
+slice-aggregate-prepare : tie.Need-slice-aggregate-prepare
+slice-aggregate-prepare c = search needs
+
+slice-aggregate-prepare-2 : tie.Need-slice-aggregate-prepare-2
+slice-aggregate-prepare-2 c = search needs
 
 prepare-requires : tie.Need-prepare-requires
-prepare-requires c κs = search needs
+prepare-requires c κs = let s = c .before .before .before .before .before .pre in (s .0, (s .1 .0, (s .1 .1, search needs)))
 
 mul-branching-atoms : tie.Need-mul-branching-atoms
 mul-branching-atoms c = search needs
@@ -46,10 +46,10 @@ part-branching-atoms-end-2 c = search needs
 
 branching-atoms-requires : tie.Need-branching-atoms-requires
 unfolding programAt
-branching-atoms-requires c κs = (lent-table (c .before .before .before .before .before .before .prepare .ensures), (c .before .before .before .before .before .before .before .before .atom-count .ensures .0, c .before .before .before .before .before .before .before .before .atom-count .ensures .2))
+branching-atoms-requires c κs = (lent-table (c .before .before .before .before .before .before .prepare .ensures), (c .before .before .before .before .before .before .before .before .before .before .atom-count .ensures .0, c .before .before .before .before .before .before .before .before .before .before .atom-count .ensures .2))
 
 returns-2 : tie.Need-returns-2
-returns-2 c = branching-refused (c .before .before .before .before .before .before .before .before .before .before .before .before .before .args .book .now) (c .before .before .before .before .before .before .before .before .before .before .before .before .before .args .layer) (c .before .before .before .before .before .before .before .before .before .before .before .before .before .args .fact) (c .before .before .before .before .before .before .before .before .before .before .before .atom-count .result) (c .before .before .before .before .before .before .before .before .before .before .before .atom-count .ensures .0) (c .before .before .before .before .before .before .before .before .before .before .if1 .left) (too-many (c .before .before .before .before .before .before .before .before .before .before .before .before .before .args .book .now) (c .before .before .before .before .before .before .before .before .before .before .before .before .before .args .layer) (c .before .before .before .before .before .before .before .before .before .before .before .before .before .pre .0) (c .before .before .before .before .before .before .before .before .before .prepare .ensures) (c .before .before .branching-atoms .ensures) (c .if2 .taken))
+returns-2 c = let a = c .before .before .before .before .before .before .before .before .before .before .before .before .before .before .before .args in branching-refused (a .book .now) (a .layer) (a .fact) (c .before .before .before .before .before .before .before .before .before .before .before .before .before .atom-count .result) (c .before .before .before .before .before .before .before .before .before .before .before .before .before .atom-count .ensures .0) (c .before .before .before .before .before .before .before .before .before .before .before .before .if1 .left) (too-many (a .book .now) (a .layer) (c .before .before .before .before .before .before .before .before .before .before .before .before .before .before .before .pre .0) (c .before .before .before .before .before .before .before .before .before .prepare .ensures) (c .before .before .branching-atoms .ensures) (c .if2 .taken))
 
 mul-place-found : tie.Need-mul-place-found
 mul-place-found c = search needs
@@ -82,10 +82,10 @@ part-place-found-end-3 : tie.Need-part-place-found-end-3
 part-place-found-end-3 c = search needs
 
 place-found-requires : tie.Need-place-found-requires
-place-found-requires c κs = searchable (c .before .before .before .before .before .before .before .before .before .before .before .before .before .before .before .before .before .before .before .args .book .now) (c .before .before .before .before .before .before .before .before .before .before .before .before .before .before .before .before .before .before .before .args .layer) (c .before .before .before .before .before .before .before .before .before .before .before .before .before .before .before .before .before .before .before .pre .0) (c .before .before .before .before .before .before .before .before .before .before .before .before .before .before .before .prepare .ensures) (c .before .before .before .before .before .before .before .before .branching-atoms .ensures) (c .before .before .before .before .before .before .if2 .left) (c .before .before .before .before .before .before .before .before .before .before .before .before .before .before .before .before .before .atom-count .result) (c .before .before .before .before .before .before .before .before .before .before .before .before .before .before .before .before .before .atom-count .ensures .0) (c .before .before .before .before .before .before .before .before .before .before .before .before .before .before .before .before .before .atom-count .ensures .1) (c .before .before .before .before .before .before .before .before .before .before .before .before .before .before .before .before .before .atom-count .ensures .2)
+place-found-requires c κs = let a = c .before .before .before .before .before .before .before .before .before .before .before .before .before .before .before .before .before .before .before .before .before .args in searchable (a .book .now) (a .layer) (c .before .before .before .before .before .before .before .before .before .before .before .before .before .before .before .before .before .before .before .before .before .pre .0) (c .before .before .before .before .before .before .before .before .before .before .before .before .before .before .before .prepare .ensures) (c .before .before .before .before .before .before .before .before .branching-atoms .ensures) (c .before .before .before .before .before .before .if2 .left) (c .before .before .before .before .before .before .before .before .before .before .before .before .before .before .before .before .before .before .before .atom-count .result) (c .before .before .before .before .before .before .before .before .before .before .before .before .before .before .before .before .before .before .before .atom-count .ensures .0) (c .before .before .before .before .before .before .before .before .before .before .before .before .before .before .before .before .before .before .before .atom-count .ensures .1) (c .before .before .before .before .before .before .before .before .before .before .before .before .before .before .before .before .before .before .before .atom-count .ensures .2)
 
 returns-3 : tie.Need-returns-3
-returns-3 c = branching-passes (c .before .before .before .before .before .before .before .before .before .before .before .before .before .before .before .before .before .before .before .before .args .book .now) (c .before .before .before .before .before .before .before .before .before .before .before .before .before .before .before .before .before .before .before .before .args .layer) (c .before .before .before .before .before .before .before .before .before .before .before .before .before .before .before .before .before .before .before .before .args .fact) (c .before .before .before .before .before .before .before .before .before .before .before .before .before .before .before .before .before .before .atom-count .result) (c .before .before .before .before .before .before .before .before .before .before .before .before .before .before .before .before .before .before .atom-count .ensures .0) (c .before .before .before .before .before .before .before .before .before .before .before .before .before .before .before .before .before .if1 .left) (not-too-many (c .before .before .before .before .before .before .before .before .before .before .before .before .before .before .before .before .before .before .before .before .args .book .now) (c .before .before .before .before .before .before .before .before .before .before .before .before .before .before .before .before .before .before .before .before .args .layer) (c .before .before .before .before .before .before .before .before .before .before .before .before .before .before .before .before .before .before .before .before .pre .0) (c .before .before .before .before .before .before .before .before .before .before .before .before .before .before .before .before .prepare .ensures) (c .before .before .before .before .before .before .before .before .before .branching-atoms .ensures) (c .before .before .before .before .before .before .before .if2 .left)) _ (c .place-found .ensures)
+returns-3 c = let a = c .before .before .before .before .before .before .before .before .before .before .before .before .before .before .before .before .before .before .before .before .before .before .args in branching-passes (a .book .now) (a .layer) (a .fact) (c .before .before .before .before .before .before .before .before .before .before .before .before .before .before .before .before .before .before .before .before .atom-count .result) (c .before .before .before .before .before .before .before .before .before .before .before .before .before .before .before .before .before .before .before .before .atom-count .ensures .0) (c .before .before .before .before .before .before .before .before .before .before .before .before .before .before .before .before .before .before .before .if1 .left) (not-too-many (a .book .now) (a .layer) (c .before .before .before .before .before .before .before .before .before .before .before .before .before .before .before .before .before .before .before .before .before .before .pre .0) (c .before .before .before .before .before .before .before .before .before .before .before .before .before .before .before .before .prepare .ensures) (c .before .before .before .before .before .before .before .before .before .branching-atoms .ensures) (c .before .before .before .before .before .before .before .if2 .left)) _ (c .place-found .ensures)
 
 pub place-at-spec : {M : Type 1} → statement M
 place-at-spec =
@@ -93,6 +93,8 @@ place-at-spec =
     (tie.spec
     atom-count-requires
     returns
+    slice-aggregate-prepare
+    slice-aggregate-prepare-2
     prepare-requires
     mul-branching-atoms
     sub-branching-atoms

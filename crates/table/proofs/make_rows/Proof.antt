@@ -1,8 +1,8 @@
--- The invariant: the rows so far are those of the records passed that the mask takes, and of the records left none passes the
+-- `make_rows` meets its contract. The invariant: the rows so far are those of the records passed that the mask takes, and of the records left none passes the
 -- end. Each turn takes one record, so the bytes left fall.
 use mathlib.Core.Logic.{⊎-elim}
 use Prim.Native.Nat.{_-_}
-use lib.ListN.{length}
+use lib.ListN.{length, length-set}
 use Rattle.table.proofs.WalkLaws.{RowsSoFar, rows-start, here, free, rows-more, rows-skip, rows-end}
 use borrow.Author.Needs.{needs}
 use native.Mathlib.Omega.{arith}
@@ -17,8 +17,8 @@ abbrev μ-loop : tie.MeasureT-loop
 
 loop-holds : tie.Need-loop-holds Inv-loop μ-loop
 loop-holds c =
-    let e = c .before .args in
-    rows-start (e .book .now) (e .first) (e .mask) _ (search needs) (c .before .pre .0) (c .before .pre .1 .0)
+    let e = c .before .before in
+    rows-start (e .args .book .now) (e .args .first) (e .args .mask) (e .args .rows .now) (e .pre .1 .1 .1) (e .pre .0) (e .pre .1 .0)
 
 shared-slice-read-wide : tie.Need-shared-slice-read-wide Inv-loop μ-loop
 shared-slice-read-wide c = search needs
@@ -80,20 +80,20 @@ mul-i c =
 add-rows : tie.Need-add-rows Inv-loop μ-loop
 add-rows c =
     let l = c .before .before .before .before .before .before .before .before .before .loop in
-    omega (arith, here (l .inv) (search needs) .ends, here (l .inv) (search needs) .long, c .before .before .before .before .before .before .before .before .before .before .before .pre .1 .1)
+    omega (arith, here (l .inv) (search needs) .ends, here (l .inv) (search needs) .long, c .before .before .before .before .before .before .before .before .before .before .before .before .pre .1 .1 .0)
 
 cast-rows : tie.Need-cast-rows Inv-loop μ-loop
 cast-rows c =
     let l = c .before .before .before .before .before .before .before .before .before .loop in
-    omega (arith, here (l .inv) (search needs) .ends, here (l .inv) (search needs) .long, c .before .before .before .before .before .before .before .before .before .before .before .pre .1 .1)
+    omega (arith, here (l .inv) (search needs) .ends, here (l .inv) (search needs) .long, c .before .before .before .before .before .before .before .before .before .before .before .before .pre .1 .1 .0)
 
 mul-rows : tie.Need-mul-rows Inv-loop μ-loop
 mul-rows c =
     let l = c .before .before .before .before .before .before .before .before .before .loop in
     omega (arith, l .inv .size, free (l .inv) (search needs))
 
-array-write-rows : tie.Need-array-write-rows Inv-loop μ-loop
-array-write-rows c =
+slice-write-rows : tie.Need-slice-write-rows Inv-loop μ-loop
+slice-write-rows c =
     let l = c .before .before .before .before .before .before .before .before .before .loop in
     omega (arith, l .inv .size, free (l .inv) (search needs))
 
@@ -115,10 +115,10 @@ mul-rows-2 c =
     let l = c .before .before .before .before .before .before .before .before .before .loop in
     omega (arith, l .inv .size, free (l .inv) (search needs))
 
-array-write-rows-2 : tie.Need-array-write-rows-2 Inv-loop μ-loop
-array-write-rows-2 c =
+slice-write-rows-2 : tie.Need-slice-write-rows-2 Inv-loop μ-loop
+slice-write-rows-2 c =
     let l = c .before .before .before .before .before .before .before .before .before .loop in
-    omega (arith, l .inv .size, free (l .inv) (search needs))
+    simp length-set (omega (arith, l .inv .size, free (l .inv) (search needs)))
 
 cast-rows-3 : tie.Need-cast-rows-3 Inv-loop μ-loop
 cast-rows-3 c = search needs
@@ -133,10 +133,10 @@ mul-rows-3 c =
     let l = c .before .before .before .before .before .before .before .before .before .loop in
     omega (arith, l .inv .size, free (l .inv) (search needs))
 
-array-write-rows-3 : tie.Need-array-write-rows-3 Inv-loop μ-loop
-array-write-rows-3 c =
+slice-write-rows-3 : tie.Need-slice-write-rows-3 Inv-loop μ-loop
+slice-write-rows-3 c =
     let l = c .before .before .before .before .before .before .before .before .before .loop in
-    omega (arith, l .inv .size, free (l .inv) (search needs))
+    simp length-set (omega (arith, l .inv .size, free (l .inv) (search needs)))
 
 cast-rows-4 : tie.Need-cast-rows-4 Inv-loop μ-loop
 cast-rows-4 c = search needs
@@ -151,10 +151,10 @@ mul-rows-4 c =
     let l = c .before .before .before .before .before .before .before .before .before .loop in
     omega (arith, l .inv .size, free (l .inv) (search needs))
 
-array-write-rows-4 : tie.Need-array-write-rows-4 Inv-loop μ-loop
-array-write-rows-4 c =
+slice-write-rows-4 : tie.Need-slice-write-rows-4 Inv-loop μ-loop
+slice-write-rows-4 c =
     let l = c .before .before .before .before .before .before .before .before .before .loop in
-    omega (arith, l .inv .size, free (l .inv) (search needs))
+    simp length-set (omega (arith, l .inv .size, free (l .inv) (search needs)))
 
 add-count : tie.Need-add-count Inv-loop μ-loop
 add-count c =
@@ -184,6 +184,9 @@ loop-again c =
     (λ w. rw (w .1, w .2) (rows-skip (l .inv) (search needs) (c .before .before .before .wide .result) (c .before .wide2 .result) (c .before .before .before .wide .ensures .0) (c .before .wide2 .ensures .0) (w .0 .left)))
     (c .if1 .came)
 
+same-length : tie.Need-same-length Inv-loop μ-loop
+same-length c = search needs
+
 returns : tie.Need-returns Inv-loop μ-loop
 returns c = rows-end (c .before .loop .inv) (c .loop-test .left)
 
@@ -210,23 +213,24 @@ make-rows-spec =
     add-rows
     cast-rows
     mul-rows
-    array-write-rows
+    slice-write-rows
     sub-rows
     cast-rows-2
     add-rows-2
     mul-rows-2
-    array-write-rows-2
+    slice-write-rows-2
     cast-rows-3
     add-rows-3
     mul-rows-3
-    array-write-rows-3
+    slice-write-rows-3
     cast-rows-4
     add-rows-4
     mul-rows-4
-    array-write-rows-4
+    slice-write-rows-4
     add-count
     add-at
     add-at-2
     loop-less
     loop-again
+    same-length
     returns)

@@ -1,7 +1,7 @@
 -- The invariant: the masks of the rows passed have the lower layers in which the opposite head stands. The rows left fall.
 use mathlib.Core.Path.{_≡_, refl, subst}
 use Prim.Native.Nat.{_-_, _/_, _≤_}
-use lib.ListN.{length}
+use lib.ListN.{length, length-set}
 use Rattle.table.specs.Overriding.{Overridden}
 use Rattle.table.proofs.OverridingLaws.{overridden-start, overridden-more}
 use borrow.Author.Needs.{needs}
@@ -10,17 +10,17 @@ use Rattle.table.proofs.overridden_layers.Statement.{statement}
 use Rattle.table.proofs.overridden_layers.Tie as tie
 
 abbrev Inv-loop : tie.InvT-loop
-Inv-loop rows lower heads count masks₀ j₀ masks j = (count ≡ length rows / 4) × (j ≤ count) × (length masks ≡ 1024) × Overridden rows lower masks j
+Inv-loop rows masks₀ lower heads count j₀ masks j = (count ≡ length rows / 4) × (j ≤ count) × (length masks ≡ length masks₀) × Overridden rows lower masks j
 
 abbrev μ-loop : tie.MeasureT-loop
-μ-loop rows lower heads count masks₀ j₀ masks j = count - j
+μ-loop rows masks₀ lower heads count j₀ masks j = count - j
 
 head-layers-requires : tie.Need-head-layers-requires Inv-loop μ-loop
 head-layers-requires c κs = search needs
 
 loop-holds : tie.Need-loop-holds Inv-loop μ-loop
 loop-holds c =
-    (refl, omega arith, search needs, overridden-start (c .before .before .args .rows .now) (c .before .before .args .t2) _)
+    (refl, omega arith, refl, overridden-start (c .before .before .before .args .rows .now) (c .before .before .before .args .t2) _)
 
 row-head-requires : tie.Need-row-head-requires Inv-loop μ-loop
 row-head-requires c κs = search needs
@@ -46,8 +46,8 @@ array-read-masks-2 c = search needs
 mul-masks-3 : tie.Need-mul-masks-3 Inv-loop μ-loop
 mul-masks-3 c = search needs
 
-array-write-masks : tie.Need-array-write-masks Inv-loop μ-loop
-array-write-masks c = search needs
+slice-write-masks : tie.Need-slice-write-masks Inv-loop μ-loop
+slice-write-masks c = search needs
 
 add-j : tie.Need-add-j Inv-loop μ-loop
 add-j c = search needs
@@ -58,13 +58,16 @@ loop-less c = search needs
 loop-again : tie.Need-loop-again Inv-loop μ-loop
 loop-again c =
     let l = c .before .before .before .before .loop in
-    let e = c .before .before .before .before .before .before .before .args in
-    (refl, omega arith, search needs, overridden-more (e .rows .now) (e .t2) (c .before .before .before .before .before .head-layers .result) (l .masks) (l .j) (c .before .before .row-head .result) (c .before .opposite .result) (c .row-layer .result) (l .inv .3) (omega (arith, c .before .before .before .before .before .before .before .pre .1, l .inv .0, l .inv .2)) (c .before .before .before .before .before .head-layers .ensures) (c .before .before .row-head .ensures .0) (c .before .opposite .ensures .0) (c .row-layer .ensures .0))
+    let e = c .before .before .before .before .before .before .before .before .args in
+    (refl, omega arith, simp length-set (l .inv .2), overridden-more (e .rows .now) (e .t2) (c .before .before .before .before .before .head-layers .result) (l .masks) (l .j) (c .before .before .row-head .result) (c .before .opposite .result) (c .row-layer .result) (l .inv .3) (omega (arith, c .before .before .before .before .before .before .before .before .pre .1, l .inv .0, l .inv .2)) (c .before .before .before .before .before .head-layers .ensures) (c .before .before .row-head .ensures .0) (c .before .opposite .ensures .0) (c .row-layer .ensures .0))
+
+same-length : tie.Need-same-length Inv-loop μ-loop
+same-length c = search needs
 
 returns : tie.Need-returns Inv-loop μ-loop
 returns c =
     let l = c .before .loop in
-    let e = c .before .before .before .before .args in
+    let e = c .before .before .before .before .before .args in
     subst (Overridden (e .rows .now) (e .t2) (l .masks)) {x = l .j} {y = length (e .rows .now) / 4} (omega (arith, c .loop-test .left, l .inv .1)) (l .inv .3)
 
 pub overridden-layers-spec : {M : Type 1} → statement M
@@ -83,8 +86,9 @@ overridden-layers-spec =
     mul-masks-2
     array-read-masks-2
     mul-masks-3
-    array-write-masks
+    slice-write-masks
     add-j
     loop-less
     loop-again
+    same-length
     returns)

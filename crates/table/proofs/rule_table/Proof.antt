@@ -1,6 +1,8 @@
--- The rows are those of the relevant rules, since the mask has the driven layer and those below it; the masks are theirs.
+-- `rule_table` meets its contract: the rows are those of the relevant rules, since the mask has the driven layer and those below it;
+-- the masks are theirs. Assumes nothing.
 use mathlib.Core.Path.{refl}
 use Rattle.table.proofs.TableLaws.{lent-bounded, lent-room, table-made}
+use native.Mathlib.Omega.{arith}
 use borrow.Author.Needs.{needs}
 use Rattle.table.proofs.rule_table.Statement.{statement}
 use Rattle.table.proofs.rule_table.Tie as tie
@@ -33,15 +35,19 @@ part-overridden-layers-end : tie.Need-part-overridden-layers-end
 part-overridden-layers-end c = search needs
 
 overridden-layers-requires : tie.Need-overridden-layers-requires
-overridden-layers-requires c κs =
-    let w = c .before .before .before .make-rows in
-    (lent-bounded _ _ _ (w .result .rows) (w .result .count) (w .ensures), lent-room _ _ _ (w .result .rows) (w .result .count) (w .ensures))
+overridden-layers-requires c κs = let w = c .before .before .before .before .before .make-rows in (lent-bounded _ _ _ _ (w .result) (w .ensures), omega (arith, lent-room _ _ _ _ (w .result) (w .ensures), c .before .before .before .before .before .before .before .before .before .before .pre .1 .1 .1))
+
+same-length : tie.Need-same-length
+same-length c = search needs
+
+same-length-2 : tie.Need-same-length-2
+same-length-2 c = search needs
 
 returns : tie.Need-returns
 returns c =
-    let e = c .before .before .before .before .before .before .args in
-    let w = c .before .before .before .before .make-rows in
-    table-made (e .book .now) (e .first) _ (w .result .rows) (w .result .count) (w .ensures) (e .t4) (c .before .before .before .before .before .before .pre .0) (e .layer) (c .before .before .before .before .before .before .pre .1) refl (c .overridden-layers .result) (search needs) (c .overridden-layers .ensures)
+    let s = c .before .before .before .before .before .before .before .before .before .before .before .before .before in
+    let w = c .before .before .before .before .before .before .before .before .make-rows in
+    table-made (s .args .book .now) (s .args .first) _ _ (w .result) (w .ensures) (s .args .t4) (s .pre .0) (s .args .layer) (s .pre .1 .0) refl _ (search needs) (c .before .before .overridden-layers .ensures)
 
 pub rule-table-spec : {M : Type 1} → statement M
 rule-table-spec =
@@ -57,4 +63,6 @@ rule-table-spec =
     part-overridden-layers-start
     part-overridden-layers-end
     overridden-layers-requires
+    same-length
+    same-length-2
     returns)

@@ -1,4 +1,5 @@
--- The candidate's state is what is read from it, and the table is the program's, so the test of the table is the test of the state.
+-- `candidate_stable` meets its contract: the candidate's state is what is read from it, and the table is the program's, so the test of
+-- the table is the test of the state. Assumes nothing.
 use mathlib.Core.Path.{ap, _∙_}
 use Rattle.models.specs.StableModels.{Interpretation, stable}
 use Rattle.table.specs.Table.{programOf}
@@ -12,11 +13,16 @@ use Rattle.test_call.proofs.candidate_stable.Statement.{statement}
 use Rattle.test_call.proofs.candidate_stable.Tie as tie
 
 read-candidate-requires : tie.Need-read-candidate-requires
-read-candidate-requires c κs =
-    (c .before .before .pre .1 .1 .1 .0 .1, ok-length (c .before .before .args .n) (c .before .before .args .candidate .now) (c .before .before .pre .1 .1 .1 .1))
+read-candidate-requires c κs = let s = c .before .before in (s .pre .1 .1 .1 .0 .1, ok-length (s .args .n) (s .args .candidate .now) (s .pre .1 .1 .1 .1))
+
+slice-aggregate-prepare : tie.Need-slice-aggregate-prepare
+slice-aggregate-prepare c = search needs
+
+slice-aggregate-prepare-2 : tie.Need-slice-aggregate-prepare-2
+slice-aggregate-prepare-2 c = search needs
 
 prepare-requires : tie.Need-prepare-requires
-prepare-requires c κs = search needs
+prepare-requires c κs = let s = c .before .before .before .before .before .pre in (s .0, (s .1 .0, (s .1 .1 .0, search needs)))
 
 mul-is-stable : tie.Need-mul-is-stable
 mul-is-stable c = search needs
@@ -46,30 +52,29 @@ part-is-stable-start-3 : tie.Need-part-is-stable-start-3
 part-is-stable-start-3 c = search needs
 
 part-is-stable-end-3 : tie.Need-part-is-stable-end-3
-part-is-stable-end-3 c =
-    omega (arith, c .before .before .before .before .before .before .before .before .before .before .before .pre .1 .1 .1 .0 .1)
+part-is-stable-end-3 c = omega (arith, c .before .before .before .before .before .before .before .before .before .before .before .before .before .pre .1 .1 .1 .0 .1)
 
 is-stable-requires : tie.Need-is-stable-requires
 is-stable-requires c κs =
-    let e = c .before .before .before .before .before .before .before .before .before .before .before .before .args in
-    let h = c .before .before .before .before .before .before .before .before .before .before .before .before .pre in (
+    let e = c .before .before .before .before .before .before .before .before .before .before .before .before .before .before .args in
+    let h = c .before .before .before .before .before .before .before .before .before .before .before .before .before .before .pre in
+    let m = c .before .before .before .before .before .before .before .before .before .before .before .read-candidate in (
       accepted-formed (e .book .now) (h .0) (e .layer),
-      (
-        lent-table (c .before .before .before .before .before .before .before .before .prepare .ensures),
-        (program-atoms (e .book .now) (e .layer) (e .n) (h .1 .1 .1 .0 .0), (h .1 .1 .1 .0 .1, lent-size (e .n) (e .candidate .now) (c .before .before .before .before .before .before .before .before .before .read-candidate .result) (c .before .before .before .before .before .before .before .before .before .read-candidate .ensures))),
-      ),
+      (lent-table (c .before .before .before .before .before .before .before .before .prepare .ensures), (program-atoms (e .book .now) (e .layer) (e .n) (h .1 .1 .1 .0 .0), (h .1 .1 .1 .0 .1, lent-size (e .n) (e .candidate .now) (m .result) (m .ensures)))),
     )
 
 returns : tie.Need-returns
 returns c =
-    let e = c .before .before .before .before .before .before .before .before .before .before .before .before .before .args in
-    c .is-stable .ensures ∙ ap (λ (m : Interpretation). stable (programOf (e .book .now) (e .layer)) m) (lent-state (e .n) (e .candidate .now) (c .before .before .before .before .before .before .before .before .before .before .read-candidate .result) (c .before .before .before .before .before .before .before .before .before .before .read-candidate .ensures))
+    let e = c .before .before .before .before .before .before .before .before .before .before .before .before .before .before .before .args in
+    c .is-stable .ensures ∙ ap (λ (m : Interpretation). stable (programOf (e .book .now) (e .layer)) m) (lent-state (e .n) (e .candidate .now) (c .before .before .before .before .before .before .before .before .before .before .before .before .read-candidate .result) (c .before .before .before .before .before .before .before .before .before .before .before .before .read-candidate .ensures))
 
 pub candidate-stable-spec : {M : Type 1} → statement M
 candidate-stable-spec =
     tie.close
     (tie.spec
     read-candidate-requires
+    slice-aggregate-prepare
+    slice-aggregate-prepare-2
     prepare-requires
     mul-is-stable
     sub-is-stable
