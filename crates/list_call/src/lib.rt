@@ -41,13 +41,14 @@ fn list_models(
     requires { ⌜ Searchable (now book) (now rows) (now overridden) (now atoms) layer n ⌝ }
     ensures { λ r. ⌜ Answers (firstOf (roomTests (programOf (now (book .entry)) layer) (length (now (buffer .entry))))) (programOf (now (book .entry)) layer) (now (buffer .entry)) r (now (buffer .exit)) ⌝ }
 {
-    let masks = rule_masks(book, rows, atoms);
+    let mut masks: [u32; 3072] = [0; 3072];
+    let made = rule_masks(book, rows, atoms, &mut masks);
     let counts = tally(
         book,
         layer,
         rows,
         overridden,
-        &masks,
+        &masks[0..3 * made],
         atoms,
         n,
         Goal::All,
@@ -63,7 +64,7 @@ fn list_models(
         layer,
         rows,
         overridden,
-        &masks,
+        &masks[0..3 * made],
         atoms,
         n,
         &mut buffer[11..size],

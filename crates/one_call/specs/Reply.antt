@@ -6,7 +6,7 @@ use Prim.Native.Nat.{ℕ}
 use lib.Dec.{ltb}
 use lib.ListN.{length, drop}
 use Rattle.models.specs.Program.{Program}
-use Rattle.models.specs.StableModels.{Interpretation, StableModel}
+use Rattle.models.specs.StableModels.{Interpretation}
 use Rattle.models.specs.Branching.{branchingCount}
 use Rattle.models.specs.Listing.{recordSize, recordOf}
 use Rattle.table.specs.Table.{programOf}
@@ -15,6 +15,7 @@ use Rattle.book.specs.declared.Cause.the-variants.{TooManyBranching, BufferTooS
 use Rattle.book.specs.declared.Verdict.{Verdict}
 use Rattle.book.specs.declared.Verdict.the-variants.{Accepted, Refused}
 use Rattle.accepted.specs.Driven.{layerTests}
+use Rattle.passes.specs.First.{Chosen}
 use Rattle.passes.specs.Limit.{hasTooManyBranching, hasNoStableState}
 use Rattle.one_call.specs.declared.OneReply.{OneReply}
 use Rattle.one_call.specs.declared.OneReply.the-variants as reply
@@ -40,7 +41,7 @@ replyOf Accepted P = reply.Written (branchingCount P)
 -- the record of a stable state stands in front, and the bytes past it are untouched
 pub record Holds (P : Program) (old new : List ℕ) : Type 0 where
   pub state : Interpretation
-  pub stable : StableModel P state
+  pub stable : Chosen P state
   pub bytes : new ≡ recordOf (P .atoms) state ++ drop (recordSize (P .atoms)) old
 
 -- a refusal leaves every byte

@@ -42,13 +42,14 @@ fn one_found(
     if buffer.len() < size {
         return OneReply::Refused(Cause::BufferTooShort);
     }
-    let masks = rule_masks(book, rows, atoms);
+    let mut masks: [u32; 3072] = [0; 3072];
+    let made = rule_masks(book, rows, atoms, &mut masks);
     let found = write_first(
         book,
         layer,
         rows,
         overridden,
-        &masks,
+        &masks[0..3 * made],
         atoms,
         n,
         &mut buffer[0..size],

@@ -8,7 +8,11 @@ use Rattle.models.specs.StableModels.{Interpretation, StableModel}
 use Rattle.models.specs.Listing.{recordOf}
 use Rattle.passes.specs.Limit.{hasNoStableState}
 
--- a stable model's record is the part, or there is none and the part is as it was
+-- A state that may be handed out. Document 01 leaves it open which stable state it is; a request that closes the choice closes it here.
+abbrev pub Chosen : Program → Interpretation → Type 0
+Chosen P m = StableModel P m
+
+-- the record of such a state is the part, or there is none and the part is as it was
 pub record FirstWritten (P : Program) (n : ℕ) (old : List ℕ) (found : Bool) (new : List ℕ) : Type 0 where
   pub none : found ≡ false → (hasNoStableState P ≡ true) × (new ≡ old)
-  pub some : found ≡ true → (hasNoStableState P ≡ false) × ((m : Interpretation) × StableModel P m × (new ≡ recordOf n m))
+  pub some : found ≡ true → (hasNoStableState P ≡ false) × ((m : Interpretation) × Chosen P m × (new ≡ recordOf n m))

@@ -6,7 +6,6 @@ ghost use Prim.Native.Nat.{_*_, _≤_};
 ghost use lib.ListN.{length};
 ghost use Rattle.base.specs.Lists.{flat};
 ghost use Rattle.models.specs.Listing.{stableModels, recordSize, recordOf};
-ghost use Rattle.table.specs.Rows.{rowCount};
 ghost use Rattle.table.specs.Table.{programOf};
 ghost use Rattle.setting.specs.RuleMasks.{RuleMasks};
 ghost use Rattle.search.specs.Searchable.{Searchable};
@@ -34,7 +33,7 @@ pub fn tally(
     atom: usize,
 ) -> Counts
     requires { ⌜ Searchable (now book) (now rows) (now overridden) (now atoms) layer n ⌝ }
-    requires { ⌜ RuleMasks (now book) (now rows) (now atoms) (now masks) (rowCount (now rows)) ⌝ }
+    requires { ⌜ RuleMasks (now book) (now rows) (now atoms) (now masks) ⌝ }
     ensures { λ r. ⌜ Tallied (programOf (now (book .entry)) layer) goal atom (r .count) (r .standing) ⌝ }
 {
     let mut unused: [u8; 1] = [0; 1];
@@ -78,7 +77,7 @@ pub fn write_all(
     part: &mut [u8],
 )
     requires { ⌜ Searchable (now book) (now rows) (now overridden) (now atoms) layer n ⌝ }
-    requires { ⌜ RuleMasks (now book) (now rows) (now atoms) (now masks) (rowCount (now rows)) ⌝ }
+    requires { ⌜ RuleMasks (now book) (now rows) (now atoms) (now masks) ⌝ }
     requires { ⌜ length (now part) ≡ length (stableModels (programOf (now book) layer)) * recordSize n ⌝ }
     ensures { λ _. ⌜ now (part .exit) ≡ flat (map (recordOf n) (stableModels (programOf (now (book .entry)) layer))) ⌝ }
 {
@@ -119,7 +118,7 @@ pub fn write_first(
     part: &mut [u8],
 ) -> bool
     requires { ⌜ Searchable (now book) (now rows) (now overridden) (now atoms) layer n ⌝ }
-    requires { ⌜ RuleMasks (now book) (now rows) (now atoms) (now masks) (rowCount (now rows)) ⌝ }
+    requires { ⌜ RuleMasks (now book) (now rows) (now atoms) (now masks) ⌝ }
     requires { ⌜ length (now part) ≡ recordSize n ⌝ }
     ensures { λ r. ⌜ FirstWritten (programOf (now (book .entry)) layer) n (now (part .entry)) r (now (part .exit)) ⌝ }
 {

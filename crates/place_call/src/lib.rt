@@ -45,13 +45,14 @@ fn place_found(
     requires { ⌜ Searchable (now book) (now rows) (now overridden) (now atoms) layer n ⌝ }
     ensures { λ r. ⌜ r ≡ replyOf (firstOf (stateTests (programOf (now (book .entry)) layer))) (programOf (now (book .entry)) layer) fact ⌝ }
 {
-    let masks = rule_masks(book, rows, atoms);
+    let mut masks: [u32; 3072] = [0; 3072];
+    let made = rule_masks(book, rows, atoms, &mut masks);
     let counts = tally(
         book,
         layer,
         rows,
         overridden,
-        &masks,
+        &masks[0..3 * made],
         atoms,
         n,
         Goal::Settle,

@@ -4,7 +4,7 @@ use mathlib.Core.Path.{_≡_, refl, sym, ap, subst, _∙_}
 use mathlib.Core.Logic.{⊎-elim}
 use mathlib.Core.Bool.{Bool, true, false, not, false≢true}
 use mathlib.Core.List.{List, [], _∷_, List·Memᴰ·head, List·Memᴰ·tail}
-use Prim.Native.Nat.{ℕ, zero, suc, _-_, _<_, _≤_}
+use Prim.Native.Nat.{ℕ, zero, suc, _-_, _/_, _<_, _≤_}
 use native.Mathlib.Decide.{ℕ-discrete}
 use native.Mathlib.Omega.{arith}
 use lib.Bits.{bitAnd, bitOr}
@@ -22,7 +22,7 @@ use Rattle.table.specs.Rows.{rowCount, rowAt, rowsOf}
 use Rattle.table.specs.Table.{programOf}
 use Rattle.table.proofs.RowLaws.{row-of}
 use Rattle.setting.specs.Setting.{settingOf}
-use Rattle.setting.specs.RuleMasks.{RuleMasks, plainMask, negatedMask, Open, Headed}
+use Rattle.setting.specs.RuleMasks.{RuleMask, plainMask, negatedMask, headMask, MaskOf, RuleMasks, Open, Headed}
 use Rattle.setting.proofs.BitMaskLaws.{single, single-only}
 use Rattle.setting.proofs.SettingLaws.{setting-size, setting-false, setting-true}
 use Rattle.insertion.proofs.Once.{Once}
@@ -41,7 +41,7 @@ none-set a none = go (ℕ-discrete a 0)
     go (no n) = let x : (i : ℕ) × (bitOf a i ≡ 1) = some-bit (suc a) a (omega arith) (omega arith) in absurd (none (x .0) (x .1))
 
 module _ {book rows overridden atoms : List ℕ} {layer n : ℕ} (w : Searchable book rows overridden atoms layer n) {masks : List ℕ}
-    (k : RuleMasks book rows atoms masks (rowCount rows)) {undecided : List ℕ} (o : Interpretation) {standing denied : ℕ} (s : Decided atoms undecided o standing denied) where
+    (k : RuleMasks book rows atoms masks) {undecided : List ℕ} (o : Interpretation) {standing denied : ℕ} (s : Decided atoms undecided o standing denied) where
   abbrev P : Program
   P = programOf book layer
 
@@ -80,35 +80,37 @@ module _ {book rows overridden atoms : List ℕ} {layer n : ℕ} (w : Searchable
     unfolding holds signed
     negated-holds f t = t
 
-    -- a row whose body holds in the model is open
-    open-row : (j : ℕ) → j < rowCount rows → ((x : Literal) → x ∈ rowAt book rows j .body → T (holds m x)) → Open masks standing denied j
-    open-row j h body-holds =
-        none-set (bitOr (bitAnd (plainMask masks j) denied) (bitAnd (negatedMask masks j) standing))
+    -- a row whose body holds in the model is open, in its entry p
+    open-row : (j p : ℕ) → RuleMask atoms (rowAt book rows j) (plainMask masks p) (negatedMask masks p) (headMask masks p) → ((x : Literal) → x ∈ rowAt book rows j .body → T (holds m x)) → Open masks standing denied p
+    open-row j p r body-holds =
+        none-set (bitOr (bitAnd (plainMask masks p) denied) (bitAnd (negatedMask masks p) standing))
         (λ i z. ⊎-elim
         (λ c.
-        let d = s .denied-in i (and-second (plainMask masks j) denied i c) in
-        T-not (atomHolds o (getD atoms i 0)) (d .1) (subst T (agrees-at i (d .0)) (plain-holds (getD atoms i 0) (body-holds (positive (getD atoms i 0)) (k .each j h .plain-in i (and-first (plainMask masks j) denied i c))))))
+        let d = s .denied-in i (and-second (plainMask masks p) denied i c) in
+        T-not (atomHolds o (getD atoms i 0)) (d .1) (subst T (agrees-at i (d .0)) (plain-holds (getD atoms i 0) (body-holds (positive (getD atoms i 0)) (r .plain-in i (and-first (plainMask masks p) denied i c))))))
         (λ c.
-        let d = s .standing-in i (and-second (negatedMask masks j) standing i c) in
-        T-not (atomHolds m (getD atoms i 0)) (negated-holds (getD atoms i 0) (body-holds (negative (getD atoms i 0)) (k .each j h .negated-in i (and-first (negatedMask masks j) standing i c)))) (subst T (sym (agrees-at i (d .0))) (d .1)))
-        (or-cases (bitAnd (plainMask masks j) denied) (bitAnd (negatedMask masks j) standing) i z))
+        let d = s .standing-in i (and-second (negatedMask masks p) standing i c) in
+        T-not (atomHolds m (getD atoms i 0)) (negated-holds (getD atoms i 0) (body-holds (negative (getD atoms i 0)) (r .negated-in i (and-first (negatedMask masks p) standing i c)))) (subst T (sym (agrees-at i (d .0))) (d .1)))
+        (or-cases (bitAnd (plainMask masks p) denied) (bitAnd (negatedMask masks p) standing) i z))
 
-    all-headed : Headed masks (rowCount rows) standing denied
+    all-headed : Headed masks (length masks / 3) standing denied
     all-headed i z =
         let d = s .standing-in i z in
         let f : ℕ = getD atoms i 0 in
         let h : f < P .atoms = branching-small P (w .formed) f (listed-at i (d .0 .0)) in
         let y : Derived P m (positive f) = sm .exact (positive f) h .1 (holds-plain f (subst T (sym (agrees-at i (d .0))) (d .1))) in
         let x : Supporter (positive f) = supporter (positive f) y (λ j. false) in
-        let v : (j : ℕ) × (j < rowCount rows) × (rowAt book rows j ≡ x .rule) = row-of book rows (x .rule) (subst (λ (rs : List Rule). x .rule ∈ rs) (sym (w .table .rules)) (x .inside)) in (
-          v .0,
-          v .1,
-          open-row (v .0) (v .1) (λ l q. x .body-holds l (subst (λ (r : Rule). l ∈ r .body) (v .2) q)),
-          k .each (v .0) (v .1) .head-in i (d .0 .0) (ap (λ (r : Rule). r .head) (v .2) ∙ x .head-is),
+        let v : (j : ℕ) × (j < rowCount rows) × (rowAt book rows j ≡ x .rule) = row-of book rows (x .rule) (subst (λ (rs : List Rule). x .rule ∈ rs) (sym (w .table .rules)) (x .inside)) in
+        let h : rowAt book rows (v .0) .head ≡ positive f = ap (λ (r : Rule). r .head) (v .2) ∙ x .head-is in
+        let e : MaskOf book rows atoms masks (length masks / 3) (v .0) = k .each (v .0) i (v .1) (d .0 .0) h in (
+          e .place,
+          e .before,
+          open-row (v .0) (e .place) (e .mask) (λ l q. x .body-holds l (subst (λ (r : Rule). l ∈ r .body) (v .2) q)),
+          e .mask .head-in i (d .0 .0) h,
         )
 
   -- the test failed: there is nothing to find
-  pub none-found : (r : Bool) → (Headed masks (rowCount rows) standing denied → r ≡ true) → not r ≡ true → foundBy (atSetting P atoms) undecided o ≡ []
+  pub none-found : (r : Bool) → (Headed masks (length masks / 3) standing denied → r ≡ true) → not r ≡ true → foundBy (atSetting P atoms) undecided o ≡ []
   none-found r told e =
       ap (λ (l : List ℕ). foundBy (atSetting P l) undecided o) (w .listed)
       ∙ empty (foundBy (atSetting P (branchingAtoms P)) undecided o)

@@ -7,7 +7,6 @@ ghost use lib.ListN.{length, take};
 ghost use Rattle.base.specs.Lists.{consIf};
 ghost use Rattle.search.specs.Found.{agreeOn, atSetting, foundBy};
 ghost use Rattle.search.specs.Visits.{stopped, Kept, Met, Searched};
-ghost use Rattle.table.specs.Rows.{rowCount};
 ghost use Rattle.table.specs.Table.{programOf};
 ghost use Rattle.setting.specs.Setting.{settingOf};
 ghost use Rattle.setting.specs.RuleMasks.{RuleMasks};
@@ -202,13 +201,13 @@ pub fn search(
     part: &mut [u8],
     v: Visit,
 ) -> Visit
-    requires { ⌜ Searchable (now book) (now rows) (now overridden) (now atoms) layer n × Kept n v (now part) × (v .count + 2 ^ length (now undecided) ≤ 4294967296) × RuleMasks (now book) (now rows) (now atoms) (now masks) (rowCount (now rows)) × Decided (now atoms) (now undecided) (settingOf (now atoms) standing) standing denied ⌝ }
+    requires { ⌜ Searchable (now book) (now rows) (now overridden) (now atoms) layer n × Kept n v (now part) × (v .count + 2 ^ length (now undecided) ≤ 4294967296) × RuleMasks (now book) (now rows) (now atoms) (now masks) × Decided (now atoms) (now undecided) (settingOf (now atoms) standing) standing denied ⌝ }
     ensures { λ r. ⌜ Searched n (foundBy (atSetting (programOf (now (book .entry)) layer) (now (atoms .entry))) (now (undecided .entry)) (settingOf (now (atoms .entry)) standing)) v (now (part .entry)) r (now (part .exit)) ⌝ }
 {
     if stops(v) {
         return v;
     }
-    if !headed(masks, rows.len() / 4, standing, denied) {
+    if !headed(masks, standing, denied) {
         return v;
     }
     if undecided.len() == 0 {

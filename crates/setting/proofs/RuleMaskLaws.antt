@@ -11,7 +11,7 @@ use borrow.Author.Tests.{leb-true}
 use lib.Bits.{bitAnd, bitOr}
 use lib.Dec.{leb}
 use lib.ListN.{length, getD, set, take, drop, length-set, replicate, length-replicate}
-use lib.Seq.{getD-set-same, getD-set-other}
+use lib.Seq.{getD-set-same, getD-set-other, getD-take, length-take-le}
 use Rattle.base.specs.Bounds.{maxAtoms, maxRules}
 use Rattle.base.proofs.Members.{_∈_}
 use Rattle.layers.specs.Masks.{bitOf}
@@ -21,7 +21,7 @@ use Rattle.format.proofs.LiteralLaws.{literals-next}
 use Rattle.models.specs.StableModels.{positive, negative}
 use Rattle.table.specs.Names.{literalNamed}
 use Rattle.table.specs.Rows.{rowCount, bodyStart, bodyBytes, headName, rowAt}
-use Rattle.setting.specs.RuleMasks.{AtomBits, BodyMask, RuleMask, plainMask, negatedMask, headMask, RuleMasks, Open, Headed}
+use Rattle.setting.specs.RuleMasks.{AtomBits, BodyMask, RuleMask, headMask, MaskOf, MasksMade, RuleMasks, Open, Headed}
 use Rattle.setting.proofs.BitMaskLaws.{single, single-only, single-has, joined, joined-cases, joined-keeps, joined-has, or-absorbs}
 
 -- ---- the bits of the atoms
@@ -117,8 +117,8 @@ module _ (book rows atoms bits : List ℕ) (j : ℕ) (w : AtomBits atoms bits (l
           let q : to - from ≡ bodyBytes rows j = omega arith in
           subst (λ (x : ℕ). l ∈ literalsOf (take x (drop (bodyStart rows j) book))) q (subst (λ (x : ℕ). l ∈ literalsOf (take (to - from) (drop x book))) ef k)
 
-pub masks-start : (book rows atoms : List ℕ) → RuleMasks book rows atoms (replicate {A = ℕ} 3072 0) 0
-masks-start book rows atoms = record { size = length-replicate {A = ℕ} 3072 0; each = λ j h. absurd (omega arith) }
+pub masks-start : (book rows atoms masks : List ℕ) → length masks ≡ 3072 → MasksMade book rows atoms masks 0 0
+masks-start book rows atoms masks e = record { size = e; room = omega arith; each = λ j i h. absurd (omega arith) }
 
 -- three masks more
 module _ (masks : List ℕ) (j a b c : ℕ) (h : 3 * j + 3 ≤ length masks) where
@@ -152,22 +152,61 @@ module _ (masks : List ℕ) (j a b c : ℕ) (h : 3 * j + 3 ≤ length masks) whe
       ∙ getD-set-other (set masks (3 * j) a) (3 * j + 1) (3 * j) b 0 (λ q. absurd (omega arith))
       ∙ getD-set-same masks (3 * j) a 0 (omega arith)
 
-module _ (book rows atoms masks : List ℕ) (j a b c : ℕ) (w : RuleMasks book rows atoms masks j) (h : 3 * j + 3 ≤ length masks) (r : RuleMask atoms (rowAt book rows j) a b c) where
-  pub masks-more : RuleMasks book rows atoms (threeMore masks j a b c h) (j + 1)
-  masks-more = record { size = three-size masks j a b c h ∙ w .size; each = λ k l. go k (decLt k j) l }
+module _ (book rows atoms masks : List ℕ) (j k : ℕ) (w : MasksMade book rows atoms masks j k) where
+  -- a row of another head
+  pub masks-skip : ((i : ℕ) → i < length atoms → rowAt book rows j .head ≡ positive (getD atoms i 0) → ⊥) → MasksMade book rows atoms masks (j + 1) k
+  masks-skip none = record { size = w .size; room = omega (arith, w .room); each = λ x i h b e. go x i h b e (decLt x j) }
     where
-      old : (k : ℕ) → k < j → (t : ℕ) → t < 3 → getD (threeMore masks j a b c h) (3 * k + t) 0 ≡ getD masks (3 * k + t) 0
-      old k l t s = other masks j a b c h (3 * k + t) (λ q. absurd (omega arith)) (λ q. absurd (omega arith)) (λ q. absurd (omega arith))
+      go : (x i : ℕ) → x < j + 1 → i < length atoms → rowAt book rows x .head ≡ positive (getD atoms i 0) → Dec (x < j) → MaskOf book rows atoms masks k x
+      go x i h b e (yes l) = w .each x i l b e
+      go x i h b e (no n) = let q : x ≡ j = omega arith in absurd (none i b (subst (λ (y : ℕ). rowAt book rows y .head ≡ positive (getD atoms i 0)) q e))
 
-      zeroth : (k : ℕ) → k < j → getD (threeMore masks j a b c h) (3 * k) 0 ≡ getD masks (3 * k) 0
-      zeroth k l = other masks j a b c h (3 * k) (λ q. absurd (omega arith)) (λ q. absurd (omega arith)) (λ q. absurd (omega arith))
+  module _ (a b c : ℕ) (h : 3 * k + 3 ≤ length masks) (r : RuleMask atoms (rowAt book rows j) a b c) where
+    pub masks-more : MasksMade book rows atoms (threeMore masks k a b c h) (j + 1) (k + 1)
+    masks-more = record { size = three-size masks k a b c h ∙ w .size; room = omega (arith, w .room); each = λ x i l d e. go x i l d e (decLt x j) }
+      where
+        old : (p : ℕ) → p < k → (t : ℕ) → t < 3 → getD (threeMore masks k a b c h) (3 * p + t) 0 ≡ getD masks (3 * p + t) 0
+        old p l t s = other masks k a b c h (3 * p + t) (λ q. absurd (omega arith)) (λ q. absurd (omega arith)) (λ q. absurd (omega arith))
 
-      go : (k : ℕ) → Dec (k < j) → k < j + 1 → RuleMask atoms (rowAt book rows k) (plainMask (threeMore masks j a b c h) k) (negatedMask (threeMore masks j a b c h) k) (headMask (threeMore masks j a b c h) k)
-      go k (yes l) m = rw (zeroth k l, old k l 1 (omega arith), old k l 2 (omega arith)) (w .each k l)
-      go k (no n) m =
-          let q : j ≡ k = omega arith in
-          subst (λ (x : ℕ). RuleMask atoms (rowAt book rows x) (plainMask (threeMore masks j a b c h) x) (negatedMask (threeMore masks j a b c h) x) (headMask (threeMore masks j a b c h) x)) q
-          (rw (first masks j a b c h, second masks j a b c h, third masks j a b c h) r)
+        zeroth : (p : ℕ) → p < k → getD (threeMore masks k a b c h) (3 * p) 0 ≡ getD masks (3 * p) 0
+        zeroth p l = other masks k a b c h (3 * p) (λ q. absurd (omega arith)) (λ q. absurd (omega arith)) (λ q. absurd (omega arith))
+
+        kept : (x : ℕ) → MaskOf book rows atoms masks k x → MaskOf book rows atoms (threeMore masks k a b c h) (k + 1) x
+        kept x m = record {
+          place = m .place;
+          before = omega (arith, m .before);
+          mask = rw (zeroth (m .place) (m .before), old (m .place) (m .before) 1 (omega arith), old (m .place) (m .before) 2 (omega arith)) (m .mask);
+        }
+
+        new : MaskOf book rows atoms (threeMore masks k a b c h) (k + 1) j
+        new = record { place = k; before = omega arith; mask = rw (first masks k a b c h, second masks k a b c h, third masks k a b c h) r }
+
+        go : (x i : ℕ) → x < j + 1 → i < length atoms → rowAt book rows x .head ≡ positive (getD atoms i 0) → Dec (x < j) → MaskOf book rows atoms (threeMore masks k a b c h) (k + 1) x
+        go x i l d e (yes p) = kept x (w .each x i p d e)
+        go x i l d e (no n) = let q : x ≡ j = omega arith in subst (MaskOf book rows atoms (threeMore masks k a b c h) (k + 1)) (sym q) new
+
+-- a row whose head's bits are none has no branching atom as its plain head
+pub no-head : (book rows atoms bits : List ℕ) (j h : ℕ) → AtomBits atoms bits (length atoms) → h ≡ headName rows j → (x : ℕ) → x ≡ getD bits h 0 → x ≡ 0
+    → (i : ℕ) → i < length atoms → rowAt book rows j .head ≡ positive (getD atoms i 0) → ⊥
+unfolding rowAt
+no-head book rows atoms bits j h w eh x ex z i b e =
+    no-bit i (subst (λ (y : ℕ). bitOf y i ≡ 1) (sym ex ∙ z) (subst (λ (f : ℕ). bitOf (getD bits f 0) i ≡ 1) (sym (eh ∙ name-plain (headName rows j) (getD atoms i 0) e)) (w .full i b)))
+
+-- the entries, lent
+pub masks-lent : (book rows atoms masks : List ℕ) (k : ℕ) → rowCount rows ≤ 1024 → MasksMade book rows atoms masks (rowCount rows) k → RuleMasks book rows atoms (take (3 * k - 0) masks)
+masks-lent book rows atoms masks k few w = record {
+  each = λ j i h b e.
+      let m : MaskOf book rows atoms masks k j = w .each j i h b e in
+      record {
+        place = m .place;
+        before = let l : length (take (3 * k - 0) masks) ≡ 3 * k - 0 = length-take-le (3 * k - 0) masks (omega (arith, w .size, w .room)) in omega (arith, m .before);
+        mask = rw (
+          getD-take (3 * k - 0) masks (3 * m .place) 0 (omega (arith, m .before)),
+          getD-take (3 * k - 0) masks (3 * m .place + 1) 0 (omega (arith, m .before)),
+          getD-take (3 * k - 0) masks (3 * m .place + 2) 0 (omega (arith, m .before)),
+        ) (m .mask);
+      };
+}
 
 -- ---- the test
 -- 1 where there is no denial, else 0

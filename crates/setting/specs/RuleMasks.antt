@@ -3,14 +3,14 @@
 use mathlib.Core.Path.{_≡_}
 use mathlib.Core.Bool.{Bool}
 use mathlib.Core.List.{List, List·Memᴰ}
-use Prim.Native.Nat.{ℕ, _+_, _*_, _<_}
+use Prim.Native.Nat.{ℕ, _+_, _*_, _/_, _<_, _≤_}
 use lib.Bits.{bitAnd, bitOr}
 use lib.ListN.{length, getD}
 use Rattle.base.specs.Bounds.{maxAtoms, maxRules}
 use Rattle.layers.specs.Masks.{bitOf}
 use Rattle.format.specs.Book.{Literal, Rule, literalsOf}
 use Rattle.models.specs.StableModels.{positive, negative}
-use Rattle.table.specs.Rows.{rowAt}
+use Rattle.table.specs.Rows.{rowCount, rowAt}
 
 -- bit i at the i-th of the first n atoms
 pub record AtomBits (atoms bits : List ℕ) (n : ℕ) : Type 0 where
@@ -28,25 +28,36 @@ pub record RuleMask (atoms : List ℕ) (r : Rule) (plain negated head : ℕ) : T
   pub negated-in : (i : ℕ) → bitOf negated i ≡ 1 → List·Memᴰ (negative (getD atoms i 0)) (r .body)
   pub head-in : (i : ℕ) → i < length atoms → r .head ≡ positive (getD atoms i 0) → bitOf head i ≡ 1
 
--- three masks a row
+-- three masks an entry
 abbrev pub plainMask : List ℕ → ℕ → ℕ
-plainMask masks j = getD masks (3 * j) 0
+plainMask masks k = getD masks (3 * k) 0
 
 abbrev pub negatedMask : List ℕ → ℕ → ℕ
-negatedMask masks j = getD masks (3 * j + 1) 0
+negatedMask masks k = getD masks (3 * k + 1) 0
 
 abbrev pub headMask : List ℕ → ℕ → ℕ
-headMask masks j = getD masks (3 * j + 2) 0
+headMask masks k = getD masks (3 * k + 2) 0
 
--- the masks of the first n rows
-pub record RuleMasks (book rows atoms masks : List ℕ) (n : ℕ) : Type 0 where
+-- one of the first n entries has the masks of row j
+pub record MaskOf (book rows atoms masks : List ℕ) (n j : ℕ) : Type 0 where
+  pub place : ℕ
+  pub before : place < n
+  pub mask : RuleMask atoms (rowAt book rows j) (plainMask masks place) (negatedMask masks place) (headMask masks place)
+
+-- of the first n rows, each with one of the atoms as its plain head has its masks among the first `count` entries
+pub record MasksMade (book rows atoms masks : List ℕ) (n count : ℕ) : Type 0 where
   pub size : length masks ≡ 3 * maxRules
-  pub each : (j : ℕ) → j < n → RuleMask atoms (rowAt book rows j) (plainMask masks j) (negatedMask masks j) (headMask masks j)
+  pub room : count ≤ n
+  pub each : (j i : ℕ) → j < n → i < length atoms → rowAt book rows j .head ≡ positive (getD atoms i 0) → MaskOf book rows atoms masks count j
+
+-- the same of all rows, in the code's words: the entries that are lent
+pub record RuleMasks (book rows atoms masks : List ℕ) : Type 0 where
+  pub each : (j i : ℕ) → j < rowCount rows → i < length atoms → rowAt book rows j .head ≡ positive (getD atoms i 0) → MaskOf book rows atoms masks (length masks / 3) j
 
 -- of the atoms decided so far, those that stand and those that do not deny no literal of the rule's body
 abbrev pub Open : List ℕ → ℕ → ℕ → ℕ → Type 0
 Open masks standing denied j = bitOr (bitAnd (plainMask masks j) denied) (bitAnd (negatedMask masks j) standing) ≡ 0
 
--- each atom that stands is the head of such a rule, one of the first n
+-- each atom that stands is the head of such a rule, one of the first n entries
 abbrev pub Headed : List ℕ → ℕ → ℕ → ℕ → Type 0
 Headed masks n standing denied = (i : ℕ) → bitOf standing i ≡ 1 → (j : ℕ) × (j < n) × Open masks standing denied j × (bitOf (headMask masks j) i ≡ 1)

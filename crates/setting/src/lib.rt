@@ -2,12 +2,12 @@
 // rule of whose body no literal is denied. It reads masks over the branching facts, three a rule, made once a call.
 ghost use mathlib.Core.Path.{_≡_};
 ghost use mathlib.Core.Bool.{true};
-ghost use Prim.Native.Nat.{_*_, _<_, _≤_};
+ghost use Prim.Native.Nat.{_*_, _/_, _<_, _≤_};
 ghost use lib.ListN.{length, getD};
 ghost use Rattle.base.specs.Bounds.{maxBranching, maxRules};
 ghost use Rattle.table.specs.Rows.{rowCount, RowsFit};
 ghost use Rattle.setting.specs.Setting.{settingOf};
-ghost use Rattle.setting.specs.RuleMasks.{AtomBits, BodyMask, RuleMasks, Headed};
+ghost use Rattle.setting.specs.RuleMasks.{AtomBits, BodyMask, MasksMade, Headed};
 use base::wide;
 use base::wide16;
 use table::row_head;
@@ -54,24 +54,30 @@ fn body_mask(bits: &[u32], body: &[u8], sign: bool) -> u32
     mask
 }
 
-// The masks of all rows.
-pub fn rule_masks(book: &[u8], rows: &[u16], atoms: &[u8]) -> [u32; 3072]
-    requires { ⌜ RowsFit (now book) (now rows) × (rowCount (now rows) ≤ maxRules) × (length (now atoms) ≤ maxBranching) ⌝ }
-    ensures { λ r. ⌜ RuleMasks (now (book .entry)) (now (rows .entry)) (now (atoms .entry)) r (rowCount (now (rows .entry))) ⌝ }
+// Writes the masks of the rows that have a branching atom as their plain head, and says how many there are: the others are never
+// asked for.
+pub fn rule_masks(book: &[u8], rows: &[u16], atoms: &[u8], masks: &mut [u32]) -> usize
+    requires { ⌜ RowsFit (now book) (now rows) × (rowCount (now rows) ≤ maxRules) × (length (now atoms) ≤ maxBranching) × (length (now masks) ≡ 3 * maxRules) ⌝ }
+    ensures { λ r. ⌜ MasksMade (now (book .entry)) (now (rows .entry)) (now (atoms .entry)) (now (masks .exit)) (rowCount (now (rows .entry))) r ⌝ }
 {
     let bits = atom_bits(atoms);
     let count = rows.len() / 4;
-    let mut masks: [u32; 3072] = [0; 3072];
+    let mut made = 0;
     let mut j = 0;
     while j < count {
-        let from = wide16(rows[4 * j]);
-        let to = from + wide16(rows[4 * j + 1]);
-        masks[3 * j] = body_mask(&bits, &book[from..to], false);
-        masks[3 * j + 1] = body_mask(&bits, &book[from..to], true);
-        masks[3 * j + 2] = bits_of(&bits, row_head(rows, j));
+        let head = bits_of(&bits, row_head(rows, j));
+        if head != 0 {
+            let from = wide16(rows[4 * j]);
+            let to = from + wide16(rows[4 * j + 1]);
+            let at = 3 * made;
+            masks[at] = body_mask(&bits, &book[from..to], false);
+            masks[at + 1] = body_mask(&bits, &book[from..to], true);
+            masks[at + 2] = head;
+            made += 1;
+        }
         j += 1;
     }
-    masks
+    made
 }
 
 // The setting that a mask stands for.
@@ -100,10 +106,10 @@ fn head_unless(denials: u32, head: u32) -> u64
 }
 
 // Whether each atom that stands is the head of a rule of whose body no literal is denied.
-pub fn headed(masks: &[u32], count: usize, standing: u32, denied: u32) -> bool
-    requires { ⌜ 3 * count ≤ length (now masks) ⌝ }
-    ensures { λ r. ⌜ (Headed (now (masks .entry)) count standing denied → r ≡ true) ⌝ }
+pub fn headed(masks: &[u32], standing: u32, denied: u32) -> bool
+    ensures { λ r. ⌜ (Headed (now (masks .entry)) (length (now (masks .entry)) / 3) standing denied → r ≡ true) ⌝ }
 {
+    let count = masks.len() / 3;
     let mut heads: u64 = 0;
     let mut j = 0;
     while j < count {

@@ -63,7 +63,7 @@ search-headed-requires : (t : ℕ) → search-lts.Need-headed-requires (
   search-below t,
   search′.Post,
 ) (search-at t) search′.Post
-search-headed-requires t c κs = let s = c .before .before .before .before .before .before .before .before .before in let a = s .args in let q = s .pre .1 in omega (arith, q .0 .rows-few, q .3 .size)
+search-headed-requires t c κs = search needs
 
 search-returns-2 : (t : ℕ) → search-lts.Need-returns-2 (
   stops-reads.Asked,

@@ -1,6 +1,8 @@
--- `headed` meets its contract: the heads of the open rows passed are collected; if they have every bit of `standing`, it says so.
+-- `headed` meets its contract: the heads of the open entries passed are collected; if they have every bit of `standing`, it says so.
 -- Assumes nothing.
-use Prim.Native.Nat.{_-_, _≤_}
+use mathlib.Core.Path.{_≡_, refl}
+use Prim.Native.Nat.{_-_, _/_, _≤_}
+use lib.ListN.{length}
 use borrow.Author.Tests.{eq-eqb}
 use Rattle.setting.proofs.RuleMaskLaws.{HeadsTo, heads-start, heads-more, heads-end}
 use borrow.Author.Needs.{needs}
@@ -9,13 +11,13 @@ use Rattle.setting.proofs.headed.Statement.{statement}
 use Rattle.setting.proofs.headed.Tie as tie
 
 abbrev Inv-loop : tie.InvT-loop
-Inv-loop masks count standing denied heads₀ j₀ heads j = (j ≤ count) × HeadsTo masks standing denied j heads
+Inv-loop masks standing denied count heads₀ j₀ heads j = (count ≡ length masks / 3) × (j ≤ count) × HeadsTo masks standing denied j heads
 
 abbrev μ-loop : tie.MeasureT-loop
-μ-loop masks count standing denied heads₀ j₀ heads j = count - j
+μ-loop masks standing denied count heads₀ j₀ heads j = count - j
 
 loop-holds : tie.Need-loop-holds Inv-loop μ-loop
-loop-holds c = let a = c .before .args in (omega arith, heads-start (a .masks .now) (a .standing) (a .denied))
+loop-holds c = let a = c .before .args in (refl, omega arith, heads-start (a .masks .now) (a .standing) (a .denied))
 
 mul-denials : tie.Need-mul-denials Inv-loop μ-loop
 mul-denials c = search needs
@@ -63,10 +65,10 @@ loop-again : tie.Need-loop-again Inv-loop μ-loop
 loop-again c =
     let a = c .before .before .before .before .before .before .before .args in
     let l = c .before .before .before .before .before .loop in
-    (omega arith, heads-more (a .masks .now) (a .standing) (a .denied) (l .j) (l .heads) (l .inv .1) (c .head-unless .result) (c .head-unless .ensures))
+    (l .inv .0, omega arith, heads-more (a .masks .now) (a .standing) (a .denied) (l .j) (l .heads) (l .inv .2) (c .head-unless .result) (c .head-unless .ensures))
 
 returns : tie.Need-returns Inv-loop μ-loop
-returns c = λ h. eq-eqb _ _ (heads-end (c .before .before .before .args .masks .now) (c .before .before .before .args .standing) (c .before .before .before .args .denied) (c .before .loop .j) (c .before .loop .heads) (c .before .loop .inv .1) (c .before .before .before .args .count) (c .loop-test .left) h)
+returns c = let a = c .before .before .before .args in λ h. eq-eqb _ _ (heads-end (a .masks .now) (a .standing) (a .denied) (c .before .loop .j) (c .before .loop .heads) (c .before .loop .inv .2) (length (a .masks .now) / 3) (omega (arith, c .before .loop .inv .0, c .loop-test .left)) h)
 
 pub headed-spec : {M : Type 1} → statement M
 headed-spec =

@@ -1,25 +1,36 @@
--- `rule_masks` meets its contract: the rows passed have their masks. The rows left fall. Assumes nothing.
+-- `rule_masks` meets its contract: the rows passed that have a branching atom as their plain head have their masks. The rows left
+-- fall. Assumes nothing.
 use mathlib.Core.Path.{_≡_, refl, sym, ap, subst}
+use mathlib.Core.Logic.{⊎-elim}
 use Prim.Native.Nat.{ℕ, _+_, _-_, _/_, _≤_}
-use lib.ListN.{length}
-use Rattle.setting.specs.RuleMasks.{AtomBits, RuleMask, RuleMasks}
-use Rattle.setting.proofs.RuleMaskLaws.{masks-start, masks-more, rule-mask}
+use lib.ListN.{length, length-set}
+use Rattle.setting.specs.RuleMasks.{AtomBits, RuleMask, MasksMade}
+use Rattle.setting.proofs.RuleMaskLaws.{masks-start, masks-more, masks-skip, rule-mask, no-head}
 use borrow.Author.Needs.{needs}
 use native.Mathlib.Omega.{arith}
 use Rattle.setting.proofs.rule_masks.Statement.{statement}
 use Rattle.setting.proofs.rule_masks.Tie as tie
 
 abbrev Inv-loop : tie.InvT-loop
-Inv-loop book rows atoms bits count masks₀ j₀ masks j = (count ≡ length rows / 4) × (count ≤ 1024) × (j ≤ count) × AtomBits atoms bits (length atoms) × RuleMasks book rows atoms masks j
+Inv-loop book rows atoms masks₀ bits count made₀ j₀ masks made j = (count ≡ length rows / 4) × (count ≤ 1024) × (j ≤ count) × AtomBits atoms bits (length atoms) × MasksMade book rows atoms masks j made
 
 abbrev μ-loop : tie.MeasureT-loop
-μ-loop book rows atoms bits count masks₀ j₀ masks j = count - j
+μ-loop book rows atoms masks₀ bits count made₀ j₀ masks made j = count - j
 
 atom-bits-requires : tie.Need-atom-bits-requires Inv-loop μ-loop
-atom-bits-requires c κs = c .before .before .before .pre .2
+atom-bits-requires c κs = c .before .before .before .before .pre .2
 
 loop-holds : tie.Need-loop-holds Inv-loop μ-loop
-loop-holds c = let a = c .before .before .before .before .args in (refl, c .before .before .before .before .pre .1, omega arith, c .atom-bits .ensures, masks-start (a .book .now) (a .rows .now) (a .atoms .now))
+loop-holds c = let a = c .before .before .before .before .before .args in (refl, c .before .before .before .before .before .pre .1, omega arith, c .atom-bits .ensures, masks-start (a .book .now) (a .rows .now) (a .atoms .now) (a .masks .now) (c .before .before .before .before .before .pre .3))
+
+slice-aggregate-bits-of : tie.Need-slice-aggregate-bits-of Inv-loop μ-loop
+slice-aggregate-bits-of c = search needs
+
+row-head-requires : tie.Need-row-head-requires Inv-loop μ-loop
+row-head-requires c κs = search needs
+
+bits-of-requires : tie.Need-bits-of-requires Inv-loop μ-loop
+bits-of-requires c κs = search needs
 
 mul-wide16 : tie.Need-mul-wide16 Inv-loop μ-loop
 mul-wide16 c = search needs
@@ -51,6 +62,9 @@ wide16-requires-2 c κs = search needs
 add-to : tie.Need-add-to Inv-loop μ-loop
 add-to c = search needs
 
+mul-at : tie.Need-mul-at Inv-loop μ-loop
+mul-at c = search needs
+
 slice-aggregate-body-mask : tie.Need-slice-aggregate-body-mask Inv-loop μ-loop
 slice-aggregate-body-mask c = search needs
 
@@ -61,7 +75,7 @@ part-body-mask-start : tie.Need-part-body-mask-start Inv-loop μ-loop
 part-body-mask-start c = search needs
 
 part-body-mask-end : tie.Need-part-body-mask-end Inv-loop μ-loop
-part-body-mask-end c = omega (arith, c .before .wide162 .ensures .0, c .before .before .before .wide16 .ensures .0, c .before .before .before .before .before .before .before .before .before .before .before .pre .0 .part (c .before .before .before .before .before .before .loop .j) (omega (arith, c .before .before .before .before .before .loop-test .taken, c .before .before .before .before .before .before .loop .inv .0)))
+part-body-mask-end c = omega (arith, c .before .wide162 .ensures .0, c .before .before .before .wide16 .ensures .0, c .before .before .before .before .before .before .before .before .before .before .before .before .before .before .before .before .pre .0 .part (c .before .before .before .before .before .before .before .before .before .before .loop .j) (omega (arith, c .before .before .before .before .before .before .before .before .before .loop-test .taken, c .before .before .before .before .before .before .before .before .before .before .loop .inv .0)))
 
 body-mask-requires : tie.Need-body-mask-requires Inv-loop μ-loop
 body-mask-requires c κs = search needs
@@ -69,11 +83,8 @@ body-mask-requires c κs = search needs
 mul-masks : tie.Need-mul-masks Inv-loop μ-loop
 mul-masks c = search needs
 
-mul-masks-2 : tie.Need-mul-masks-2 Inv-loop μ-loop
-mul-masks-2 c = search needs
-
-array-write-masks : tie.Need-array-write-masks Inv-loop μ-loop
-array-write-masks c = search needs
+slice-write-masks : tie.Need-slice-write-masks Inv-loop μ-loop
+slice-write-masks c = search needs
 
 slice-aggregate-body-mask-2 : tie.Need-slice-aggregate-body-mask-2 Inv-loop μ-loop
 slice-aggregate-body-mask-2 c = search needs
@@ -85,43 +96,31 @@ part-body-mask-start-2 : tie.Need-part-body-mask-start-2 Inv-loop μ-loop
 part-body-mask-start-2 c = search needs
 
 part-body-mask-end-2 : tie.Need-part-body-mask-end-2 Inv-loop μ-loop
-part-body-mask-end-2 c = omega (arith, c .before .before .before .before .wide162 .ensures .0, c .before .before .before .before .before .before .wide16 .ensures .0, c .before .before .before .before .before .before .before .before .before .before .before .before .before .before .pre .0 .part (c .before .before .before .before .before .before .before .before .before .loop .j) (omega (arith, c .before .before .before .before .before .before .before .before .loop-test .taken, c .before .before .before .before .before .before .before .before .before .loop .inv .0)))
+part-body-mask-end-2 c = omega (arith, c .before .before .before .before .wide162 .ensures .0, c .before .before .before .before .before .before .wide16 .ensures .0, c .before .before .before .before .before .before .before .before .before .before .before .before .before .before .before .before .before .before .before .pre .0 .part (c .before .before .before .before .before .before .before .before .before .before .before .before .before .loop .j) (omega (arith, c .before .before .before .before .before .before .before .before .before .before .before .before .loop-test .taken, c .before .before .before .before .before .before .before .before .before .before .before .before .before .loop .inv .0)))
 
 body-mask-requires-2 : tie.Need-body-mask-requires-2 Inv-loop μ-loop
 body-mask-requires-2 c κs = search needs
 
-mul-masks-3 : tie.Need-mul-masks-3 Inv-loop μ-loop
-mul-masks-3 c = search needs
-
 add-masks : tie.Need-add-masks Inv-loop μ-loop
 add-masks c = search needs
 
-mul-masks-4 : tie.Need-mul-masks-4 Inv-loop μ-loop
-mul-masks-4 c = search needs
+mul-masks-2 : tie.Need-mul-masks-2 Inv-loop μ-loop
+mul-masks-2 c = search needs
 
-array-write-masks-2 : tie.Need-array-write-masks-2 Inv-loop μ-loop
-array-write-masks-2 c = search needs
-
-slice-aggregate-bits-of : tie.Need-slice-aggregate-bits-of Inv-loop μ-loop
-slice-aggregate-bits-of c = search needs
-
-row-head-requires : tie.Need-row-head-requires Inv-loop μ-loop
-row-head-requires c κs = search needs
-
-bits-of-requires : tie.Need-bits-of-requires Inv-loop μ-loop
-bits-of-requires c κs = search needs
-
-mul-masks-5 : tie.Need-mul-masks-5 Inv-loop μ-loop
-mul-masks-5 c = search needs
+slice-write-masks-2 : tie.Need-slice-write-masks-2 Inv-loop μ-loop
+slice-write-masks-2 c = let l = c .before .before .before .before .before .before .before .before .before .before .before .before .before .before .before .loop in simp length-set (omega (arith, l .inv .1, l .inv .4 .size, l .inv .4 .room, c .before .before .before .before .before .before .before .before .before .before .before .before .before .before .loop-test .taken))
 
 add-masks-2 : tie.Need-add-masks-2 Inv-loop μ-loop
 add-masks-2 c = search needs
 
-mul-masks-6 : tie.Need-mul-masks-6 Inv-loop μ-loop
-mul-masks-6 c = search needs
+mul-masks-3 : tie.Need-mul-masks-3 Inv-loop μ-loop
+mul-masks-3 c = search needs
 
-array-write-masks-3 : tie.Need-array-write-masks-3 Inv-loop μ-loop
-array-write-masks-3 c = search needs
+slice-write-masks-3 : tie.Need-slice-write-masks-3 Inv-loop μ-loop
+slice-write-masks-3 c = let l = c .before .before .before .before .before .before .before .before .before .before .before .before .before .before .before .loop in simp length-set (omega (arith, l .inv .1, l .inv .4 .size, l .inv .4 .room, c .before .before .before .before .before .before .before .before .before .before .before .before .before .before .loop-test .taken))
+
+add-made : tie.Need-add-made Inv-loop μ-loop
+add-made c = search needs
 
 add-j : tie.Need-add-j Inv-loop μ-loop
 add-j c = search needs
@@ -131,24 +130,34 @@ loop-less c = search needs
 
 loop-again : tie.Need-loop-again Inv-loop μ-loop
 loop-again c =
-    let a = c .before .before .before .before .before .before .before .before .before .before .before .before .before .before .before .before .before .before .before .args in
-    let l = c .before .before .before .before .before .before .before .before .before .before .before .before .before .before .loop in
-    let from = c .before .before .before .before .before .before .before .before .before .before .before .wide16 in
-    let to = c .before .before .before .before .before .before .before .before .before .wide162 in (
+    let a = c .before .before .before .before .before .before .before .before .before .before .before .args in
+    let l = c .before .before .before .before .before .loop in
+    let h = c .before .before .row-head in
+    let x = c .before .bits-of in
+    let t = c .before .before .before .before .loop-test .taken in (
       l .inv .0,
       l .inv .1,
       omega arith,
       l .inv .3,
-      masks-more (a .book .now) (a .rows .now) (a .atoms .now) (l .masks) (l .j) (c .before .before .before .before .before .before .body-mask .result) (c .before .before .before .body-mask2 .result) (c .bits-of .result) (l .inv .4) (omega (arith, l .inv .1, l .inv .4 .size, c .before .before .before .before .before .before .before .before .before .before .before .before .before .loop-test .taken))
-          (subst (RuleMask _ _ _ _) (sym (c .bits-of .ensures))
-          (rule-mask (a .book .now) (a .rows .now) (a .atoms .now) (c .before .before .before .before .before .before .before .before .before .before .before .before .before .before .before .atom-bits .result) (l .j) (l .inv .3) (from .result) _ (from .ensures .0) (ap (λ (x : ℕ). from .result + x) (to .ensures .0)) _ _ (c .before .row-head .result) (c .before .before .before .before .before .before .body-mask .ensures) (c .before .before .before .body-mask2 .ensures) (c .before .row-head .ensures .0))),
+      ⊎-elim
+          (λ w. rw (w .11, w .12)
+          (masks-more (a .book .now) (a .rows .now) (a .atoms .now) (l .masks) (l .j) (l .made) (l .inv .4) (w .7 .result) (w .10 .result) (x .result) (omega (arith, l .inv .1, l .inv .4 .size, l .inv .4 .room, t))
+          (subst (RuleMask _ _ _ _) (sym (x .ensures))
+          (rule-mask (a .book .now) (a .rows .now) (a .atoms .now) (c .before .before .before .before .before .before .atom-bits .result) (l .j) (l .inv .3) (w .2 .result) _ (w .2 .ensures .0) (ap (λ (y : ℕ). w .2 .result + y) (w .4 .ensures .0)) _ _ (h .result) (w .7 .ensures) (w .10 .ensures) (h .ensures .0)))))
+          (λ w. rw (w .1, w .2)
+          (masks-skip (a .book .now) (a .rows .now) (a .atoms .now) (l .masks) (l .j) (l .made) (l .inv .4)
+          (no-head (a .book .now) (a .rows .now) (a .atoms .now) (c .before .before .before .before .before .before .atom-bits .result) (l .j) (h .result) (l .inv .3) (h .ensures .0) (x .result) (x .ensures) (w .0 .left))))
+          (c .if1 .came),
     )
+
+same-length : tie.Need-same-length Inv-loop μ-loop
+same-length c = search needs
 
 returns : tie.Need-returns Inv-loop μ-loop
 returns c =
     let l = c .before .loop in
-    let a = c .before .before .before .before .before .before .args in
-    subst (RuleMasks (a .book .now) (a .rows .now) (a .atoms .now) (l .masks)) {x = l .j} {y = length (a .rows .now) / 4} (omega (arith, l .inv .0, l .inv .2, c .loop-test .left)) (l .inv .4)
+    let a = c .before .before .before .before .before .before .before .args in
+    subst (λ (n : ℕ). MasksMade (a .book .now) (a .rows .now) (a .atoms .now) (l .masks) n (l .made)) {x = l .j} {y = length (a .rows .now) / 4} (omega (arith, l .inv .0, l .inv .2, c .loop-test .left)) (l .inv .4)
 
 pub rule-masks-spec : {M : Type 1} → statement M
 rule-masks-spec =
@@ -158,6 +167,9 @@ rule-masks-spec =
     μ-loop
     atom-bits-requires
     loop-holds
+    slice-aggregate-bits-of
+    row-head-requires
+    bits-of-requires
     mul-wide16
     mul-wide16-2
     shared-slice-read-wide16
@@ -168,31 +180,28 @@ rule-masks-spec =
     shared-slice-read-wide16-2
     wide16-requires-2
     add-to
+    mul-at
     slice-aggregate-body-mask
     sub-body-mask
     part-body-mask-start
     part-body-mask-end
     body-mask-requires
     mul-masks
-    mul-masks-2
-    array-write-masks
+    slice-write-masks
     slice-aggregate-body-mask-2
     sub-body-mask-2
     part-body-mask-start-2
     part-body-mask-end-2
     body-mask-requires-2
-    mul-masks-3
     add-masks
-    mul-masks-4
-    array-write-masks-2
-    slice-aggregate-bits-of
-    row-head-requires
-    bits-of-requires
-    mul-masks-5
+    mul-masks-2
+    slice-write-masks-2
     add-masks-2
-    mul-masks-6
-    array-write-masks-3
+    mul-masks-3
+    slice-write-masks-3
+    add-made
     add-j
     loop-less
     loop-again
+    same-length
     returns)
