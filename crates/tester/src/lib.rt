@@ -31,15 +31,17 @@ fn name_marked(positive: &[bool], negative: &[bool], h: usize) -> bool
     atom_holds(negative, h - 256)
 }
 
-// The mark of the literal of two bytes.
+// The mark of the literal of two bytes. Both arrays are read, so that the sign is no branch: bodies mix signs as they like.
 fn literal_marked(positive: &[bool], negative: &[bool], a: u8, b: u8) -> bool
     ensures { λ r. ⌜ r ≡ literalMarked (now (positive .entry)) (now (negative .entry)) (literalOf a b) ⌝ }
 {
     let v = wide(a) * 256 + wide(b);
+    let fact = atom_holds(positive, v % 32768);
+    let negation = atom_holds(negative, v % 32768);
     if 32768 <= v {
-        return atom_holds(negative, v % 32768);
+        return negation;
     }
-    atom_holds(positive, v % 32768)
+    fact
 }
 
 // Whether every literal of a body's bytes is marked.

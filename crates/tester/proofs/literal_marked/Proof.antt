@@ -20,18 +20,18 @@ add-v c = search needs
 atom-holds-requires : tie.Need-atom-holds-requires
 atom-holds-requires c κs = search needs
 
-returns : tie.Need-returns
-returns c =
-    let e = c .before .before .before .before .before .before .args in
-    rw (c .before .before .before .wide .ensures .0, c .before .before .wide2 .ensures .0) at (c .atom-holds .ensures) ∙ negated-marked (e .positive .now) (e .negative .now) (e .a) (e .b) (search needs)
-
 atom-holds-requires-2 : tie.Need-atom-holds-requires-2
 atom-holds-requires-2 c κs = search needs
 
+returns : tie.Need-returns
+returns c =
+    let e = c .before .before .before .before .before .before .before .args in
+    rw (c .before .before .before .before .wide .ensures .0, c .before .before .before .wide2 .ensures .0) at (c .before .atom-holds2 .ensures) ∙ negated-marked (e .positive .now) (e .negative .now) (e .a) (e .b) (search needs)
+
 returns-2 : tie.Need-returns-2
 returns-2 c =
-    let e = c .before .before .before .before .before .before .args in
-    rw (c .before .before .before .wide .ensures .0, c .before .before .wide2 .ensures .0) at (c .atom-holds2 .ensures) ∙ plain-marked (e .positive .now) (e .negative .now) (e .a) (e .b) (search needs)
+    let e = c .before .before .before .before .before .before .before .args in
+    rw (c .before .before .before .before .wide .ensures .0, c .before .before .before .wide2 .ensures .0) at (c .before .before .atom-holds .ensures) ∙ plain-marked (e .positive .now) (e .negative .now) (e .a) (e .b) (search needs)
 
 pub literal-marked-spec : {M : Type 1} → statement M
 literal-marked-spec =
@@ -42,6 +42,6 @@ literal-marked-spec =
     wide-requires-2
     add-v
     atom-holds-requires
-    returns
     atom-holds-requires-2
+    returns
     returns-2)
