@@ -45,6 +45,21 @@ module _ {book rows overridden : List ℕ} {m : Interpretation} where
   later : {j h i : ℕ} → Rejection book rows overridden m j h i → Rejection book rows overridden m (j + 1) h i
   later x = record { row = x .row; before = omega (arith, x .before); facing = x .facing; holds-in = x .holds-in; bit = x .bit }
 
+  -- one row on that rejects nothing: its body does not hold, or it overrides no rule
+  pub rejects-skip : {rejects : List ℕ} {j : ℕ} → RejectedMasks book rows overridden m rejects j → (mask : ℕ) → mask ≡ cond (bodyHolds m (rowAt book rows j)) (getD overridden j 0) 0 → mask ≡ 0
+      → RejectedMasks book rows overridden m rejects (j + 1)
+  rejects-skip {rejects} {j} w mask e z = record { size = w .size; sound = λ x i y. later (w .sound x i y); full = λ x i y k. go x i y k (decLt (y .row) j) }
+    where
+      none : (c : Bool) (i : ℕ) → mask ≡ cond c (getD overridden j 0) 0 → T c → bitOf (getD overridden j 0) i ≡ 1 → ⊥
+      none true i q t a = no-bit (getD overridden j 0) i (sym q ∙ z) a
+      none false i q t a = absurd t
+
+      go : (x i : ℕ) (y : Rejection book rows overridden m (j + 1) x i) → x < 512 → Dec (y .row < j) → bitOf (getD rejects x 0) i ≡ 1
+      go x i y k (yes a) = w .full x i (record { row = y .row; before = a; facing = y .facing; holds-in = y .holds-in; bit = y .bit }) k
+      go x i y k (no n) =
+          let q : y .row ≡ j = omega (arith, y .before) in
+          absurd (none (bodyHolds m (rowAt book rows j)) i e (subst (λ (r : ℕ). T (bodyHolds m (rowAt book rows r))) q (y .holds-in)) (subst (λ (r : ℕ). bitOf (getD overridden r 0) i ≡ 1) q (y .bit)))
+
   -- one row on: at the name o opposite to the row's head h, the row's mask joins
   module _ {rejects : List ℕ} {j : ℕ} (w : RejectedMasks book rows overridden m rejects j) (h o mask : ℕ) (eh : h ≡ headName rows j)
       (eo : literalNamed o ≡ complement (literalNamed h)) (b : o < 512) (e : mask ≡ cond (bodyHolds m (rowAt book rows j)) (getD overridden j 0) 0) where

@@ -359,8 +359,11 @@ pub fn rejected_masks(book: &[u8], rows: &[u16], overridden: &[u32], m: &[bool])
     let mut rejects: [u32; 512] = [0; 512];
     let mut j = 0;
     while j < count {
-        let o = opposite(row_head(rows, j));
-        rejects[o] = rejects[o] | row_mask(book, rows, overridden, m, j);
+        let mask = row_mask(book, rows, overridden, m, j);
+        if mask != 0 {
+            let o = opposite(row_head(rows, j));
+            rejects[o] = rejects[o] | mask;
+        }
         j += 1;
     }
     rejects

@@ -1,9 +1,10 @@
 -- The invariant: the masks have exactly what the rows passed reject. The rows left fall.
 use mathlib.Core.Path.{_≡_, refl, subst}
+use mathlib.Core.Logic.{⊎-elim}
 use Prim.Native.Nat.{_-_, _/_, _≤_}
 use lib.ListN.{length}
 use Rattle.tester.specs.Masks.{RejectedMasks}
-use Rattle.tester.proofs.MaskLaws.{rejects-start, rejects-more}
+use Rattle.tester.proofs.MaskLaws.{rejects-start, rejects-skip, rejects-more}
 use borrow.Author.Needs.{needs}
 use native.Mathlib.Omega.{arith}
 use Rattle.tester.proofs.rejected_masks.Statement.{statement}
@@ -18,6 +19,9 @@ abbrev μ-loop : tie.MeasureT-loop
 loop-holds : tie.Need-loop-holds Inv-loop μ-loop
 loop-holds c = (refl, omega arith, rejects-start)
 
+row-mask-requires : tie.Need-row-mask-requires Inv-loop μ-loop
+row-mask-requires c κs = search needs
+
 row-head-requires : tie.Need-row-head-requires Inv-loop μ-loop
 row-head-requires c κs = search needs
 
@@ -29,9 +33,6 @@ mul-rejects c = search needs
 
 array-read-rejects : tie.Need-array-read-rejects Inv-loop μ-loop
 array-read-rejects c = search needs
-
-row-mask-requires : tie.Need-row-mask-requires Inv-loop μ-loop
-row-mask-requires c κs = search needs
 
 mul-rejects-2 : tie.Need-mul-rejects-2 Inv-loop μ-loop
 mul-rejects-2 c = search needs
@@ -47,8 +48,15 @@ loop-less c = search needs
 
 loop-again : tie.Need-loop-again Inv-loop μ-loop
 loop-again c =
-    let l = c .before .before .before .before .loop in
-    (refl, omega arith, rejects-more (l .inv .2) (c .before .before .row-head .result) (c .before .opposite .result) (c .row-mask .result) (c .before .before .row-head .ensures .0) (c .before .opposite .ensures .0) (c .before .opposite .ensures .1) (c .row-mask .ensures))
+    let l = c .before .before .before .loop in
+    let k = c .before .row-mask in (
+      refl,
+      omega arith,
+      ⊎-elim
+          (λ w. rw (w .3) (rejects-more (l .inv .2) (w .1 .result) (w .2 .result) (k .result) (w .1 .ensures .0) (w .2 .ensures .0) (w .2 .ensures .1) (k .ensures)))
+          (λ w. rw (w .1) (rejects-skip (l .inv .2) (k .result) (k .ensures) (w .0 .left)))
+          (c .if1 .came),
+    )
 
 returns : tie.Need-returns Inv-loop μ-loop
 returns c =
@@ -63,11 +71,11 @@ rejected-masks-spec =
     Inv-loop
     μ-loop
     loop-holds
+    row-mask-requires
     row-head-requires
     opposite-requires
     mul-rejects
     array-read-rejects
-    row-mask-requires
     mul-rejects-2
     array-write-rejects
     add-j
