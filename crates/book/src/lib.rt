@@ -1,4 +1,4 @@
-// The check of a book: the first of causes 1 to 8 that applies, or accepted.
+// The check of a book: the first of causes 1 to 8 that applies, or accepted, with each layer's mask of the layers below it.
 ghost use mathlib.Core.Path.{_≡_};
 ghost use mathlib.Core.Bool.{not, true, false};
 ghost use mathlib.Core.List.{map};

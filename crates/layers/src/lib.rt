@@ -1,3 +1,5 @@
+// Relations between 32 layers as masks: one bit more, the closure, and whether a layer is related to itself. The check of a book closes
+// its arrows with them.
 ghost use mathlib.Core.Path.{_≡_};
 ghost use mathlib.Core.Bool.{_||_};
 ghost use Prim.Native.Nat.{ℕ, _<_};
@@ -23,7 +25,7 @@ pub fn with_bit(m: [u32; 32], i: usize, j: usize) -> [u32; 32]
     r
 }
 
-// The closure of the arrows between 32 layers, by Warshall: mask i has bit j where there is a way from i to j.
+// The closure, by Warshall: mask i has bit j where there is a way from i to j.
 pub fn transitive_closure(start: [u32; 32]) -> [u32; 32]
     ensures sound { λ r. ⌜ ((i j : ℕ) → Linked r i j → Way start i j) ⌝ }
     ensures full { λ r. ⌜ ((i j : ℕ) → Way start i j → Linked r i j) ⌝ }
