@@ -1,4 +1,4 @@
--- Rules as masks over the branching atoms, bit i for the i-th of them: what is decided about these alone rules out for a rule.
+-- Rules as masks over the branching atoms, bit i for the i-th of them: what these atoms alone can say against a rule.
 -- Assumes nothing.
 use mathlib.Core.Path.{_≡_}
 use mathlib.Core.Bool.{Bool}
@@ -54,7 +54,7 @@ pub record MasksMade (book rows atoms masks : List ℕ) (n count : ℕ) : Type 0
 pub record RuleMasks (book rows atoms masks : List ℕ) : Type 0 where
   pub each : (j i : ℕ) → j < rowCount rows → i < length atoms → rowAt book rows j .head ≡ positive (getD atoms i 0) → MaskOf book rows atoms masks (length masks / 3) j
 
--- of the atoms decided so far, those that stand and those that do not deny no literal of the rule's body
+-- nothing that is decided denies a literal of the rule's body: no plain atom of it is denied, no negated one stands
 abbrev pub Open : List ℕ → ℕ → ℕ → ℕ → Type 0
 Open masks standing denied j = bitOr (bitAnd (plainMask masks j) denied) (bitAnd (negatedMask masks j) standing) ≡ 0
 
