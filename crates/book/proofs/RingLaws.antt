@@ -12,10 +12,10 @@ use lib.ListN.{length, getD, take, drop}
 use Rattle.base.specs.Lists.{all, any, upTo}
 use Rattle.format.specs.Book.{u32At, records, arrowOf, arrowRecords, ruleRecords, arrowsOf, atomCount, layerCount, sectionCount, ruleSection}
 use Rattle.layers.specs.Layers.{Path, single, longer, below}
-use Rattle.layers.specs.Masks.{bitOf, marked, Linked, Way, edge, join, LowerMasks}
+use Rattle.layers.specs.Masks.{bitOf, marked, Linked, Way, edge, join, EmptyFrom, LowerMasks}
 use Rattle.book.specs.Causes.{within, arrowOk, ruleOk, isOutOfRange, hasBadRecord, repeatsArrow, hasCycle}
 use Rattle.base.proofs.Members.{_∈_, and-left, and-right, and-both, all-at, all-of, any-at, any-of, same-test}
-use Rattle.base.proofs.UpTo.{passed, upTo-has}
+use Rattle.base.proofs.UpTo.{passed}
 use Rattle.layers.proofs.BelowLaws.{below-sound, below-complete}
 use Rattle.format.proofs.SectionLaws.{or-first, or-second, not-out, arrow-part}
 use Rattle.book.proofs.MaskLaws.{linked}
@@ -40,13 +40,16 @@ path-join links k j i (single a m e) q = longer a m (subst (Path links j) (sym e
 path-join links k j i (longer a m p) q = longer a m (path-join links k j (a .later) p q)
 
 -- masks that read the arrows, and their closure
-module _ (links : List Arrow) (start m : List ℕ) (reads : (x y : ℕ) → marked start y x ≡ linked links x y) where
+module _ (links : List Arrow) (start : List ℕ) (reads : (x y : ℕ) → marked start y x ≡ linked links x y) where
   linked-in : (i j : ℕ) → Linked start j i → link i j ∈ links
   unfolding marked
   linked-in i j e =
       let t : T (linked links i j) = true-of (linked links i j) (sym (reads i j) ∙ eq-eqb (bitOf (getD start j 0) i) 1 e) in
       let w : (a : Arrow) × a ∈ links × T (sameArrow a (link i j)) = any-at (λ a. sameArrow a (link i j)) links t in
       Memᴰ·cast (sym (same-is (w .0) (link i j) (w .2))) (w .1)
+
+  pub empty-from : (n : ℕ) → ((a : Arrow) → a ∈ links → a .later < n) → EmptyFrom n start
+  empty-from n low j i e = low (link i j) (linked-in i j e)
 
   in-linked : (a : Arrow) → a ∈ links → Linked start (a .later) (a .earlier)
   unfolding marked
@@ -62,36 +65,29 @@ module _ (links : List Arrow) (start m : List ℕ) (reads : (x y : ℕ) → mark
   path-way low j i (single a k e) = subst (λ (x : ℕ). Way start x (a .earlier)) e (edge (a .later) (a .earlier) (in-linked a k))
   path-way low j i (longer a k p) = join j (a .later) (a .earlier) (low a k) (path-way low j (a .later) p) (edge (a .later) (a .earlier) (in-linked a k))
 
-  pub closed : ((a : Arrow) → a ∈ links → a .later < 32) → ((i j : ℕ) → Linked m i j → Way start i j) → ((i j : ℕ) → Way start i j → Linked m i j) → LowerMasks links m
-  closed low sound full = record {
+  pub closed : (m : List ℕ) → ((a : Arrow) → a ∈ links → a .later < 32) → ((i j : ℕ) → Linked m i j → Way start i j) → ((i j : ℕ) → Way start i j → Linked m i j) → LowerMasks links m
+  closed m low sound full = record {
     sound = λ i j z. below-complete links i j (way-path j i (sound j i z));
     full = λ i j t. full j i (path-way low j i (below-sound links i j t));
   }
 
 -- a layer below itself is a bit on the diagonal
-module _ (links : List Arrow) (n : ℕ) (m : List ℕ) (few : n ≤ 32) (w : LowerMasks links m)
-    (low : (a : Arrow) → a ∈ links → (a .earlier < n) × (a .later < n)) where
-  path-low : (i j : ℕ) → Path links j i → i < n
-  path-low i j (single a k e) = low a k .0
-  path-low i j (longer a k p) = low a k .0
-
-  to-below : T (any (λ i. marked m i i) (upTo 32)) → T (any (λ i. below links i i) (upTo n))
+module _ (links : List Arrow) (n : ℕ) (m : List ℕ) (w : LowerMasks links m) where
+  to-below : T (any (λ i. marked m i i) (upTo n)) → T (any (λ i. below links i i) (upTo n))
   unfolding marked
   to-below t =
-      let f : (i : ℕ) × i ∈ upTo 32 × T (marked m i i) = any-at (λ i. marked m i i) (upTo 32) t in
-      let b : T (below links (f .0) (f .0)) = w .sound (f .0) (f .0) (eqb→eq (bitOf (getD m (f .0) 0) (f .0)) 1 (f .2)) in
-      any-of (λ i. below links i i) (upTo-has n (f .0) (path-low (f .0) (f .0) (below-sound links (f .0) (f .0) b))) b
+      let f : (i : ℕ) × i ∈ upTo n × T (marked m i i) = any-at (λ i. marked m i i) (upTo n) t in
+      any-of (λ i. below links i i) (f .1) (w .sound (f .0) (f .0) (eqb→eq (bitOf (getD m (f .0) 0) (f .0)) 1 (f .2)))
 
-  to-marked : T (any (λ i. below links i i) (upTo n)) → T (any (λ i. marked m i i) (upTo 32))
+  to-marked : T (any (λ i. below links i i) (upTo n)) → T (any (λ i. marked m i i) (upTo n))
   unfolding marked
   to-marked t =
       let f : (i : ℕ) × i ∈ upTo n × T (below links i i) = any-at (λ i. below links i i) (upTo n) t in
-      let h : f .0 < n = path-low (f .0) (f .0) (below-sound links (f .0) (f .0) (f .2)) in
-      any-of (λ i. marked m i i) (upTo-has 32 (f .0) (omega arith))
+      any-of (λ i. marked m i i) (f .1)
       (true-of (marked m (f .0) (f .0)) (eq-eqb (bitOf (getD m (f .0) 0) (f .0)) 1 (w .full (f .0) (f .0) (f .2))))
 
-  pub ring-is : any (λ i. marked m i i) (upTo 32) ≡ any (λ i. below links i i) (upTo n)
-  ring-is = same-test (any (λ i. marked m i i) (upTo 32)) (any (λ i. below links i i) (upTo n)) to-below to-marked
+  pub ring-is : any (λ i. marked m i i) (upTo n) ≡ any (λ i. below links i i) (upTo n)
+  ring-is = same-test (any (λ i. marked m i i) (upTo n)) (any (λ i. below links i i) (upTo n)) to-below to-marked
 
 pub arrows-are : (s : List ℕ) (b : ℕ) → b ≡ u32At s 8 → map arrowOf (records (take (14 + b - 14) (drop 14 s))) ≡ arrowsOf s
 unfolding arrowsOf
@@ -146,12 +142,26 @@ module _ (s : List ℕ) (five : isOutOfRange s ≡ false) (six : hasBadRecord s 
     unfolding repeatsArrow arrowsOf
     seven-is t e = e ∙ ap (λ (l : List (List ℕ)). repeats (map arrowOf l)) (arrow-part s b eb)
 
-    -- the closure of the arrows' masks, as the code makes it
-    pub masks-are : (start m : List ℕ) → ((x y : ℕ) → marked start y x ≡ linked (map arrowOf (records (take (14 + b - 14) (drop 14 s)))) x y)
-        → ((i j : ℕ) → Linked m i j → Way start i j) → ((i j : ℕ) → Way start i j → Linked m i j) → LowerMasks (arrowsOf s) m
-    masks-are start m reads sound full =
-        closed (arrowsOf s) start m (λ x y. reads x y ∙ ap (λ (l : List Arrow). linked l x y) (arrows-are s b eb)) (λ a k. let h : a .later < layerCount s = arrows-low a k .1 in omega (arith, layers-few)) sound full
+    -- the masks of the arrows, as the code makes them, and their closure
+    module _ (start : List ℕ) (reads : (x y : ℕ) → marked start y x ≡ linked (map arrowOf (records (take (14 + b - 14) (drop 14 s)))) x y) where
+      reads-arrows : (x y : ℕ) → marked start y x ≡ linked (arrowsOf s) x y
+      reads-arrows x y = reads x y ∙ ap (λ (l : List Arrow). linked l x y) (arrows-are s b eb)
 
-  pub eight-is : (m : List ℕ) → LowerMasks (arrowsOf s) m → (t : Bool) → t ≡ any (λ i. marked m i i) (upTo 32) → t ≡ hasCycle s
-  unfolding hasCycle
-  eight-is m w t e = e ∙ ring-is (arrowsOf s) (layerCount s) m layers-few w arrows-low
+      pub masks-empty : EmptyFrom (layerCount s) start
+      masks-empty = empty-from (arrowsOf s) start reads-arrows (layerCount s) (λ a k. arrows-low a k .1)
+
+      pub masks-are : (m : List ℕ) → ((i j : ℕ) → Linked m i j → Way start i j) → ((i j : ℕ) → Way start i j → Linked m i j) → LowerMasks (arrowsOf s) m
+      masks-are m = closed (arrowsOf s) start reads-arrows m (λ a k. let h : a .later < layerCount s = arrows-low a k .1 in omega (arith, layers-few))
+
+  -- the number of layers, as the code reads it
+  module _ (n : ℕ) (en : n ≡ getD s 7 0) where
+    pub count-is : n ≡ layerCount s
+    unfolding layerCount
+    count-is = en
+
+    pub count-few : n ≤ 32
+    count-few = omega (arith, count-is, layers-few)
+
+    pub eight-is : (m : List ℕ) → LowerMasks (arrowsOf s) m → (t : Bool) → t ≡ any (λ i. marked m i i) (upTo n) → t ≡ hasCycle s
+    unfolding hasCycle
+    eight-is m w t e = e ∙ ring-is (arrowsOf s) n m w ∙ ap (λ (k : ℕ). any (λ i. below (arrowsOf s) i i) (upTo k)) count-is

@@ -204,11 +204,10 @@ pub fn repeated(part: &[u8]) -> bool
     while at < part.len() {
         let i = wide(part[at + 1]);
         let j = wide(part[at + 2]);
-        if layers::bit_of(m, i, j) {
+        if layers::bit_of(&m, i, j) {
             return true;
         }
-        let next = layers::with_bit(m, i, j);
-        m = next;
+        layers::set_bit(&mut m, i, j);
         at += 3;
     }
     false
@@ -224,8 +223,7 @@ fn arrow_masks(part: &[u8]) -> [u32; 32]
     while at < part.len() {
         let i = wide(part[at + 1]);
         let j = wide(part[at + 2]);
-        let next = layers::with_bit(m, j, i);
-        m = next;
+        layers::set_bit(&mut m, j, i);
         at += 3;
     }
     m
@@ -245,8 +243,9 @@ fn lower_masks(book: &[u8]) -> [u32; 32]
     requires { ⌜ (hasBrokenSection (now book) ≡ false) × (isOutOfRange (now book) ≡ false) × (hasBadRecord (now book) ≡ false) ⌝ }
     ensures { λ r. ⌜ LowerMasks (arrowsOf (now (book .entry))) r ⌝ }
 {
+    let layers = wide(book[7]);
     let second = 14 + be32(book, 8);
-    layers::transitive_closure(arrow_masks(&book[14..second]))
+    layers::transitive_closure(arrow_masks(&book[14..second]), layers)
 }
 
 // The verdict on a book and, where it is accepted, each layer's mask of the layers below it: the test of cause 8 needs these
@@ -273,8 +272,9 @@ fn check_arrows(book: &[u8]) -> Checked
     if repeated_arrow(book) {
         return refused(Cause::RepeatedArrow);
     }
+    let layers = wide(book[7]);
     let lower = lower_masks(book);
-    if layers::has_cycle(lower) {
+    if layers::has_cycle(&lower, layers) {
         return refused(Cause::Cycle);
     }
     Checked {

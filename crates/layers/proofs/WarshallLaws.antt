@@ -7,9 +7,9 @@ use native.Mathlib.Nat.{zero-div}
 use native.Mathlib.Decide.{decLt, ℕ-discrete}
 use native.Mathlib.Omega.{arith}
 use lib.Bits.{bitOr, bitAnd, or-step, or-shr, and-mask}
-use lib.ListN.{length, getD, set, length-set, List·getD-eq-default}
+use lib.ListN.{length, getD, set, length-set}
 use lib.Seq.{getD-set-same, getD-set-other}
-use Rattle.layers.specs.Masks.{bitOf, Linked, Way, edge, join}
+use Rattle.layers.specs.Masks.{bitOf, Linked, Way, edge, join, EmptyFrom}
 
 pub bit-or : (a b j : ℕ) → bitOf (bitOr a b) j ≡ max (bitOf a j) (bitOf b j)
 bit-or a b j = rw (or-shr a b j) (omega (arith, or-step (a / 2 ^ j) (b / 2 ^ j)))
@@ -68,7 +68,7 @@ bit-small a j = omega arith
 pub no-bit : (a j : ℕ) → a ≡ 0 → bitOf a j ≡ 1 → ⊥
 no-bit a j e h = let z : bitOf 0 j ≡ 1 = rw e at h in omega (arith, z, zero-div (2 ^ j))
 
-module _ (m₀ m : List ℕ) (k i : ℕ) (r : Row m₀ m k i) (all : length m₀ ≤ i) where
+module _ (m₀ m : List ℕ) (k i : ℕ) (r : Row m₀ m k i) (all : EmptyFrom i m₀) where
   step-of : Step m₀ m k
   step-of = record { consIf = λ x j a. consIf-at x j a (ℕ-discrete (bitOf (getD m₀ x 0) k) 1) (decLt x i); both = both-at; back = λ x j a. back-at x j a (ℕ-discrete (bitOf (getD m₀ x 0) k) 1) (decLt x i) }
     where
@@ -83,7 +83,7 @@ module _ (m₀ m : List ℕ) (k i : ℕ) (r : Row m₀ m k i) (all : length m₀
         where
           go : Dec (x < i) → Linked m x j
           go (yes c) = rw (r .hit x c a, bit-or (getD m₀ x 0) (getD m₀ k 0) j) (omega (arith, bit-small (getD m₀ x 0) j))
-          go (no c) = absurd (no-bit (getD m₀ x 0) k (List·getD-eq-default m₀ 0 {n = x} (omega arith)) a)
+          go (no c) = absurd (c (all x k a))
 
       back-at : (x j : ℕ) → Linked m x j → Dec (Linked m₀ x k) → Dec (x < i) → Linked m₀ x j ⊎ (Linked m₀ x k × Linked m₀ k j)
       back-at x j a (no n) (yes b) = inl (rw (r .miss x b n) at a)
@@ -107,31 +107,37 @@ pub record Turns (s m : List ℕ) (k : ℕ) : Type 0 where
 pub turns-start : (s : List ℕ) → length s ≡ 32 → Turns s s 0
 turns-start s e = record { len = e; sound = λ i j a. edge i j a; saturate = λ i j a. a; closed = λ x i j h. absurd (omega arith) }
 
-pub turns-more : (s m₀ m : List ℕ) (k i : ℕ) → Turns s m₀ k → k < 32 → Row m₀ m k i → 32 ≤ i → Turns s m (k + 1)
-turns-more s m₀ m k i t b r h = record {
-  len = r .len ∙ t .len;
-  sound = λ x j a. ⊎-elim (λ p. t .sound x j p) (λ p. join x k j b (t .sound x k (p .0)) (t .sound k j (p .1))) (st .back x j a);
-  saturate = λ x j a. st .consIf x j (t .saturate x j a);
-  closed = λ x y j c p q. ⊎-elim (λ l. low x y j l (st .back y x p) (st .back x j q)) (λ e. st .both y j (to-k x y e (st .back y x p)) (from-k x j e (st .back x j q))) (lt-or-eq x k c);
-}
-  where
-    st : Step m₀ m k
-    st = step-of m₀ m k i r (omega (arith, t .len))
+-- a way starts with a bit
+pub way-from : (s : List ℕ) (n : ℕ) → EmptyFrom n s → (i j : ℕ) → Way s i j → i < n
+way-from s n e x y (edge i j a) = e i j a
+way-from s n e x y (join i k j b p q) = way-from s n e i k p
 
-    low : (x y j : ℕ) → x < k → Linked m₀ y x ⊎ (Linked m₀ y k × Linked m₀ k x) → Linked m₀ x j ⊎ (Linked m₀ x k × Linked m₀ k j) → Linked m y j
-    low x y j l (inl p) (inl q) = st .consIf y j (t .closed x y j l p q)
-    low x y j l (inl p) (inr q) = st .both y j (t .closed x y k l p (q .0)) (q .1)
-    low x y j l (inr p) (inl q) = st .both y j (p .0) (t .closed x k j l (p .1) q)
-    low x y j l (inr p) (inr q) = st .both y j (p .0) (q .1)
+module _ (s : List ℕ) (n : ℕ) (few : n ≤ 32) (empty : EmptyFrom n s) where
+  pub turns-more : (m₀ m : List ℕ) (k i : ℕ) → Turns s m₀ k → k < n → Row m₀ m k i → n ≤ i → Turns s m (k + 1)
+  turns-more m₀ m k i t b r h = record {
+    len = r .len ∙ t .len;
+    sound = λ x j a. ⊎-elim (λ p. t .sound x j p) (λ p. join x k j (omega arith) (t .sound x k (p .0)) (t .sound k j (p .1))) (st .back x j a);
+    saturate = λ x j a. st .consIf x j (t .saturate x j a);
+    closed = λ x y j c p q. ⊎-elim (λ l. low x y j l (st .back y x p) (st .back x j q)) (λ e. st .both y j (to-k x y e (st .back y x p)) (from-k x j e (st .back x j q))) (lt-or-eq x k c);
+  }
+    where
+      st : Step m₀ m k
+      st = step-of m₀ m k i r (λ x j a. omega (arith, way-from s n empty x j (t .sound x j a)))
 
-    to-k : (x y : ℕ) → x ≡ k → Linked m₀ y x ⊎ (Linked m₀ y k × Linked m₀ k x) → Linked m₀ y k
-    to-k x y e (inl p) = subst (λ (z : ℕ). Linked m₀ y z) e p
-    to-k x y e (inr p) = p .0
+      low : (x y j : ℕ) → x < k → Linked m₀ y x ⊎ (Linked m₀ y k × Linked m₀ k x) → Linked m₀ x j ⊎ (Linked m₀ x k × Linked m₀ k j) → Linked m y j
+      low x y j l (inl p) (inl q) = st .consIf y j (t .closed x y j l p q)
+      low x y j l (inl p) (inr q) = st .both y j (t .closed x y k l p (q .0)) (q .1)
+      low x y j l (inr p) (inl q) = st .both y j (p .0) (t .closed x k j l (p .1) q)
+      low x y j l (inr p) (inr q) = st .both y j (p .0) (q .1)
 
-    from-k : (x j : ℕ) → x ≡ k → Linked m₀ x j ⊎ (Linked m₀ x k × Linked m₀ k j) → Linked m₀ k j
-    from-k x j e (inl p) = subst (λ (z : ℕ). Linked m₀ z j) e p
-    from-k x j e (inr p) = p .1
+      to-k : (x y : ℕ) → x ≡ k → Linked m₀ y x ⊎ (Linked m₀ y k × Linked m₀ k x) → Linked m₀ y k
+      to-k x y e (inl p) = subst (λ (z : ℕ). Linked m₀ y z) e p
+      to-k x y e (inr p) = p .0
 
-pub full : (s m : List ℕ) (k : ℕ) → Turns s m k → 32 ≤ k → (i j : ℕ) → Way s i j → Linked m i j
-full s m k t h x y (edge i j a) = t .saturate i j a
-full s m k t h x y (join i l j b p q) = t .closed l i j (omega arith) (full s m k t h i l p) (full s m k t h l j q)
+      from-k : (x j : ℕ) → x ≡ k → Linked m₀ x j ⊎ (Linked m₀ x k × Linked m₀ k j) → Linked m₀ k j
+      from-k x j e (inl p) = subst (λ (z : ℕ). Linked m₀ z j) e p
+      from-k x j e (inr p) = p .1
+
+  pub full : (m : List ℕ) (k : ℕ) → Turns s m k → n ≤ k → (i j : ℕ) → Way s i j → Linked m i j
+  full m k t h x y (edge i j a) = t .saturate i j a
+  full m k t h x y (join i l j b p q) = t .closed l i j (omega (arith, way-from s n empty l j q)) (full m k t h i l p) (full m k t h l j q)

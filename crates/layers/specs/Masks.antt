@@ -22,6 +22,10 @@ pub data Way (m : List ℕ) : ℕ → ℕ → Type 0 where
   edge : (i j : ℕ) → Linked m i j → Way m i j
   join : (i k j : ℕ) → k < maxLayers → Way m i k → Way m k j → Way m i j
 
+-- the masks from n on have no bit
+abbrev pub EmptyFrom : ℕ → List ℕ → Type 0
+EmptyFrom n m = (i j : ℕ) → Linked m i j → i < n
+
 -- each layer's mask of the layers below it: bit i of mask j is set exactly where layer i is below j
 pub record LowerMasks (arrows : List Arrow) (lower : List ℕ) : Type 0 where
   pub sound : (i j : ℕ) → Linked lower j i → T (below arrows i j)

@@ -1,6 +1,9 @@
-use mathlib.Core.Path.{_≡_, refl, sym, _∙_}
+-- `transitive_closure` meets its contract: after turn k the masks are closed under ways through the layers up to k. A turn passes
+-- over the masks below `count`, and the others are empty. The layers left fall.
+use mathlib.Core.Path.{_≡_, refl, sym, ap, _∙_}
 use mathlib.Core.Logic.{⊎-elim}
-use Prim.Native.Nat.{_-_, _≤_}
+use Prim.Native.Nat.{ℕ, _-_, _≤_}
+use lib.Bits.{bitOr}
 use lib.ListN.{getD}
 use Rattle.layers.proofs.WarshallLaws.{Row, row-start, row-hit, row-miss, Turns, turns-start, turns-more, full, test-bit}
 use borrow.Author.Needs.{needs}
@@ -9,16 +12,16 @@ use Rattle.layers.proofs.transitive_closure.Statement.{statement}
 use Rattle.layers.proofs.transitive_closure.Tie as tie
 
 abbrev Inv-loop2 : tie.InvT-loop2
-Inv-loop2 m₀ k row i₀ m i = (i ≤ 32) × (row ≡ getD m₀ k 0) × Row m₀ m k i
+Inv-loop2 count m₀ k row i₀ m i = (i ≤ count) × (row ≡ getD m₀ k 0) × Row m₀ m k i
 
 abbrev μ-loop2 : tie.MeasureT-loop2
-μ-loop2 m₀ k row i₀ m i = 32 - i
+μ-loop2 count m₀ k row i₀ m i = count - i
 
 abbrev Inv-loop : tie.InvT-loop
-Inv-loop m₀ k₀ m k = (k ≤ 32) × Turns m₀ m k
+Inv-loop count m₀ k₀ m k = (k ≤ count) × Turns m₀ m k
 
 abbrev μ-loop : tie.MeasureT-loop
-μ-loop m₀ k₀ m k = 32 - k
+μ-loop count m₀ k₀ m k = count - k
 
 loop-holds : tie.Need-loop-holds Inv-loop2 μ-loop2 Inv-loop μ-loop
 loop-holds c = (omega arith, turns-start (c .args .start) (c .good .0 .1 .0 .1))
@@ -62,7 +65,7 @@ loop2-again c =
     let l = c .before .before .loop2 in
     let e : getD (l .m) (l .i) 0 ≡ getD (o .m) (l .i) 0 = l .inv .2 .same (l .i) (omega arith) in
     ⊎-elim
-    (λ w. (omega arith, refl, rw (w .1, e) (row-hit (o .m) (l .m) (o .k) (l .i) _ (l .inv .2) (omega (arith, l .inv .2 .len, o .inv .1 .len)) refl (sym (test-bit (getD (o .m) (l .i) 0) (o .k)) ∙ rw e at (w .0 .taken)))))
+    (λ w. (omega arith, refl, rw (w .1) (row-hit (o .m) (l .m) (o .k) (l .i) _ (l .inv .2) (omega (arith, l .inv .2 .len, o .inv .1 .len)) (ap (λ (x : ℕ). bitOr x (getD (o .m) (o .k) 0)) e) (sym (test-bit (getD (o .m) (l .i) 0) (o .k)) ∙ rw e at (w .0 .taken)))))
     (λ w. (omega arith, refl, rw (w .1) (row-miss (o .m) (l .m) (o .k) (l .i) (l .inv .2) (λ a. w .0 .left (rw e (test-bit (getD (o .m) (l .i) 0) (o .k) ∙ a))))))
     (c .if1 .came)
 
@@ -73,14 +76,15 @@ loop-less : tie.Need-loop-less Inv-loop2 μ-loop2 Inv-loop μ-loop
 loop-less c = search needs
 
 loop-again : tie.Need-loop-again Inv-loop2 μ-loop2 Inv-loop μ-loop
-loop-again c = (
-  omega arith,
-  turns-more (c .before .before .before .before .args .start) (c .before .before .before .loop .m) (c .before .loop2 .m) (c .before .before .before .loop .k) (c .before .loop2 .i)
-      (c .before .before .before .loop .inv .1) (search needs) (c .before .loop2 .inv .2) (c .loop2-test .left),
-)
+loop-again c =
+    let e = c .before .before .before .before in
+    let o = c .before .before .before .loop in
+    (omega arith, turns-more (e .args .start) (e .args .count) (e .pre .0) (e .pre .1) (o .m) (c .before .loop2 .m) (o .k) (c .before .loop2 .i) (o .inv .1) (search needs) (c .before .loop2 .inv .2) (c .loop2-test .left))
 
 returns : tie.Need-returns Inv-loop2 μ-loop2 Inv-loop μ-loop
-returns c = (c .before .loop .inv .1 .sound, full (c .before .before .args .start) (c .before .loop .m) (c .before .loop .k) (c .before .loop .inv .1) (c .loop-test .left))
+returns c =
+    let e = c .before .before in
+    (c .before .loop .inv .1 .sound, full (e .args .start) (e .args .count) (e .pre .0) (e .pre .1) (c .before .loop .m) (c .before .loop .k) (c .before .loop .inv .1) (c .loop-test .left))
 
 pub transitive-closure-spec : {M : Type 1} → statement M
 transitive-closure-spec =
