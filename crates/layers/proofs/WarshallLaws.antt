@@ -112,6 +112,7 @@ pub way-from : (s : List ℕ) (n : ℕ) → EmptyFrom n s → (i j : ℕ) → Wa
 way-from s n e x y (edge i j a) = e i j a
 way-from s n e x y (join i k j b p q) = way-from s n e i k p
 
+-- turns over the first n masks do where the others are empty
 module _ (s : List ℕ) (n : ℕ) (few : n ≤ 32) (empty : EmptyFrom n s) where
   pub turns-more : (m₀ m : List ℕ) (k i : ℕ) → Turns s m₀ k → k < n → Row m₀ m k i → n ≤ i → Turns s m (k + 1)
   turns-more m₀ m k i t b r h = record {
