@@ -1,5 +1,5 @@
 -- The two runs as a list of records of one width, and what a record written at the gap makes of it: the proof of `insert`
--- cites `inserted`; the crates above start from `held-none` and put additions together by `added-none` and `added-append`. Assumes nothing.
+-- cites `inserted`; LeastLaws and the crates above start from `held-none`. Assumes nothing.
 use mathlib.Core.Path.{_≡_, refl, sym, ap, ap₂, subst, _∙_}
 use mathlib.Core.Logic.{_⊎_, inl, inr}
 use mathlib.Core.Bool.{true, false}
@@ -125,16 +125,15 @@ module _ (rec : List ℕ) (lo hi : ℕ) (l : List ℕ) (pos : 0 < length rec) (r
 pub inserted : (rec : List ℕ) (lo₀ hi₀ : ℕ) (part₀ : List ℕ) (lo₁ hi₁ : ℕ) (l₁ : List ℕ) (lo hi : ℕ) (l part : List ℕ) → 0 < length rec → lo₀ + length rec ≤ hi₀
     → Settled (length rec) lo₀ hi₀ part₀ lo₁ hi₁ l₁ → Settled (length rec) lo₁ hi₁ l₁ lo hi l → HighStops rec hi l → LowStops rec lo l
     → part ≡ take lo l ++ (rec ++ drop (lo + length rec) l)
-    → Added (length rec) (rec ∷ []) lo₀ hi₀ part₀ (lo + length rec) hi part
-unfolding insertAll
+    → Added (length rec) rec lo₀ hi₀ part₀ (lo + length rec) hi part
 inserted rec lo₀ hi₀ part₀ lo₁ hi₁ l₁ lo hi l part pos gap s t high low e =
     let room : lo + length rec ≤ hi = omega (arith, s .size, t .size) in
     let fits : hi ≤ length l = t .fits in
-    let one : 1 * length rec ≡ length rec = omega arith in
     let n : length part ≡ length l = moved-len l rec lo (length rec) refl (omega arith) part e in
     record {
       fits = omega arith;
-      size = omega (arith, s .size, t .size, one);
+      len = n ∙ t .len ∙ s .len;
+      size = omega (arith, s .size, t .size);
       whole = mult-more (t .whole);
       held = λ rs h. record {
         wide = λ r m. wider rs h r (insert-from bytesBefore rec r rs m);
@@ -146,22 +145,6 @@ inserted rec lo₀ hi₀ part₀ lo₁ hi₁ l₁ lo hi l part pos gap s t high 
     wider : (rs : List (List ℕ)) → Held (length rec) lo₀ hi₀ part₀ rs → (r : List ℕ) → (r ≡ rec) ⊎ r ∈ rs → length r ≡ length rec
     wider rs h r (inl q) = ap length q
     wider rs h r (inr m) = h .wide r m
-
--- no record is added where nothing is written
-pub added-none : (w lo hi : ℕ) (part : List ℕ) → hi ≤ length part → Mult w lo → Added w [] lo hi part lo hi part
-unfolding insertAll
-added-none w lo hi part h m = record { fits = h; size = let e : 0 * w ≡ 0 = omega arith in omega (arith, e); whole = m; held = λ rs k. k }
-
--- two additions, one after the other, are one
-pub added-append : (w : ℕ) (xs ys : List (List ℕ)) (lo₀ hi₀ : ℕ) (part₀ : List ℕ) (lo₁ hi₁ : ℕ) (l₁ : List ℕ) (lo hi : ℕ) (l : List ℕ)
-    → Added w xs lo₀ hi₀ part₀ lo₁ hi₁ l₁ → Added w ys lo₁ hi₁ l₁ lo hi l → Added w (xs ++ ys) lo₀ hi₀ part₀ lo hi l
-added-append w xs ys lo₀ hi₀ part₀ lo₁ hi₁ l₁ lo hi l a b =
-    record {
-      fits = b .fits;
-      size = let e : length (xs ++ ys) * w ≡ length xs * w + length ys * w = ap (λ (k : ℕ). k * w) (length-append xs ys) ∙ omega arith in omega (arith, a .size, b .size, e);
-      whole = b .whole;
-      held = λ rs h. subst (λ (z : List (List ℕ)). Held w lo hi l z) (sym (insertAll-append bytesBefore xs ys rs)) (b .held (insertAll bytesBefore xs rs) (a .held rs h));
-    }
 
 -- a part that is all gap holds no record
 pub mult-zero : (w : ℕ) → Mult w 0

@@ -9,6 +9,7 @@ use native.Mathlib.Nat.{suc-inj}
 use native.Mathlib.Omega.{arith}
 use lib.Dec.{T}
 use lib.ListN.{length, getD, take, drop}
+use lib.Seq.{take-all, take-at, take-take, length-take-le}
 use Rattle.base.proofs.Members.{_∈_}
 use Rattle.insertion.specs.Sorted.{insertPast, insertBy, insertAll, Up}
 
@@ -17,7 +18,21 @@ getD-member [] i d h = absurd (omega arith)
 getD-member (x ∷ xs) zero d h = List·Memᴰ·head refl
 getD-member (x ∷ xs) (suc i) d h = List·Memᴰ·tail (getD-member xs i d (omega arith))
 
+pub take-from : {A : Type 0} (i : ℕ) (xs : List A) (z : A) → z ∈ take i xs → z ∈ xs
+take-from zero xs z m = absurd (List·Memᴰ·not-nil m)
+take-from (suc i) [] z m = m
+take-from (suc i) (x ∷ xs) z m = go (take-from i xs z) (List·Memᴰ·cases-cons m)
+  where
+    go : (z ∈ take i xs → z ∈ xs) → (z ≡ x) ⊎ z ∈ take i xs → z ∈ (x ∷ xs)
+    go f (inl e) = List·Memᴰ·head e
+    go f (inr k) = List·Memᴰ·tail (f k)
+
 module _ {A : Type 0} (less : A → A → Bool) where
+  pub take-keeps-up : (i : ℕ) (xs : List A) → Up less xs → Up less (take i xs)
+  take-keeps-up zero xs u = tt
+  take-keeps-up (suc i) [] u = tt
+  take-keeps-up (suc i) (x ∷ xs) u = (λ y m. u .0 y (take-from i xs y m), take-keeps-up i xs (u .1))
+
   insertPast-from : (t : Bool) (x y z : A) (rest ys : List A) → (z ∈ rest → (z ≡ x) ⊎ z ∈ ys) → z ∈ insertPast t x y rest ys → (z ≡ x) ⊎ z ∈ (y ∷ ys)
   unfolding insertPast
   insertPast-from true x y z rest ys f m = go (List·Memᴰ·cases-cons m)
@@ -102,10 +117,51 @@ module _ {A : Type 0} (less : A → A → Bool) where
         let e : less y x ≡ true = le-lt (getD ys j d) y x (u .0 (getD ys j d) (getD-member ys j d (omega arith))) l in
         rw e (ap (λ (t : List A). y ∷ t) (insert-position d x ys (suc j) (omega arith) (u .1) (λ i b. subst (λ (k : ℕ). less (getD ys k d) x ≡ true) (suc-inj b) l) (λ b. hi (omega arith))))
 
+    -- a list whose last comes before x: x goes in behind it, and is the one left out
+    pub insert-behind : (d x : A) (i : ℕ) (ys : List A) → length ys ≡ suc i → Up less ys → less (getD ys i d) x ≡ true → take (suc i) (insertBy less x ys) ≡ ys
+    insert-behind d x i ys n u e =
+        let s : take (suc i) ys ≡ ys = take-all (suc i) ys (omega arith) in
+        ap (take (suc i)) (insert-position d x ys (suc i) (omega arith) u (λ k q. subst (λ (t : ℕ). less (getD ys t d) x ≡ true) (suc-inj q) e) (λ q. absurd (omega arith)))
+        ∙ take-at (take (suc i) ys) (x ∷ drop (suc i) ys) (suc i) (length-take-le (suc i) ys (omega arith)) ∙ s
+
     pub insertAll-keeps-up : (xs ys : List A) → Up less ys → Up less (insertAll less xs ys)
     unfolding insertAll
     insertAll-keeps-up [] ys u = u
     insertAll-keeps-up (x ∷ xs) ys u = insertAll-keeps-up xs (insertBy less x ys) (insert-keeps-up x ys u)
+
+  -- a list with a member, at i, that does not come before x: x goes in before it, whatever follows
+  pub insert-in-front : (d x : A) (i : ℕ) (ys : List A) → i < length ys → less (getD ys i d) x ≡ false → insertBy less x (take i ys) ≡ take (suc i) (insertBy less x ys)
+  unfolding insertBy insertPast
+  insert-in-front d x i [] h e = absurd (omega arith)
+  insert-in-front d x zero (y ∷ ys) h e = rw e refl
+  insert-in-front d x (suc i) (y ∷ ys) h e = go (less y x) (insert-in-front d x i ys (omega arith) e)
+    where
+      go : (t : Bool) → insertBy less x (take i ys) ≡ take (suc i) (insertBy less x ys)
+          → insertPast t x y (insertBy less x (take i ys)) (take i ys) ≡ take (suc (suc i)) (insertPast t x y (insertBy less x ys) ys)
+      go true q = ap (λ (l : List A). y ∷ l) q
+      go false q = refl
+
+  -- the least c of a list and of new members are the least c of its least c and of the new ones
+  insert-take : (c : ℕ) (x : A) (l : List A) → take c (insertBy less x (take c l)) ≡ take c (insertBy less x l)
+  unfolding insertBy insertPast
+  insert-take zero x l = refl
+  insert-take (suc c) x [] = refl
+  insert-take (suc c) x (y ∷ ys) = go (less y x) (insert-take c x ys)
+    where
+      rest : (k : ℕ) → take k (y ∷ take k ys) ≡ take k (y ∷ ys)
+      rest zero = refl
+      rest (suc k) = ap (λ (l : List A). y ∷ l) (take-take k (suc k) ys (omega arith))
+
+      go : (t : Bool) → take c (insertBy less x (take c ys)) ≡ take c (insertBy less x ys)
+          → take (suc c) (insertPast t x y (insertBy less x (take c ys)) (take c ys)) ≡ take (suc c) (insertPast t x y (insertBy less x ys) ys)
+      go true q = ap (λ (l : List A). y ∷ l) q
+      go false q = ap (λ (l : List A). x ∷ l) (rest c)
+
+  pub insertAll-take : (c : ℕ) (xs l : List A) → take c (insertAll less xs (take c l)) ≡ take c (insertAll less xs l)
+  unfolding insertAll
+  insertAll-take c [] l = take-take c c l (omega arith)
+  insertAll-take c (x ∷ xs) l =
+      sym (insertAll-take c xs (insertBy less x (take c l))) ∙ ap (λ (k : List A). take c (insertAll less xs k)) (insert-take c x l) ∙ insertAll-take c xs (insertBy less x l)
 
   pub insertAll-append : (xs ys l : List A) → insertAll less (xs ++ ys) l ≡ insertAll less ys (insertAll less xs l)
   unfolding insertAll

@@ -7,7 +7,7 @@ use Prim.Native.Nat.{ℕ, _+_, _-_, _*_, _≤_, _<_}
 use lib.Dec.{ltb}
 use lib.ListN.{length, take, drop}
 use Rattle.base.specs.Lists.{flat}
-use Rattle.insertion.specs.Sorted.{insertAll, Up}
+use Rattle.insertion.specs.Sorted.{insertBy, insertAll, Up}
 
 -- the order of byte strings: the first byte where they differ decides
 unfoldable pub bytesBefore : List ℕ → List ℕ → Bool
@@ -58,9 +58,26 @@ pub record Held (w lo hi : ℕ) (part : List ℕ) (rs : List (List ℕ)) : Type 
   pub up : Up bytesBefore rs
   pub bytes : runs lo hi part ≡ flat rs
 
--- the gap is smaller by the new records, and whatever rising records were held, with the new ones among them are held now
-pub record Added (w : ℕ) (new : List (List ℕ)) (lo₀ hi₀ : ℕ) (part₀ : List ℕ) (lo hi : ℕ) (part : List ℕ) : Type 0 where
+-- the gap is smaller by the new record, and whatever rising records were held, with the new one among them are held now
+pub record Added (w : ℕ) (new : List ℕ) (lo₀ hi₀ : ℕ) (part₀ : List ℕ) (lo hi : ℕ) (part : List ℕ) : Type 0 where
   pub fits : hi ≤ length part
-  pub size : lo + hi₀ ≡ lo₀ + hi + length new * w
+  pub len : length part ≡ length part₀
+  pub size : lo + hi₀ ≡ lo₀ + hi + w
   pub whole : Mult w lo
-  pub held : (rs : List (List ℕ)) → Held w lo₀ hi₀ part₀ rs → Held w lo hi part (insertAll bytesBefore new rs)
+  pub held : (rs : List (List ℕ)) → Held w lo₀ hi₀ part₀ rs → Held w lo hi part (insertBy bytesBefore new rs)
+
+-- the runs, the gap and the part are whole records of w bytes, so a gap without room for one more is empty
+pub record Whole (w lo hi : ℕ) (part : List ℕ) : Type 0 where
+  pub some : 0 < w
+  pub order : lo ≤ hi
+  pub fits : hi ≤ length part
+  pub low : Mult w lo
+  pub gap : Mult w (hi - lo)
+  pub all : Mult w (length part)
+
+-- whatever rising records were held, of them and the new ones the least are held now: as many as the part has room for
+pub record Least (w : ℕ) (new : List (List ℕ)) (lo₀ hi₀ : ℕ) (part₀ : List ℕ) (lo hi : ℕ) (part : List ℕ) : Type 0 where
+  pub whole : Whole w lo hi part
+  pub len : length part ≡ length part₀
+  pub held : (room : ℕ) (rs : List (List ℕ)) → length part₀ ≡ room * w → Held w lo₀ hi₀ part₀ rs
+      → Held w lo hi part (take room (insertAll bytesBefore new rs))

@@ -3,9 +3,9 @@
 ghost use mathlib.Core.Path.{_≡_};
 ghost use mathlib.Core.List.{[], _∷_, _++_};
 ghost use mathlib.Core.Logic.{_⊎_};
-ghost use Prim.Native.Nat.{_+_, _≤_};
+ghost use Prim.Native.Nat.{_+_, _≤_, _<_};
 ghost use lib.ListN.{length, take, drop};
-ghost use Rattle.insertion.specs.Runs.{bytesBefore, Room, HighStops, LowStops, Settled, Added};
+ghost use Rattle.insertion.specs.Runs.{bytesBefore, Room, HighStops, LowStops, Settled, Added, Whole, Least};
 
 // In bytes: the low run ends at lo, the high run starts at hi.
 pub struct Gap {
@@ -98,7 +98,7 @@ pub fn move_up(part: &mut [u8], gap: Gap, rec: &[u8]) -> Gap
 // Puts rec in its place among the records; the gap gets smaller by one record.
 pub fn insert(part: &mut [u8], gap: Gap, rec: &[u8]) -> Gap
     requires { ⌜ Room (length (now rec)) (gap .lo) (gap .hi) (now part) ⌝ }
-    ensures { λ r. ⌜ Added (length (now (rec .entry))) (now (rec .entry) ∷ []) (gap .lo) (gap .hi) (now (part .entry)) (r .lo) (r .hi) (now (part .exit)) ⌝ }
+    ensures { λ r. ⌜ Added (length (now (rec .entry))) (now (rec .entry)) (gap .lo) (gap .hi) (now (part .entry)) (r .lo) (r .hi) (now (part .exit)) ⌝ }
 {
     let down = move_down(part, gap, rec);
     let up = move_up(part, down, rec);
@@ -107,4 +107,22 @@ pub fn insert(part: &mut [u8], gap: Gap, rec: &[u8]) -> Gap
         lo: up.lo + rec.len(),
         hi: up.hi,
     }
+}
+
+// Puts rec in its place among the records; where there is no room for it, the last of them all is left out.
+pub fn insert_least(part: &mut [u8], gap: Gap, rec: &[u8]) -> Gap
+    requires { ⌜ Whole (length (now rec)) (gap .lo) (gap .hi) (now part) × (0 < length (now part)) ⌝ }
+    ensures { λ r. ⌜ Least (length (now (rec .entry))) (now (rec .entry) ∷ []) (gap .lo) (gap .hi) (now (part .entry)) (r .lo) (r .hi) (now (part .exit)) ⌝ }
+{
+    let w = rec.len();
+    if w <= gap.hi - gap.lo {
+        return insert(part, gap, rec);
+    }
+    let end = part.len();
+    let last = end - w;
+    if record_before(part, last, rec) {
+        return gap;
+    }
+    // An empty gap may stand anywhere: at the end the last record makes room.
+    insert(part, Gap { lo: last, hi: end }, rec)
 }

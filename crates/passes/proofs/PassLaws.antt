@@ -1,21 +1,23 @@
--- One pass from no fact decided: it meets the stable models, and its records, sorted, are the listing's. Assumes nothing.
+-- One pass from no fact decided: it meets the stable models, sorted they are the listing's, and the part lent to it is the least of their
+-- records. Assumes nothing.
 use mathlib.Core.Path.{_≡_, refl, sym, ap, subst, _∙_}
 use mathlib.Core.Bool.{Bool, false}
 use mathlib.Core.List.{List, _++_, map, append-nil}
 use Prim.Native.Nat.{ℕ, _+_, _*_, _^_, _≤_}
 use native.Mathlib.Nat.{pow-le-pow-right}
 use native.Mathlib.Omega.{arith}
-use lib.ListN.{length, replicate, length-replicate}
+use lib.ListN.{length, take, replicate, length-replicate}
+use lib.Seq.{take-length}
 use Rattle.base.specs.Bounds.{maxAtoms, maxBranching}
 use Rattle.base.specs.Lists.{flat}
-use Rattle.insertion.proofs.RunLaws.{mult-zero}
 use Rattle.models.specs.Program.{Program}
 use Rattle.models.specs.StableModels.{Interpretation, stable, WellFormed}
 use Rattle.models.specs.Branching.{branchingAtoms, branchingCount}
 use Rattle.models.specs.Listing.{stableModels, recordSize, recordOf}
 use Rattle.records.specs.Written.{sorted}
 use Rattle.records.proofs.OrderLaws.{sorted-length, sorted-listed}
-use Rattle.records.proofs.WrittenLaws.{full}
+use Rattle.records.proofs.RoomLaws.{whole-gap}
+use Rattle.records.proofs.WrittenLaws.{least-written}
 use Rattle.table.specs.Table.{programOf}
 use Rattle.search.specs.declared.Goal.{Goal}
 use Rattle.search.specs.declared.Goal.the-variants.{All}
@@ -26,7 +28,7 @@ use Rattle.setting.specs.Setting.{settingOf}
 use Rattle.setting.proofs.SettingLaws.{setting-none}
 use Rattle.search.specs.Searchable.{Searchable}
 use Rattle.search.proofs.FoundLaws.{found-stable, stable-found, found-once, found-count}
-use Rattle.search.proofs.VisitLaws.{visits-goal, visits-count, visits-standing, visits-added}
+use Rattle.search.proofs.VisitLaws.{visits-goal, visits-count, visits-standing, visits-least}
 use Rattle.passes.specs.Tallied.{searched, Tallied}
 
 unset : length (replicate {A = Bool} 256 false) ≡ 256
@@ -62,8 +64,9 @@ module _ {book rows overridden atoms : List ℕ} {layer n : ℕ} (w : Searchable
   pub start-fits : 0 + 2 ^ length atoms ≤ 4294967296
   start-fits = omega (arith, pow-le-pow-right {n = 2} (omega arith) (w .atoms-few))
 
-  pub start-kept : (goal : Goal) (atom hi : ℕ) (part : List ℕ) → hi ≤ length part → Kept n (record { goal = goal; atom = atom; count = 0; standing = 0; lo = 0; hi = hi }) part
-  start-kept goal atom hi part h = record { order = omega arith; fits = h; whole = mult-zero (recordSize n); few = omega arith }
+  pub start-kept : (goal : Goal) (atom hi : ℕ) (part : List ℕ) (room : ℕ) → hi ≡ length part → length part ≡ room * recordSize n
+      → Kept n (record { goal = goal; atom = atom; count = 0; standing = 0; lo = 0; hi = hi }) part
+  start-kept goal atom hi part room h e = record { whole = whole-gap n hi part (w .some) h (record { times = room; eq = e }); few = omega arith }
 
   module _ (goal : Goal) (atom hi : ℕ) (part : List ℕ) (end : Visit) (part′ : List ℕ)
       (s : Searched n (foundBy (atSetting P atoms) atoms (settingOf atoms 0)) (record { goal = goal; atom = atom; count = 0; standing = 0; lo = 0; hi = hi }) part end part′) where
@@ -83,27 +86,30 @@ module _ {book rows overridden atoms : List ℕ} {layer n : ℕ} (w : Searchable
       whole = λ e. s .whole (ap (λ (g : Goal). reaches g (end .count) (end .standing)) end-goal ∙ e);
     }
 
-    -- a pass for every model, into a part with just the room
-    module _ (every : goal ≡ All) (fits : hi ≤ length part) (sized : length part ≡ length (stableModels P) * recordSize n) (exact : hi ≡ length part) where
+    -- into a part with room for no more records than models are met: it is the least of their records
+    pub pass-written : (room : ℕ) → hi ≡ length part → length part ≡ room * recordSize n → room ≤ length (s .seen) → part′ ≡ flat (map (recordOf n) (take room (sorted n (s .seen))))
+    pass-written room h e few =
+        least-written n (s .seen) room hi part (end .lo) (end .hi) part′ e h few
+        (visits-least n (s .seen) start part end part′ (s .visits) (start-kept goal atom hi part room h e))
+
+    -- a pass for every model
+    module _ (every : goal ≡ All) where
       all-seen : s .seen ≡ searched P
       unfolding reaches
       all-seen =
           sym (append-nil (s .seen)) ∙ ap (λ (l : List Interpretation). s .seen ++ l) (sym (s .whole (ap (λ (g : Goal). reaches g (end .count) (end .standing)) (end-goal ∙ every))))
           ∙ sym (s .split) ∙ found-is
 
-      atoms-few : P .atoms ≤ maxAtoms
-      atoms-few = subst (λ (k : ℕ). k ≤ maxAtoms) (w .size) (w .few)
+      pub all-sorted : sorted n (s .seen) ≡ stableModels P
+      all-sorted =
+          ap (λ (l : List Interpretation). sorted n l) all-seen ∙ ap (λ (k : ℕ). sorted k (searched P)) (w .size)
+          ∙ searched-sorted P (w .formed) (subst (λ (k : ℕ). k ≤ maxAtoms) (w .size) (w .few))
 
-      room : hi ≡ length (s .seen) * recordSize n
-      room = exact ∙ sized ∙ ap (λ (k : ℕ). k * recordSize n) (sym (ap length all-seen ∙ searched-length P (w .formed) atoms-few))
-
-      pub all-written : part′ ≡ flat (map (recordOf n) (stableModels P))
-      all-written =
-          full n (s .seen) hi part (end .lo) (end .hi) part′ room (omega (arith, exact))
-          (visits-added n (s .seen) start part end part′ (s .visits) (start-kept goal atom hi part fits) (omega (arith, room)))
-          ∙ ap (λ (l : List Interpretation). flat (map (recordOf n) (sorted n l))) all-seen
-          ∙ ap (λ (k : ℕ). flat (map (recordOf n) (sorted k (searched P)))) (w .size)
-          ∙ ap (λ (l : List Interpretation). flat (map (recordOf n) l)) (searched-sorted P (w .formed) atoms-few)
+      pub all-written : hi ≡ length part → length part ≡ length (stableModels P) * recordSize n → part′ ≡ flat (map (recordOf n) (stableModels P))
+      all-written h e =
+          pass-written (length (stableModels P)) h e (omega (arith, sorted-length n (s .seen), ap length all-sorted))
+          ∙ ap (λ (l : List Interpretation). flat (map (recordOf n) (take (length (stableModels P)) l))) all-sorted
+          ∙ ap (λ (l : List Interpretation). flat (map (recordOf n) l)) (take-length (stableModels P))
 
 -- a pass that never stops early has met them all
 pub tallied-all : (P : Program) → WellFormed P → P .atoms ≤ maxAtoms → (atom count standing : ℕ) → Tallied P All atom count standing → count ≡ length (stableModels P)

@@ -36,7 +36,7 @@ pub fn tally(
     requires { ⌜ RuleMasks (now book) (now rows) (now atoms) (now masks) ⌝ }
     ensures { λ r. ⌜ Tallied (programOf (now (book .entry)) layer) goal atom (r .count) (r .standing) ⌝ }
 {
-    let mut unused: [u8; 1] = [0; 1];
+    let mut none: [u8; 0] = [];
     let v = Visit {
         goal,
         atom,
@@ -56,7 +56,7 @@ pub fn tally(
         n,
         0,
         0,
-        &mut unused,
+        &mut none,
         v,
     );
     Counts {

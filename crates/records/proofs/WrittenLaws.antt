@@ -2,7 +2,7 @@
 -- listing call cites it. Assumes nothing.
 use mathlib.Core.Path.{_≡_, refl, sym, ap, _∙_}
 use mathlib.Core.List.{List, [], _∷_, _++_, map}
-use Prim.Native.Nat.{ℕ, _+_, _-_, _*_, _^_, _≤_}
+use Prim.Native.Nat.{ℕ, zero, suc, _+_, _-_, _*_, _^_, _≤_}
 use native.Mathlib.Nat.{mul-le-mul}
 use native.Mathlib.Omega.{arith}
 use borrow.Rule.Slice.PartMut.{putMid}
@@ -10,27 +10,41 @@ use lib.ListN.{length, take, drop, length-map, take-append-drop}
 use lib.Seq.{drop-drop, drop-at, length-take-le}
 use Rattle.base.specs.Bounds.{maxAtoms, maxBranching}
 use Rattle.base.specs.Lists.{flat}
-use Rattle.insertion.specs.Runs.{bytesBefore}
-use Rattle.insertion.proofs.SortedLaws.{insertAll-map}
+use Rattle.insertion.specs.Runs.{bytesBefore, Held}
+use Rattle.insertion.specs.Sorted.{insertAll}
+use Rattle.insertion.proofs.SortedLaws.{insertAll-length, insertAll-map}
 use Rattle.insertion.proofs.RunLaws.{held-none}
+use Rattle.insertion.proofs.LeastLaws.{held-length}
 use Rattle.models.specs.StableModels.{Interpretation}
 use Rattle.models.specs.Listing.{recordSize, recordOf, be16, be32, listingOf}
-use Rattle.records.specs.Written.{AddedFor, sorted}
+use Rattle.records.specs.Written.{LeastFor, before, sorted}
+
+map-take : {A B : Type 0} (f : A → B) (i : ℕ) (xs : List A) → map f (take i xs) ≡ take i (map f xs)
+map-take f zero xs = refl
+map-take f (suc i) [] = refl
+map-take f (suc i) (x ∷ xs) = ap (λ (l : List _). f x ∷ l) (map-take f i xs)
 
 -- as many records as a search may find take 32 megabytes at most
 pub records-fit : (n k w : ℕ) → n ≤ maxAtoms → k ≤ 2 ^ maxBranching → w ≡ recordSize n → k * w ≤ 33554432
 unfolding recordSize
 records-fit n k w h b e = let q : w ≤ 32 = omega arith in omega (arith, mul-le-mul b q)
 
--- when as many records are added as it had room for, they are the part
-pub full : (n : ℕ) (ms : List Interpretation) (hi₀ : ℕ) (part₀ : List ℕ) (lo hi : ℕ) (part : List ℕ) → hi₀ ≡ length ms * recordSize n → length part₀ ≤ hi₀
-    → AddedFor n ms 0 hi₀ part₀ lo hi part → part ≡ flat (map (recordOf n) (sorted n ms))
+-- a part that was all gap, with room for no more records than there are states: it is the least of their records
+pub least-written : (n : ℕ) (ms : List Interpretation) (room hi₀ : ℕ) (part₀ : List ℕ) (lo hi : ℕ) (part : List ℕ) → length part₀ ≡ room * recordSize n → hi₀ ≡ length part₀
+    → room ≤ length ms → LeastFor n ms 0 hi₀ part₀ lo hi part → part ≡ flat (map (recordOf n) (take room (sorted n ms)))
 unfolding sorted
-full n ms hi₀ part₀ lo hi part e h a =
-    let k : length (map (recordOf n) ms) * recordSize n ≡ length ms * recordSize n = ap (λ (x : ℕ). x * recordSize n) (length-map ms (recordOf n)) in
-    let q : lo ≡ hi = omega (arith, a .size, k) in
-    sym (take-append-drop lo part) ∙ ap (λ (x : ℕ). take lo part ++ drop x part) q ∙ a .held [] (held-none (recordSize n) hi₀ part₀ h) .bytes
-    ∙ ap flat (sym (insertAll-map (recordOf n) bytesBefore ms []))
+least-written n ms room hi₀ part₀ lo hi part sized all few a =
+    sym (take-append-drop lo part) ∙ ap (λ (x : ℕ). take lo part ++ drop x part) gap-none ∙ h .bytes
+    ∙ ap (λ (x : List (List ℕ)). flat (take room x)) (sym (insertAll-map (recordOf n) bytesBefore ms [])) ∙ ap flat (sym (map-take (recordOf n) room (insertAll (before n) ms [])))
+  where
+    h : Held (recordSize n) lo hi part (take room (insertAll bytesBefore (map (recordOf n) ms) []))
+    h = a .held room [] sized (held-none (recordSize n) hi₀ part₀ (omega (arith, all)))
+
+    count : length (take room (insertAll bytesBefore (map (recordOf n) ms) [])) ≡ room
+    count = length-take-le room (insertAll bytesBefore (map (recordOf n) ms) []) (omega (arith, few, insertAll-length bytesBefore (map (recordOf n) ms) [], length-map ms (recordOf n)))
+
+    gap-none : lo ≡ hi
+    gap-none = omega (arith, held-length (a .whole) h, ap (λ (x : ℕ). x * recordSize n) count, sized, a .len, a .whole .order, a .whole .fits)
 
 head-and-records : (n : ℕ) (ms : List Interpretation) (k size : ℕ) (rest : List ℕ) → k ≡ length ms → size ≡ 11 + length ms * recordSize n
     → 1 ∷ (be32 size ++ (be16 n ++ (be32 k ++ (flat (map (recordOf n) ms) ++ rest)))) ≡ listingOf n ms ++ rest

@@ -1,23 +1,16 @@
--- States found in any order, and what is written of them: room for their records, their records added, and the states in the
--- order of their records. Assumes nothing.
+-- States found in any order, and what is written of them: the least of their records, and the states in the order of their
+-- records. Assumes nothing.
 use mathlib.Core.Bool.{Bool}
 use mathlib.Core.List.{List, [], map}
-use Prim.Native.Nat.{ℕ, _+_, _*_, _≤_}
-use lib.ListN.{length}
+use Prim.Native.Nat.{ℕ}
 use Rattle.insertion.specs.Sorted.{insertAll}
-use Rattle.insertion.specs.Runs.{bytesBefore, Mult, Added}
+use Rattle.insertion.specs.Runs.{bytesBefore, Least}
 use Rattle.models.specs.StableModels.{Interpretation}
 use Rattle.models.specs.Listing.{recordSize, recordOf}
 
--- the gap has room for the records of these states
-pub record RoomFor (n : ℕ) (ms : List Interpretation) (lo hi : ℕ) (part : List ℕ) : Type 0 where
-  pub fits : hi ≤ length part
-  pub whole : Mult (recordSize n) lo
-  pub room : lo + length ms * recordSize n ≤ hi
-
--- the records of these states are added to those that the part held
-abbrev pub AddedFor : ℕ → List Interpretation → ℕ → ℕ → List ℕ → ℕ → ℕ → List ℕ → Type 0
-AddedFor n ms lo₀ hi₀ part₀ lo hi part = Added (recordSize n) (map (recordOf n) ms) lo₀ hi₀ part₀ lo hi part
+-- of the records that the part held and those of these states, the least that it has room for are held
+abbrev pub LeastFor : ℕ → List Interpretation → ℕ → ℕ → List ℕ → ℕ → ℕ → List ℕ → Type 0
+LeastFor n ms lo₀ hi₀ part₀ lo hi part = Least (recordSize n) (map (recordOf n) ms) lo₀ hi₀ part₀ lo hi part
 
 -- a state comes before another as its record does
 abbrev pub before : ℕ → Interpretation → Interpretation → Bool

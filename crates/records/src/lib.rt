@@ -1,14 +1,15 @@
 // States as records, and the listing's bytes: the records go into a lent part in rising order, the head in front of them.
 ghost use mathlib.Core.Path.{_≡_};
 ghost use mathlib.Core.List.{[], _∷_, _++_};
-ghost use Prim.Native.Nat.{_≤_, _<_};
+ghost use Prim.Native.Nat.{_≤_};
 ghost use lib.ListN.{length, take, drop};
 ghost use Rattle.base.specs.Bounds.{maxAtoms};
 ghost use Rattle.models.specs.StableModels.{atomHolds};
 ghost use Rattle.models.specs.Listing.{bitValue, bitsValue, recordSize, recordOf, be16, be32};
-ghost use Rattle.records.specs.Written.{RoomFor, AddedFor};
+ghost use Rattle.insertion.specs.Runs.{Whole};
+ghost use Rattle.records.specs.Written.{LeastFor};
 use insertion::Gap;
-use insertion::insert;
+use insertion::insert_least;
 use insertion::put_record;
 
 // The bytes of a record of n facts.
@@ -60,14 +61,18 @@ pub fn record_of(m: &[bool]) -> [u8; 32]
     r
 }
 
-// Puts the record of the first n facts in its place among those in the part.
+// Puts the record of the first n facts in its place among those in the part, which keeps the least that it has room for. Where it
+// has room for none, as in a pass that only counts, no record is made.
 pub fn insert_state(state: [bool; 256], n: usize, part: &mut [u8], gap: Gap) -> Gap
-    requires { ⌜ (0 < n) × (n ≤ maxAtoms) × RoomFor n (take n state ∷ []) (gap .lo) (gap .hi) (now part) ⌝ }
-    ensures { λ r. ⌜ AddedFor n (take n state ∷ []) (gap .lo) (gap .hi) (now (part .entry)) (r .lo) (r .hi) (now (part .exit)) ⌝ }
+    requires { ⌜ (n ≤ maxAtoms) × Whole (recordSize n) (gap .lo) (gap .hi) (now part) ⌝ }
+    ensures { λ r. ⌜ LeastFor n (take n state ∷ []) (gap .lo) (gap .hi) (now (part .entry)) (r .lo) (r .hi) (now (part .exit)) ⌝ }
 {
+    if part.len() == 0 {
+        return gap;
+    }
     let r = record_of(&state[0..n]);
     let w = record_size(n);
-    insert(part, gap, &r[0..w])
+    insert_least(part, gap, &r[0..w])
 }
 
 // Writes the listing's head: version, length of the whole listing, n and k.

@@ -2,16 +2,14 @@
 use mathlib.Core.Path.{_≡_, refl, sym, ap, subst, _∙_}
 use mathlib.Core.Bool.{Bool, true, false, false≢true}
 use mathlib.Core.List.{List, [], _∷_, _++_, map, append-assoc, append-nil}
-use Prim.Native.Nat.{ℕ, _+_, _-_, _*_, _≤_, _<_}
-use native.Mathlib.Decide.{decLt}
+use Prim.Native.Nat.{ℕ, _+_, _-_, _≤_, _<_}
 use native.Mathlib.Omega.{arith}
 use borrow.Author.Tests.{lt-ltb, le-ltb}
 use lib.Dec.{ltb}
 use lib.ListN.{length, take, drop}
 use Rattle.base.specs.Lists.{consIf, filter}
-use Rattle.insertion.specs.Runs.{Mult, Added}
-use Rattle.insertion.proofs.RunLaws.{added-none, added-append}
-use Rattle.records.specs.Written.{RoomFor}
+use Rattle.insertion.proofs.LeastLaws.{least-none, least-append}
+use Rattle.records.specs.Written.{LeastFor}
 use Rattle.models.specs.StableModels.{Interpretation, atomHolds}
 use Rattle.models.specs.Listing.{bitValue, recordSize, recordOf}
 use Rattle.search.specs.declared.Goal.the-variants.{First, Settle}
@@ -78,19 +76,7 @@ count-if false m ms = omega arith
 
 module _ (n : ℕ) where
   met-kept : (m : Interpretation) (v : Visit) (p : List ℕ) (v′ : Visit) (p′ : List ℕ) → Met n m v p v′ p′ → Kept n v p → Kept n v′ p′
-  met-kept m v p v′ p′ a k = go (decLt (v .hi) (v .lo + recordSize n))
-    where
-      few : v′ .standing ≤ v′ .count
-      few = omega (arith, a .count, a .standing, k .few, bit-le (atomHolds m (v .atom)))
-
-      go : Dec (v .hi < v .lo + recordSize n) → Kept n v′ p′
-      go (yes h) =
-          let f = a .full h in
-          record { order = omega (arith, f .0, f .1, k .order); fits = subst (λ (q : List ℕ). v′ .hi ≤ length q) (sym (f .2)) (omega (arith, f .1, k .fits)); whole = subst (Mult (recordSize n)) (sym (f .0)) (k .whole); few = few }
-      go (no h) =
-          let b : Added (recordSize n) (recordOf n m ∷ []) (v .lo) (v .hi) p (v′ .lo) (v′ .hi) p′ = a .added (omega arith) in
-          let e : 1 * recordSize n ≡ recordSize n = omega arith in
-          record { order = omega (arith, b .size); fits = b .fits; whole = b .whole; few = few }
+  met-kept m v p v′ p′ a k = record { whole = a .least .whole; few = omega (arith, a .count, a .standing, k .few, bit-le (atomHolds m (v .atom))) }
 
   pub visits-kept : (ms : List Interpretation) (v : Visit) (p : List ℕ) (v′ : Visit) (p′ : List ℕ) → Visits n ms v p v′ p′ → Kept n v p → Kept n v′ p′
   visits-kept l v₀ p₀ v₃ p₃ (done v p) k = k
@@ -112,16 +98,12 @@ module _ (n : ℕ) where
       let h : length (filter (λ m. atomHolds m (u .atom)) xs) ≡ length (filter (λ m. atomHolds m (v .atom)) xs) = ap (λ (f : ℕ). length (filter (λ m. atomHolds m f) xs)) (a .atom) in
       omega (arith, visits-standing xs u q v′ p′ x, a .standing, h, count-if (atomHolds m (v .atom)) m (filter (λ m. atomHolds m (v .atom)) xs))
 
-  -- where the gap has room for them all, the records of all that were met are in the part
-  pub visits-added : (ms : List Interpretation) (v : Visit) (p : List ℕ) (v′ : Visit) (p′ : List ℕ) → Visits n ms v p v′ p′ → Kept n v p
-      → v .lo + length ms * recordSize n ≤ v .hi → Added (recordSize n) (map (recordOf n) ms) (v .lo) (v .hi) p (v′ .lo) (v′ .hi) p′
-  visits-added l v₀ p₀ v₃ p₃ (done v p) k r = added-none (recordSize n) (v .lo) (v .hi) p (k .fits) (k .whole)
-  visits-added l v₀ p₀ v₃ p₃ (next m xs v p u q v′ p′ a x) k r =
-      let e : length (m ∷ xs) * recordSize n ≡ recordSize n + length xs * recordSize n = omega arith in
-      let b : Added (recordSize n) (recordOf n m ∷ []) (v .lo) (v .hi) p (u .lo) (u .hi) q = a .added (omega arith) in
-      let f : 1 * recordSize n ≡ recordSize n = omega arith in
-      added-append (recordSize n) (recordOf n m ∷ []) (map (recordOf n) xs) (v .lo) (v .hi) p (u .lo) (u .hi) q (v′ .lo) (v′ .hi) p′ b
-      (visits-added xs u q v′ p′ x (met-kept m v p u q a k) (omega (arith, b .size, f)))
+  -- of the records held before and of all that were met, the least are held
+  pub visits-least : (ms : List Interpretation) (v : Visit) (p : List ℕ) (v′ : Visit) (p′ : List ℕ) → Visits n ms v p v′ p′ → Kept n v p → LeastFor n ms (v .lo) (v .hi) p (v′ .lo) (v′ .hi) p′
+  visits-least l v₀ p₀ v₃ p₃ (done v p) k = least-none (k .whole)
+  visits-least l v₀ p₀ v₃ p₃ (next m xs v p u q v′ p′ a x) k =
+      least-append (recordSize n) (recordOf n m ∷ []) (map (recordOf n) xs) (v .lo) (v .hi) p (u .lo) (u .hi) q (v′ .lo) (v′ .hi) p′ (a .least)
+      (visits-least xs u q v′ p′ x (met-kept m v p u q a k))
 
 -- whether the goal is reached, as the code tests it
 module _ (v : Visit) where
@@ -143,8 +125,3 @@ pub standing-is : (s : Interpretation) (n f standing x b : ℕ) → x ≡ b → 
 standing-is s n f standing x b e q =
     let z : n - 0 ≡ n = omega arith in
     ap (λ (y : ℕ). standing + y) (e ∙ q ∙ ap (λ (k : ℕ). bitValue (atomHolds (take k s) f) 1) z)
-
-pub room-for : (n w : ℕ) (m : Interpretation) (v : Visit) (part : List ℕ) → w ≡ recordSize n → Kept n v part → w ≤ v .hi - v .lo → RoomFor n (m ∷ []) (v .lo) (v .hi) part
-room-for n w m v part e k h =
-    let q : 1 * recordSize n ≡ recordSize n = omega arith in
-    record { fits = k .fits; whole = k .whole; room = omega (arith, k .order) }

@@ -3,12 +3,12 @@
 use mathlib.Core.Path.{_≡_}
 use mathlib.Core.Bool.{Bool, false, _&&_}
 use mathlib.Core.List.{List, [], _∷_, _++_}
-use Prim.Native.Nat.{ℕ, _+_, _≤_, _<_}
+use Prim.Native.Nat.{ℕ, _+_, _≤_}
 use lib.Dec.{ltb}
-use lib.ListN.{length}
-use Rattle.insertion.specs.Runs.{Mult, Added}
+use Rattle.insertion.specs.Runs.{Whole}
 use Rattle.models.specs.StableModels.{Interpretation, atomHolds}
-use Rattle.models.specs.Listing.{bitValue, recordSize, recordOf}
+use Rattle.models.specs.Listing.{bitValue, recordSize}
+use Rattle.records.specs.Written.{LeastFor}
 use Rattle.search.specs.declared.Goal.{Goal}
 use Rattle.search.specs.declared.Goal.the-variants.{All, First, Settle}
 use Rattle.search.specs.declared.Visit.{Visit}
@@ -24,20 +24,17 @@ stopped v = reaches (v .goal) (v .count) (v .standing)
 
 -- what the counters and the gap have to say of each other before a search and after it
 pub record Kept (n : ℕ) (v : Visit) (part : List ℕ) : Type 0 where
-  pub order : v .lo ≤ v .hi
-  pub fits : v .hi ≤ length part
-  pub whole : Mult (recordSize n) (v .lo)
+  pub whole : Whole (recordSize n) (v .lo) (v .hi) part
   pub few : v .standing ≤ v .count
 
--- One model is met: it is counted, and its record goes into the gap if there is room.
+-- One model is met: it is counted, and of the records held and its own the part keeps the least that it has room for.
 pub record Met (n : ℕ) (m : Interpretation) (v : Visit) (part : List ℕ) (v′ : Visit) (part′ : List ℕ) : Type 0 where
   pub going : stopped v ≡ false
   pub goal : v′ .goal ≡ v .goal
   pub atom : v′ .atom ≡ v .atom
   pub count : v′ .count ≡ v .count + 1
   pub standing : v′ .standing ≡ v .standing + bitValue (atomHolds m (v .atom)) 1
-  pub added : v .lo + recordSize n ≤ v .hi → Added (recordSize n) (recordOf n m ∷ []) (v .lo) (v .hi) part (v′ .lo) (v′ .hi) part′
-  pub full : v .hi < v .lo + recordSize n → (v′ .lo ≡ v .lo) × (v′ .hi ≡ v .hi) × (part′ ≡ part)
+  pub least : LeastFor n (m ∷ []) (v .lo) (v .hi) part (v′ .lo) (v′ .hi) part′
 
 -- These models were met, one after the other.
 pub data Visits (n : ℕ) : List Interpretation → Visit → List ℕ → Visit → List ℕ → Type 0 where

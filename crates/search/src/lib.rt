@@ -16,7 +16,6 @@ use base::wide;
 use insertion::Gap;
 use records::atom_bit;
 use records::insert_state;
-use records::record_size;
 use setting::headed;
 use setting::setting_of;
 use table::atom_holds;
@@ -123,29 +122,18 @@ pub fn model_at(
     }
 }
 
-// A stable model is met: it is counted, and its record goes into the gap where there is room.
+// A stable model is met: it is counted, and the part keeps its record if it is among the least that fit.
 pub fn meet(state: [bool; 256], n: usize, part: &mut [u8], v: Visit) -> Visit
     requires { ⌜ (0 < n) × (n ≤ 256) × Kept n v (now part) × (v .count < 4294967296) × (stopped v ≡ false) ⌝ }
     ensures { λ r. ⌜ Met n (take n state) v (now (part .entry)) r (now (part .exit)) ⌝ }
 {
     let goal = v.goal;
-    let count = v.count + 1;
     let standing = v.standing + wide(atom_bit(&state[0..n], v.atom));
-    if v.hi - v.lo < record_size(n) {
-        return Visit {
-            goal,
-            atom: v.atom,
-            count,
-            standing,
-            lo: v.lo,
-            hi: v.hi,
-        };
-    }
     let gap = insert_state(state, n, part, Gap { lo: v.lo, hi: v.hi });
     Visit {
         goal,
         atom: v.atom,
-        count,
+        count: v.count + 1,
         standing,
         lo: gap.lo,
         hi: gap.hi,
