@@ -34,7 +34,7 @@ use Rattle.passes.proofs.StateLaws.{searched-from, tallied-none, tallie
 unmoved : (n : ℕ) (v : Visit) (p : List ℕ) (v′ : Visit) (p′ : List ℕ) → Visits n [] v p v′ p′ → p′ ≡ p
 unmoved n v₀ p₀ v₃ p₃ (done v p) = refl
 
--- the records of the first model, of a list that has one
+-- a list that is not empty has a first model, and its record
 first-record : (n : ℕ) (ms : List Interpretation) → 0 < length ms → (m : Interpretation) × (take 1 ms ≡ m ∷ []) × (flat (map (recordOf n) (take 1 ms)) ≡ recordOf n m)
 unfolding flat
 first-record n [] h = absurd (omega arith)
@@ -48,6 +48,7 @@ sorted-from n ms m k = go (insertAll-from (before n) ms [] m k)
     go (inl j) = j
     go (inr j) = absurd (List·Memᴰ·not-nil j)
 
+-- a pass from the start, into a part that is all gap
 abbrev pub FirstPass : List ℕ → List ℕ → ℕ → ℕ → Goal → List ℕ → Visit → List ℕ → Type 0
 FirstPass book atoms layer n goal part end part′ =
     Searched n (foundBy (atSetting (programOf book layer) atoms) atoms (settingOf atoms 0)) (record { goal = goal; atom = 0; count = 0; standing = 0; lo = 0; hi = length part }) part end part′
@@ -88,7 +89,7 @@ module _ {book rows overridden atoms : List ℕ} {layer n : ℕ} (w : Searchable
       some = λ e. let h : 0 < end .count = ltb-true 0 (end .count) e in (tallied-some P (w .formed) few t h, one h);
     }
 
-  -- the least model met is one of the stable models
+  -- the least model met, as every one that is met, is stable
   pub one-written : {goal : Goal} {part : List ℕ} {end : Visit} {part′ : List ℕ} → FirstPass book atoms layer n goal part end part′ → length part ≡ recordSize n
       → 0 < end .count → (m : Interpretation) × Chosen P m × (part′ ≡ recordOf n m)
   one-written s sized h =
