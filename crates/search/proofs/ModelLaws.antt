@@ -19,7 +19,7 @@ use Rattle.models.specs.StableModels.{Interpretation, atomHolds, stable, Stable
 use Rattle.models.specs.Branching.{branching, branchingAtoms}
 use Rattle.table.specs.Rows.{rowCount}
 use Rattle.table.specs.Table.{programOf}
-use Rattle.tester.specs.Marks.{Fills}
+use Rattle.filling.specs.Marks.{Fills}
 use Rattle.tester.specs.Masks.{RejectedMasks}
 use Rattle.tester.proofs.SettingMarks.{SettingStart, no-conflict, marks-found}
 use Rattle.insertion.proofs.SortedLaws.{getD-member}

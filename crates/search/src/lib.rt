@@ -13,13 +13,13 @@ ghost use Rattle.setting.specs.RuleMasks.{RuleMasks};
 ghost use Rattle.search.specs.Searchable.{Searchable, Denied};
 ghost use Rattle.search.specs.Decided.{Decided};
 use base::wide;
+use filling::fill;
 use insertion::Gap;
 use records::atom_bit;
 use records::insert_state;
 use setting::headed;
 use setting::setting_of;
 use table::atom_holds;
-use tester::fill;
 use tester::is_stable;
 use tester::rejected_masks;
 

@@ -10,7 +10,7 @@ use Rattle.base.specs.Lists.{all, upTo}
 use Rattle.models.specs.StableModels.{Interpretation, atomHolds}
 use Rattle.base.proofs.Members.{all-at, all-of}
 use Rattle.base.proofs.UpTo.{passed, failed, upTo-lt, upTo-has}
-use Rattle.tester.specs.Marks.{marksAgree}
+use Rattle.tester.specs.Agreement.{marksAgree}
 
 -- a test of all numbers below n, one after the other
 module _ (t : ℕ → Bool) where

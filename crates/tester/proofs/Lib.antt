@@ -1,7 +1,3 @@
-pub mod MarkLaws
-pub mod GrowingLaws
-pub mod FillingLaws
-pub mod WaitingLaws
 pub mod MaskLaws
 pub mod AgreementLaws
 pub mod TestLaws

@@ -20,7 +20,7 @@ use Rattle.table.specs.Names.{literalNamed}
 use Rattle.table.specs.Rows.{headName, rowAt}
 use Rattle.table.proofs.NameLaws.{name-low, name-high, one-name}
 use Rattle.tester.specs.Masks.{Rejection, RejectedMasks, Support, Supported, Others}
-use Rattle.tester.proofs.MarkLaws.{blank, set-only, set-keeps}
+use Rattle.filling.proofs.MarkLaws.{blank, set-only, set-keeps}
 
 -- the mask of a row, as its body decides
 pub mask-none : (c : Bool) (u : ℕ) → u ≡ 0 → 0 ≡ cond c u 0

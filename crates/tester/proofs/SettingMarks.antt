@@ -13,7 +13,7 @@ use Rattle.base.proofs.Members.{_∈_, same-test}
 use Rattle.models.proofs.BranchingLaws.{branch, rejected-same}
 use Rattle.table.specs.Rows.{rowCount}
 use Rattle.table.specs.Table.{Tabulates}
-use Rattle.tester.specs.Marks.{literalMarked, FollowsFrom, from-start, by-row, Conflict, Fills}
+use Rattle.filling.specs.Marks.{literalMarked, FollowsFrom, from-start, by-row, Conflict, Fills}
 use Rattle.tester.specs.Masks.{RejectedMasks}
 use Rattle.tester.proofs.TestLaws.{holds-one, derived-lt, rule-in, in-rule, unrejected-alive, alive-unrejected}
 

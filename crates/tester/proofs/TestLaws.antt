@@ -22,7 +22,8 @@ use Rattle.table.specs.Table.{Tabulates}
 use Rattle.table.proofs.NameLaws.{name-back, complement-twice}
 use Rattle.table.proofs.RowLaws.{row-in, row-of}
 use Rattle.table.proofs.TableLaws.{overrides-heads}
-use Rattle.tester.specs.Marks.{literalMarked, alive, FollowsFrom, from-start, by-row, Conflict, Fills, marksAgree}
+use Rattle.filling.specs.Marks.{literalMarked, alive, FollowsFrom, from-start, by-row, Conflict, Fills}
+use Rattle.tester.specs.Agreement.{marksAgree}
 use Rattle.tester.specs.Masks.{Rejection, RejectedMasks, Support, Supported, Others}
 
 pub holds-one : (m : Interpretation) (f : ℕ) → T (holds m (positive f)) → T (holds m (negative f)) → ⊥

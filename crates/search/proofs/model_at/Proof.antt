@@ -11,7 +11,7 @@ use Rattle.search.proofs.model_at.Reads as reads
 use Rattle.search.proofs.model_at.Lts as lts
 use Rattle.search.proofs.agrees.Reads as agrees-reads
 use Rattle.search.proofs.denied.Reads as denied-reads
-use Rattle.tester.proofs.fill.Reads as fill-reads
+use Rattle.filling.proofs.fill.Reads as fill-reads
 use Rattle.tester.proofs.is_stable.Reads as is-stable-reads
 use Rattle.tester.proofs.rejected_masks.Reads as rejected-masks-reads
 

@@ -1,7 +1,7 @@
 -- The invariant: the atoms passed agree. The atoms left fall.
 use Prim.Native.Nat.{ℕ, _-_, _<_, _≤_}
 use lib.Dec.{T}
-use Rattle.tester.specs.Marks.{marksAgree}
+use Rattle.tester.specs.Agreement.{marksAgree}
 use Rattle.tester.proofs.AgreementLaws.{all-fails, all-more, all-end}
 use borrow.Author.Needs.{needs}
 use native.Mathlib.Omega.{arith}

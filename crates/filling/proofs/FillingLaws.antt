@@ -1,0 +1,152 @@
+-- Two arrays of marks, filled by passes over the rows until nothing is added: what a pass keeps, and that all that follows is
+-- marked at the end. Used by fill. Assumes nothing.
+use mathlib.Core.Path.{_≡_, refl, sym, subst, _∙_}
+use mathlib.Core.Bool.{Bool, true, false, not, _&&_, cond, true≢false}
+use mathlib.Core.List.{List}
+use Prim.Native.Nat.{ℕ, _+_, _-_, _<_, _≤_}
+use native.Mathlib.Decide.{decLt}
+use native.Mathlib.Omega.{arith}
+use lib.Dec.{T}
+use lib.ListN.{length, set, replicate}
+use Rattle.base.specs.Lists.{all}
+use Rattle.format.specs.Book.{Literal, Rule}
+use Rattle.models.specs.StableModels.{atomHolds, complement}
+use Rattle.base.proofs.Members.{and-both, all-of}
+use Rattle.table.specs.Names.{literalNamed}
+use Rattle.table.specs.Rows.{rowCount, headName, rowAt}
+use Rattle.table.proofs.NameLaws.{name-low, name-high}
+use Rattle.table.proofs.RowLaws.{row-of}
+use Rattle.filling.proofs.MarkLaws.{blank}
+use Rattle.filling.proofs.GrowingLaws.{falses, OneMore, one-low, one-high, opposite-free, grown-none, grown-both, grown-one, SoundMarks, grown-sound, head-follows}
+use Rattle.filling.specs.Marks.{literalMarked, alive, adds, FollowsFrom, from-start, by-row, Apart, Conflict, Grown}
+
+module _ (book rows rejects : List ℕ) where
+  -- no row before j adds its head
+  abbrev pub Closed : List Bool → List Bool → ℕ → Type 0
+  Closed p q j = (i : ℕ) → i < j → adds p q rejects (rowAt book rows i) ≡ false
+
+  -- a pass that began with p₀ and q₀ has come to row j
+  pub record Pass (p₀ q₀ p q : List Bool) (added : Bool) (j : ℕ) : Type 0 where
+    pub within : j ≤ rowCount rows
+    pub size : (length p ≡ 256) × (length q ≡ 256)
+    pub grown : Grown book rows rejects p₀ q₀ p q
+    pub fewer : falses p + falses q + cond added 1 0 ≤ falses p₀ + falses q₀
+    pub closed : added ≡ false → Closed p q j
+
+  -- between passes
+  pub record Filling (start p q : List Bool) (added : Bool) : Type 0 where
+    pub held : SoundMarks book rows rejects start p q
+    pub apart : Apart p q
+    pub closed : added ≡ false → Closed p q (rowCount rows)
+
+at-most-one : (x : Bool) → cond x 1 0 ≤ 1
+at-most-one true = omega arith
+at-most-one false = omega arith
+
+forced : (c d : Bool) → (not c && d) ≡ false → T d → T c
+forced true d e t = tt
+forced false d e t = subst T e t
+
+module _ {book rows rejects : List ℕ} where
+  pub pass-start : (p q : List Bool) → (length p ≡ 256) × (length q ≡ 256) → Pass book rows rejects p q p q false 0
+  pass-start p q w = record { within = omega arith; size = w; grown = grown-none p q; fewer = omega arith; closed = λ e i h. absurd (omega arith) }
+
+  pub pass-skip : {p₀ q₀ p q : List Bool} {ad : Bool} {j : ℕ} → Pass book rows rejects p₀ q₀ p q ad j → j < rowCount rows
+      → (r : Bool) → r ≡ adds p q rejects (rowAt book rows j) → r ≡ false → Pass book rows rejects p₀ q₀ p q ad (j + 1)
+  pass-skip {p₀} {q₀} {p} {q} {ad} {j} w h r er n = record {
+    within = omega arith;
+    size = w .size;
+    grown = w .grown;
+    fewer = w .fewer;
+    closed = λ e i b. go e i b (decLt i j);
+  }
+    where
+      go : ad ≡ false → (i : ℕ) → i < j + 1 → Dec (i < j) → adds p q rejects (rowAt book rows i) ≡ false
+      go e i b (yes a) = w .closed e i a
+      go e i b (no a) = subst (λ (x : ℕ). adds p q rejects (rowAt book rows x) ≡ false) {x = j} {y = i} (omega arith) (sym er ∙ n)
+
+  pass-add : {p₀ q₀ p q p′ q′ : List Bool} {ad : Bool} {j : ℕ} → Pass book rows rejects p₀ q₀ p q ad j → j < rowCount rows
+      → adds p q rejects (rowAt book rows j) ≡ true → OneMore p q p′ q′ (rowAt book rows j .head)
+      → literalMarked p q (complement (rowAt book rows j .head)) ≡ false → Pass book rows rejects p₀ q₀ p′ q′ true (j + 1)
+  pass-add {p = p} {q = q} {ad = ad} {j = j} w h a m free = record {
+    within = omega arith;
+    size = (m .size .0 ∙ w .size .0, m .size .1 ∙ w .size .1);
+    grown = grown-both (w .grown) (grown-one p q j h a m free);
+    fewer = omega (arith, w .fewer, m .fewer, at-most-one ad);
+    closed = λ e. absurd (true≢false e);
+  }
+
+  pub filling-more : {start p₀ q₀ p q : List Bool} {a ad : Bool} {j : ℕ} → Filling book rows rejects start p₀ q₀ a → Pass book rows rejects p₀ q₀ p q ad j → rowCount rows ≤ j → Filling book rows rejects start p q ad
+  filling-more v w h = record { held = grown-sound (w .grown) (v .held); apart = w .grown .apart (v .apart); closed = λ e i b. w .closed e i (omega arith) }
+
+  -- the waiting lists go on where a pass has added, so that another pass follows
+  pub filling-grown : {start p₀ q₀ p q : List Bool} {ad : Bool} → Filling book rows rejects start p₀ q₀ ad → ad ≡ true → Grown book rows rejects p₀ q₀ p q → Filling book rows rejects start p q ad
+  filling-grown v t g = record { held = grown-sound g (v .held); apart = g .apart (v .apart); closed = λ e. absurd (true≢false (sym t ∙ e)) }
+
+  -- nothing is added any more: all that follows is marked
+  pub full : {start p q : List Bool} → Filling book rows rejects start p q false → (l : Literal) → FollowsFrom book rows rejects start l → T (literalMarked p q l)
+  unfolding literalMarked adds
+  full w l (from-start f t) = w .held .started f t
+  full {p = p} {q = q} w l (by-row r k a below) =
+      let v : (j : ℕ) × (j < rowCount rows) × (rowAt book rows j ≡ r) = row-of book rows r k in
+      let n : adds p q rejects r ≡ false = subst (λ (x : Rule). adds p q rejects x ≡ false) (v .2) (w .closed refl (v .0) (v .1)) in
+      forced (literalMarked p q (r .head)) (alive rejects r && all (literalMarked p q) (r .body)) n
+      (and-both (alive rejects r) (all (literalMarked p q) (r .body)) a (all-of (literalMarked p q) (r .body) (λ x i. full w x (below x i))))
+
+  pub filling-start : (start : List Bool) → Filling book rows rejects start (replicate 256 false) start true
+  unfolding literalMarked atomHolds complement
+  filling-start start = record {
+    held = record {
+      sound = λ l t. go (l .atom) (l .negated) t;
+      started = λ f t. t;
+    };
+    apart = λ l t u. one (l .atom) (l .negated) t u;
+    closed = λ n. absurd (true≢false n);
+  }
+    where
+      go : (f : ℕ) (c : Bool) → T (literalMarked (replicate 256 false) start (record { atom = f; negated = c })) → FollowsFrom book rows rejects start (record { atom = f; negated = c })
+      go f true t = from-start f t
+      go f false t = absurd (subst T (blank 256 f) t)
+
+      one : (f : ℕ) (c : Bool) → T (literalMarked (replicate 256 false) start (record { atom = f; negated = c })) → T (literalMarked (replicate 256 false) start (record { atom = f; negated = not c })) → ⊥
+      one f true t u = subst T (blank 256 f) u
+      one f false t u = subst T (blank 256 f) t
+
+  -- a fact both ways
+  pub conflict : {start : List Bool} (h : ℕ) → h < 512 → FollowsFrom book rows rejects start (literalNamed h) → FollowsFrom book rows rejects start (complement (literalNamed h)) → Conflict book rows rejects start
+  unfolding complement
+  conflict {start} h b x y = go (decLt h 256)
+    where
+      go : Dec (h < 256) → Conflict book rows rejects start
+      go (yes k) = record {
+        atom = h;
+        bound = k;
+        as-positive = subst (FollowsFrom book rows rejects start) (name-low h k) x;
+        as-negative = subst (λ (l : Literal). FollowsFrom book rows rejects start (complement l)) (name-low h k) y;
+      }
+      go (no k) = record {
+        atom = h - 256;
+        bound = omega arith;
+        as-positive = subst (λ (l : Literal). FollowsFrom book rows rejects start (complement l)) (name-high h (omega arith)) y;
+        as-negative = subst (FollowsFrom book rows rejects start) (name-high h (omega arith)) x;
+      }
+
+  -- as the code has it: the head's name is in a local
+  module _ {start p q : List Bool} where
+    pub head-at : (j : ℕ) → SoundMarks book rows rejects start p q → j < rowCount rows → (r : Bool) → r ≡ adds p q rejects (rowAt book rows j) → r ≡ true → (h : ℕ) → h ≡ headName rows j → FollowsFrom book rows rejects start (literalNamed h)
+    unfolding rowAt
+    head-at j w b r er t h e = subst (λ (x : ℕ). FollowsFrom book rows rejects start (literalNamed x)) (sym e) (head-follows p q j (w .sound) b (sym er ∙ t))
+
+    pub opposite-at : SoundMarks book rows rejects start p q → (h o : ℕ) → literalNamed o ≡ complement (literalNamed h) → (c : Bool) → c ≡ literalMarked p q (literalNamed o) → c ≡ true → FollowsFrom book rows rejects start (complement (literalNamed h))
+    opposite-at w h o e c m t = subst (FollowsFrom book rows rejects start) e (w .sound (literalNamed o) (subst T (sym (sym m ∙ t)) tt))
+
+  module _ {p₀ q₀ p q : List Bool} {ad : Bool} {j : ℕ} (w : Pass book rows rejects p₀ q₀ p q ad j) (b : j < rowCount rows) (r : Bool) (er : r ≡ adds p q rejects (rowAt book rows j)) (t : r ≡ true) (h : ℕ) (e : h ≡ headName rows j)
+      (o : ℕ) (eo : literalNamed o ≡ complement (literalNamed h)) (c : Bool) (ec : c ≡ literalMarked p q (literalNamed o)) (f : c ≡ false) where
+    free : literalMarked p q (complement (rowAt book rows j .head)) ≡ false
+    free = opposite-free book rows rejects p q (w .size) j (sym er ∙ t) h e o eo c ec f
+
+    pub pass-low : h < 256 → Pass book rows rejects p₀ q₀ (set p h true) q true (j + 1)
+    pass-low k = pass-add w b (sym er ∙ t) (one-low book rows rejects p q (w .size) j (sym er ∙ t) h e k) free
+
+    pub pass-high : 256 ≤ h → h < 512 → Pass book rows rejects p₀ q₀ p (set q (h - 256) true) true (j + 1)
+    pass-high k i = pass-add w b (sym er ∙ t) (one-high book rows rejects p q (w .size) j (sym er ∙ t) h e k i) free

@@ -1,0 +1,4 @@
+pub mod MarkLaws
+pub mod GrowingLaws
+pub mod FillingLaws
+pub mod WaitingLaws

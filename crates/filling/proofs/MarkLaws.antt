@@ -1,0 +1,93 @@
+-- Marks of names, of literals of two bytes and of rows, as the code reads them. Assumes nothing.
+use mathlib.Core.Path.{_≡_, refl, sym, ap, subst, _∙_}
+use mathlib.Core.Bool.{Bool, true, false, not, _&&_, cond}
+use mathlib.Core.Logic.{_⊎_, inl, inr}
+use mathlib.Core.List.{List}
+use Prim.Native.Nat.{ℕ, zero, suc, _+_, _*_, _-_, _%_, _/_, _^_, _<_, _≤_}
+use native.Mathlib.Decide.{ℕ-discrete}
+use borrow.Author.Tests.{le-leb, lt-leb, not-true, not-false}
+use lib.Bits.{bitAnd}
+use lib.Dec.{T, eqb}
+use lib.ListN.{length, getD, set, replicate}
+use lib.Seq.{getD-set-same, getD-set-other}
+use Rattle.base.specs.Lists.{all}
+use Rattle.layers.specs.Masks.{bitOf}
+use Rattle.format.specs.Book.{literalOf}
+use Rattle.models.specs.StableModels.{atomHolds}
+use Rattle.layers.proofs.WarshallLaws.{test-bit}
+use Rattle.table.specs.Names.{literalNamed}
+use Rattle.table.specs.Rows.{headName, rowLayer, rowAt}
+use Rattle.table.proofs.NameLaws.{name-low, name-high, name-back}
+use Rattle.filling.specs.Marks.{literalMarked, alive, adds}
+
+-- no mark is set yet
+pub blank : (n i : ℕ) → getD {A = Bool} (replicate n false) i false ≡ false
+blank zero i = refl
+blank (suc n) zero = refl
+blank (suc n) (suc i) = blank n i
+
+-- one array with a mark more
+pub set-only : (p : List Bool) (f g : ℕ) → f < length p → T (atomHolds (set p f true) g) → T (atomHolds p g) ⊎ (g ≡ f)
+unfolding atomHolds
+set-only p f g h t = go (ℕ-discrete g f)
+  where
+    go : Dec (g ≡ f) → T (getD p g false) ⊎ (g ≡ f)
+    go (yes e) = inr e
+    go (no n) = inl (subst T (getD-set-other p f g true false n) t)
+
+pub set-keeps : (p : List Bool) (f g : ℕ) → f < length p → T (atomHolds p g) → T (atomHolds (set p f true) g)
+unfolding atomHolds
+set-keeps p f g h t = go (ℕ-discrete g f)
+  where
+    go : Dec (g ≡ f) → T (getD (set p f true) g false)
+    go (yes e) = subst (λ (x : ℕ). T (getD (set p f true) x false)) (sym e) (subst T (sym (getD-set-same p f true false h)) tt)
+    go (no n) = subst T (sym (getD-set-other p f g true false n)) t
+
+module _ (p q : List Bool) where
+  pub marked-low : (h : ℕ) → h < 256 → atomHolds p h ≡ literalMarked p q (literalNamed h)
+  unfolding literalMarked
+  marked-low h k = ap (literalMarked p q) (sym (name-low h k))
+
+  pub marked-high : (h : ℕ) → 256 ≤ h → atomHolds q (h - 256) ≡ literalMarked p q (literalNamed h)
+  unfolding literalMarked
+  marked-high h k = ap (literalMarked p q) (sym (name-high h k))
+
+  module _ (a b : ℕ) where
+    pub negated-marked : 32768 ≤ a * 256 + b → atomHolds q ((a * 256 + b) % 32768) ≡ literalMarked p q (literalOf a b)
+    unfolding literalMarked literalOf
+    negated-marked h = ap (λ (c : Bool). atomHolds (cond c q p) ((a * 256 + b) % 32768)) (sym (le-leb 32768 (a * 256 + b) h))
+
+    pub plain-marked : a * 256 + b < 32768 → atomHolds p ((a * 256 + b) % 32768) ≡ literalMarked p q (literalOf a b)
+    unfolding literalMarked literalOf
+    plain-marked h = ap (λ (c : Bool). atomHolds (cond c q p) ((a * 256 + b) % 32768)) (sym (lt-leb 32768 (a * 256 + b) h))
+
+module _ (book rows rejects : List ℕ) (j h i : ℕ) (p : h ≡ headName rows j) (q : i ≡ rowLayer rows j) where
+  pub alive-bit : alive rejects (rowAt book rows j) ≡ not (eqb (bitAnd (getD rejects h 0 / 2 ^ i) 1) 1)
+  unfolding alive rowAt
+  alive-bit =
+      ap (λ (x : ℕ). not (eqb (bitOf (getD rejects x 0) (rowLayer rows j)) 1)) (name-back (headName rows j) ∙ sym p)
+      ∙ ap (λ (y : ℕ). not (eqb (bitOf (getD rejects h 0) y) 1)) (sym q)
+      ∙ ap (λ (z : ℕ). not (eqb z 1)) (sym (test-bit (getD rejects h 0) i))
+
+-- the tests of a row, one after the other: its head, whether it is alive, its body
+module _ (p q : List Bool) (book rows rejects : List ℕ) (j h : ℕ) (e : h ≡ headName rows j) (r : Bool) (er : r ≡ literalMarked p q (literalNamed h)) where
+  head-mark : r ≡ literalMarked p q (rowAt book rows j .head)
+  unfolding rowAt
+  head-mark = er ∙ ap (λ (x : ℕ). literalMarked p q (literalNamed x)) e
+
+  pub adds-not : r ≡ true → false ≡ adds p q rejects (rowAt book rows j)
+  unfolding adds
+  adds-not t = ap (λ (c : Bool). not c && (alive rejects (rowAt book rows j) && all (literalMarked p q) (rowAt book rows j .body))) (sym t ∙ head-mark)
+
+  module _ (f : r ≡ false) (a : Bool) (ea : a ≡ alive rejects (rowAt book rows j)) where
+    rest : (a && all (literalMarked p q) (rowAt book rows j .body)) ≡ adds p q rejects (rowAt book rows j)
+    unfolding adds
+    rest =
+        ap (λ (c : Bool). c && all (literalMarked p q) (rowAt book rows j .body)) ea
+        ∙ ap (λ (c : Bool). not c && (alive rejects (rowAt book rows j) && all (literalMarked p q) (rowAt book rows j .body))) (sym f ∙ head-mark)
+
+    pub adds-dead : not a ≡ true → false ≡ adds p q rejects (rowAt book rows j)
+    adds-dead t = ap (λ (c : Bool). c && all (literalMarked p q) (rowAt book rows j .body)) (sym (not-true a t)) ∙ rest
+
+    pub adds-body : not a ≡ false → (b : Bool) → b ≡ all (literalMarked p q) (rowAt book rows j .body) → b ≡ adds p q rejects (rowAt book rows j)
+    adds-body t b eb = eb ∙ ap (λ (c : Bool). c && all (literalMarked p q) (rowAt book rows j .body)) (sym (not-false a t)) ∙ rest

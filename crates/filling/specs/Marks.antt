@@ -1,0 +1,58 @@
+-- Two arrays of marks, reached facts and reached negations, and what filling makes of them. Filling is stated over the rows and
+-- masks that it is handed, not over a book, so that the test and the search share it. Assumes nothing.
+use mathlib.Core.Path.{_≡_}
+use mathlib.Core.Bool.{Bool, true, false, not, _&&_, cond}
+use mathlib.Core.List.{List, List·Memᴰ}
+use Prim.Native.Nat.{ℕ, _<_}
+use lib.Dec.{T, eqb}
+use lib.ListN.{getD}
+use Rattle.base.specs.Bounds.{maxAtoms}
+use Rattle.base.specs.Lists.{all}
+use Rattle.layers.specs.Masks.{bitOf}
+use Rattle.format.specs.Book.{Literal, Rule}
+use Rattle.models.specs.StableModels.{atomHolds, positive, negative, complement}
+use Rattle.table.specs.Names.{nameOf}
+use Rattle.table.specs.Rows.{rowsOf}
+
+-- the mark of a literal: the first array is for facts, the second for negations
+unfoldable pub literalMarked : List Bool → List Bool → Literal → Bool
+literalMarked p q l = atomHolds (cond (l .negated) q p) (l .atom)
+
+-- a rule is alive unless its layer's bit is set in the mask at its head's name
+unfoldable pub alive : List ℕ → Rule → Bool
+alive rejects r = not (eqb (bitOf (getD rejects (nameOf (r .head)) 0) (r .layer)) 1)
+
+-- a rule adds its head: it is not marked, the rule is alive and its body is marked
+unfoldable pub adds : List Bool → List Bool → List ℕ → Rule → Bool
+adds p q rejects r = not (literalMarked p q (r .head)) && (alive rejects r && all (literalMarked p q) (r .body))
+
+-- what follows from the negations of the start by the rows that are alive
+pub data FollowsFrom (book rows rejects : List ℕ) (start : List Bool) : Literal → Type 0 where
+  from-start : (f : ℕ) → T (atomHolds start f) → FollowsFrom book rows rejects start (negative f)
+  by-row : (r : Rule) → List·Memᴰ r (rowsOf book rows) → T (alive rejects r)
+      → ((l : Literal) → List·Memᴰ l (r .body) → FollowsFrom book rows rejects start l) → FollowsFrom book rows rejects start (r .head)
+
+-- no fact is marked both ways
+abbrev pub Apart : List Bool → List Bool → Type 0
+Apart p q = (l : Literal) → T (literalMarked p q l) → T (literalMarked p q (complement l)) → ⊥
+
+-- marks added: none is lost, they follow from every start from which the marks at entry follow, and no fact comes to be marked both ways
+pub record Grown (book rows rejects : List ℕ) (p₀ q₀ p q : List Bool) : Type 0 where
+  pub keeps : (l : Literal) → T (literalMarked p₀ q₀ l) → T (literalMarked p q l)
+  pub sound : (start : List Bool) → ((l : Literal) → T (literalMarked p₀ q₀ l) → FollowsFrom book rows rejects start l)
+      → (l : Literal) → T (literalMarked p q l) → FollowsFrom book rows rejects start l
+  pub apart : Apart p₀ q₀ → Apart p q
+
+-- a fact that follows both ways
+pub record Conflict (book rows rejects : List ℕ) (start : List Bool) : Type 0 where
+  pub atom : ℕ
+  pub bound : atom < maxAtoms
+  pub as-positive : FollowsFrom book rows rejects start (positive atom)
+  pub as-negative : FollowsFrom book rows rejects start (negative atom)
+
+-- the marks are what follows, and no fact is marked both ways; or a conflict was met, and they are part of it
+pub record Fills (book rows rejects : List ℕ) (start p q : List Bool) (conflict : Bool) : Type 0 where
+  pub sound : (l : Literal) → T (literalMarked p q l) → FollowsFrom book rows rejects start l
+  pub full : conflict ≡ false → (l : Literal) → FollowsFrom book rows rejects start l → T (literalMarked p q l)
+  pub apart : conflict ≡ false → Apart p q
+  pub clash : conflict ≡ true → Conflict book rows rejects start

@@ -1,0 +1,327 @@
+// Filling: two arrays of marks, reached facts and reached negations, from the negations of a start until nothing is added. It works on
+// the rows of the table and the masks of the rejected ones, so that the test of a candidate and the search share it.
+ghost use mathlib.Core.Path.{_≡_};
+ghost use Prim.Native.Nat.{_<_, _≤_};
+ghost use lib.ListN.{length};
+ghost use Rattle.base.specs.Lists.{all};
+ghost use Rattle.format.specs.Book.{literalOf, literalsOf};
+ghost use Rattle.table.specs.Names.{literalNamed};
+ghost use Rattle.table.specs.Rows.{rowCount, rowAt, RowsFit};
+ghost use Rattle.filling.specs.Marks.{literalMarked, alive, adds, Grown, Fills};
+use base::wide;
+use base::wide16;
+use table::atom_holds;
+use table::opposite;
+use table::row_head;
+use table::row_layer;
+
+// The mark of a name.
+fn name_marked(positive: &[bool], negative: &[bool], h: usize) -> bool
+    ensures { λ r. ⌜ r ≡ literalMarked (now (positive .entry)) (now (negative .entry)) (literalNamed h) ⌝ }
+{
+    if h < 256 {
+        return atom_holds(positive, h);
+    }
+    atom_holds(negative, h - 256)
+}
+
+// The mark of the literal of two bytes. Both arrays are read, so that the sign is no branch: bodies mix signs as they like.
+fn literal_marked(positive: &[bool], negative: &[bool], a: u8, b: u8) -> bool
+    ensures { λ r. ⌜ r ≡ literalMarked (now (positive .entry)) (now (negative .entry)) (literalOf a b) ⌝ }
+{
+    let v = wide(a) * 256 + wide(b);
+    let fact = atom_holds(positive, v % 32768);
+    let negation = atom_holds(negative, v % 32768);
+    if 32768 <= v {
+        return negation;
+    }
+    fact
+}
+
+// Whether every literal of a body's bytes is marked.
+fn body_marked(positive: &[bool], negative: &[bool], body: &[u8]) -> bool
+    ensures { λ r. ⌜ r ≡ all (literalMarked (now (positive .entry)) (now (negative .entry))) (literalsOf (now (body .entry))) ⌝ }
+{
+    let mut i: usize = 0;
+    while 2 <= body.len() - i {
+        if !literal_marked(positive, negative, body[i], body[i + 1]) {
+            return false;
+        }
+        i += 2;
+    }
+    true
+}
+
+// Whether a row is alive: its layer's bit is not set in the mask at its head's name.
+pub fn row_alive(book: &[u8], rows: &[u16], rejects: &[u32], j: usize) -> bool
+    requires { ⌜ RowsFit (now book) (now rows) ⌝ }
+    requires { ⌜ length (now rejects) ≡ 512 ⌝ }
+    requires { ⌜ j < rowCount (now rows) ⌝ }
+    ensures { λ r. ⌜ r ≡ alive (now (rejects .entry)) (rowAt (now (book .entry)) (now (rows .entry)) j) ⌝ }
+{
+    let h = row_head(rows, j);
+    let layer = row_layer(rows, j);
+    (rejects[h] >> (layer as u32)) & 1 != 1
+}
+
+// Whether a row's body is marked: the body is handed on as a part of the book.
+fn row_marked(book: &[u8], rows: &[u16], positive: &[bool], negative: &[bool], j: usize) -> bool
+    requires { ⌜ RowsFit (now book) (now rows) ⌝ }
+    requires { ⌜ j < rowCount (now rows) ⌝ }
+    ensures { λ r. ⌜ r ≡ all (literalMarked (now (positive .entry)) (now (negative .entry))) (rowAt (now (book .entry)) (now (rows .entry)) j .body) ⌝ }
+{
+    let from = wide16(rows[4 * j]);
+    let to = from + wide16(rows[4 * j + 1]);
+    body_marked(positive, negative, &book[from..to])
+}
+
+// Whether a row adds its head: the head is not marked, the row is alive and its body is marked.
+fn row_adds(
+    book: &[u8],
+    rows: &[u16],
+    rejects: &[u32],
+    positive: &[bool],
+    negative: &[bool],
+    j: usize,
+) -> bool
+    requires { ⌜ RowsFit (now book) (now rows) ⌝ }
+    requires { ⌜ length (now rejects) ≡ 512 ⌝ }
+    requires { ⌜ j < rowCount (now rows) ⌝ }
+    ensures { λ r. ⌜ r ≡ adds (now (positive .entry)) (now (negative .entry)) (now (rejects .entry)) (rowAt (now (book .entry)) (now (rows .entry)) j) ⌝ }
+{
+    if name_marked(positive, negative, row_head(rows, j)) {
+        return false;
+    }
+    if !row_alive(book, rows, rejects, j) {
+        return false;
+    }
+    row_marked(book, rows, positive, negative, j)
+}
+
+// Marks a row's head if the row adds it and the opposite is not marked, and says whether it did.
+fn add_head(
+    book: &[u8],
+    rows: &[u16],
+    rejects: &[u32],
+    positive: &mut [bool],
+    negative: &mut [bool],
+    j: usize,
+) -> bool
+    requires { ⌜ RowsFit (now book) (now rows) ⌝ }
+    requires { ⌜ length (now rejects) ≡ 512 ⌝ }
+    requires { ⌜ (length (now positive) ≡ 256) × (length (now negative) ≡ 256) ⌝ }
+    requires { ⌜ j < rowCount (now rows) ⌝ }
+    ensures { λ _. ⌜ Grown (now (book .entry)) (now (rows .entry)) (now (rejects .entry)) (now (positive .entry)) (now (negative .entry)) (now (positive .exit)) (now (negative .exit)) ⌝ }
+{
+    if !row_adds(book, rows, rejects, positive, negative, j) {
+        return false;
+    }
+    let h = row_head(rows, j);
+    if name_marked(positive, negative, opposite(h)) {
+        return false;
+    }
+    if h < 256 {
+        positive[h] = true;
+        return true;
+    }
+    negative[h - 256] = true;
+    true
+}
+
+// The number of the first literal of a body's bytes, from the one numbered `from` on, that is not marked; past them all, if none is.
+fn first_unmarked(positive: &[bool], negative: &[bool], body: &[u8], from: usize) -> usize {
+    let mut i = from;
+    while i < body.len() / 2 {
+        if !literal_marked(positive, negative, body[2 * i], body[2 * i + 1]) {
+            return i;
+        }
+        i += 1;
+    }
+    i
+}
+
+// The name under which a row waits for the literal of two bytes.
+fn waiting_name(a: u8, b: u8) -> usize
+    ensures { λ r. ⌜ r < 512 ⌝ }
+{
+    if a < 128 {
+        return wide(b);
+    }
+    wide(b) + 256
+}
+
+// Lets a row wait for the first literal of its body that is not marked, and says whether there is one. The search for it goes on
+// from the one that the row waited for last, which `seen` has.
+fn wait(
+    book: &[u8],
+    rows: &[u16],
+    positive: &[bool],
+    negative: &[bool],
+    links: &mut [u16],
+    seen: &mut [u16],
+    j: usize,
+) -> bool
+    requires { ⌜ RowsFit (now book) (now rows) ⌝ }
+    requires { ⌜ (length (now links) ≡ 1536) × (length (now seen) ≡ 1024) ⌝ }
+    requires { ⌜ (j < rowCount (now rows)) × (j < 1024) ⌝ }
+{
+    let from = wide16(rows[4 * j]);
+    let to = from + wide16(rows[4 * j + 1]);
+    let i = first_unmarked(positive, negative, &book[from..to], wide16(seen[j]));
+    if (to - from) / 2 <= i {
+        return false;
+    }
+    let h = waiting_name(book[from + 2 * i], book[from + 2 * i + 1]);
+    seen[j] = i as u16;
+    links[512 + j] = links[h];
+    links[h] = (512 + j) as u16;
+    true
+}
+
+// Tries a row that may still add its head: adds it, or lets the row wait. Says whether it was added.
+fn settle(
+    book: &[u8],
+    rows: &[u16],
+    rejects: &[u32],
+    positive: &mut [bool],
+    negative: &mut [bool],
+    links: &mut [u16],
+    seen: &mut [u16],
+    j: usize,
+) -> bool
+    requires { ⌜ RowsFit (now book) (now rows) ⌝ }
+    requires { ⌜ length (now rejects) ≡ 512 ⌝ }
+    requires { ⌜ (length (now positive) ≡ 256) × (length (now negative) ≡ 256) ⌝ }
+    requires { ⌜ (length (now links) ≡ 1536) × (length (now seen) ≡ 1024) ⌝ }
+    requires { ⌜ (j < rowCount (now rows)) × (j < 1024) ⌝ }
+    ensures { λ _. ⌜ Grown (now (book .entry)) (now (rows .entry)) (now (rejects .entry)) (now (positive .entry)) (now (negative .entry)) (now (positive .exit)) (now (negative .exit)) ⌝ }
+{
+    if name_marked(positive, negative, row_head(rows, j)) {
+        return false;
+    }
+    if !row_alive(book, rows, rejects, j) {
+        return false;
+    }
+    if wait(book, rows, positive, negative, links, seen, j) {
+        return false;
+    }
+    add_head(book, rows, rejects, positive, negative, j)
+}
+
+// Marks more of what follows, by waiting lists: a row waits for the first literal of its body that is not marked, and is tried
+// again when that one is. Only the order of trying is new: what is added is tested on the spot, and the passes of fill still say
+// when nothing is left. `links` leads from a name (0 to 511) to the first row that waits for it and from a row (512 and its
+// number) to the next; 0 ends a list. On the stack `names` are those just marked, `fresh` is the first row not tried yet, `node`
+// the next row of the list in hand. A row waits once a literal, so no lawful book takes all the turns.
+fn propagate(
+    book: &[u8],
+    rows: &[u16],
+    rejects: &[u32],
+    positive: &mut [bool],
+    negative: &mut [bool],
+)
+    requires { ⌜ RowsFit (now book) (now rows) ⌝ }
+    requires { ⌜ length (now rejects) ≡ 512 ⌝ }
+    requires { ⌜ (length (now positive) ≡ 256) × (length (now negative) ≡ 256) ⌝ }
+    ensures { λ _. ⌜ Grown (now (book .entry)) (now (rows .entry)) (now (rejects .entry)) (now (positive .entry)) (now (negative .entry)) (now (positive .exit)) (now (negative .exit)) ⌝ }
+{
+    let count = rows.len() / 4;
+    if 1024 < count {
+        return;
+    }
+    let mut links: [u16; 1536] = [0; 1536];
+    let mut seen: [u16; 1024] = [0; 1024];
+    let mut names: [u16; 512] = [0; 512];
+    let mut top = 0;
+    let mut fresh = 0;
+    let mut node = 0;
+    let mut turns: usize = 20480;
+    while 0 < turns {
+        turns -= 1;
+        if 512 <= node {
+            let j = node - 512;
+            if count <= j {
+                return;
+            }
+            node = wide16(links[node]);
+            if settle(
+                book,
+                rows,
+                rejects,
+                positive,
+                negative,
+                &mut links,
+                &mut seen,
+                j,
+            ) {
+                if top < 512 {
+                    names[top] = row_head(rows, j) as u16;
+                    top += 1;
+                }
+            }
+        } else if 0 < top {
+            top -= 1;
+            node = wide16(links[wide16(names[top]) % 512]);
+        } else if fresh < count {
+            node = 512 + fresh;
+            fresh += 1;
+        } else {
+            return;
+        }
+    }
+}
+
+// Reached facts, reached negations, and whether a fact was reached both ways.
+pub struct Marks {
+    pub positive: [bool; 256],
+    pub negative: [bool; 256],
+    pub conflict: bool,
+}
+
+// The two arrays, filled from the negations of the start until nothing is added, or until a fact is reached both ways. Passes
+// over the rows say when nothing is added. Few books need more than four; where the fourth still adds, waiting lists go on from
+// there.
+pub fn fill(book: &[u8], rows: &[u16], rejects: &[u32], start: [bool; 256]) -> Marks
+    requires { ⌜ RowsFit (now book) (now rows) ⌝ }
+    requires { ⌜ length (now rejects) ≡ 512 ⌝ }
+    ensures { λ r. ⌜ Fills (now (book .entry)) (now (rows .entry)) (now (rejects .entry)) start (r .positive) (r .negative) (r .conflict) ⌝ }
+{
+    let count = rows.len() / 4;
+    let mut positive = [false; 256];
+    let mut negative = start;
+    let mut added = true;
+    let mut plain: usize = 3;
+    while added {
+        added = false;
+        let mut j = 0;
+        while j < count {
+            if row_adds(book, rows, rejects, &positive, &negative, j) {
+                let h = row_head(rows, j);
+                if name_marked(&positive, &negative, opposite(h)) {
+                    return Marks {
+                        positive,
+                        negative,
+                        conflict: true,
+                    };
+                }
+                if h < 256 {
+                    positive[h] = true;
+                } else {
+                    negative[h - 256] = true;
+                }
+                added = true;
+            }
+            j += 1;
+        }
+        if 0 < plain {
+            plain -= 1;
+        } else if added {
+            propagate(book, rows, rejects, &mut positive, &mut negative);
+        }
+    }
+    Marks {
+        positive,
+        negative,
+        conflict: false,
+    }
+}
