@@ -18,7 +18,7 @@ use Rattle.table.proofs.NameLaws.{name-low, name-high}
 use Rattle.table.proofs.RowLaws.{row-of}
 use Rattle.filling.proofs.MarkLaws.{blank}
 use Rattle.filling.proofs.GrowingLaws.{falses, OneMore, one-low, one-high, opposite-free, grown-none, grown-both, grown-one, SoundMarks, grown-sound, head-follows}
-use Rattle.filling.specs.Marks.{literalMarked, alive, adds, FollowsFrom, from-start, by-row, Apart, Conflict, Grown}
+use Rattle.filling.specs.Marks.{literalMarked, alive, adds, FollowsFrom, from-start, by-row, Apart, Conflict, Grown, Fills}
 
 module _ (book rows rejects : List ℕ) where
   -- no row before j adds its head
@@ -33,10 +33,9 @@ module _ (book rows rejects : List ℕ) where
     pub fewer : falses p + falses q + cond added 1 0 ≤ falses p₀ + falses q₀
     pub closed : added ≡ false → Closed p q j
 
-  -- between passes
-  pub record Filling (start p q : List Bool) (added : Bool) : Type 0 where
-    pub held : SoundMarks book rows rejects start p q
-    pub apart : Apart p q
+  -- between passes, the first of which began with p₀ and q₀
+  pub record Filling (p₀ q₀ p q : List Bool) (added : Bool) : Type 0 where
+    pub grown : Grown book rows rejects p₀ q₀ p q
     pub closed : added ≡ false → Closed p q (rowCount rows)
 
 at-most-one : (x : Bool) → cond x 1 0 ≤ 1
@@ -46,6 +45,15 @@ at-most-one false = omega arith
 forced : (c d : Bool) → (not c && d) ≡ false → T d → T c
 forced true d e t = tt
 forced false d e t = subst T e t
+
+-- at the start no fact is marked
+start-apart : (start : List Bool) → Apart (replicate 256 false) start
+unfolding literalMarked atomHolds complement
+start-apart start l t u = one (l .atom) (l .negated) t u
+  where
+    one : (f : ℕ) (c : Bool) → T (literalMarked (replicate 256 false) start (record { atom = f; negated = c })) → T (literalMarked (replicate 256 false) start (record { atom = f; negated = not c })) → ⊥
+    one f true t u = subst T (blank 256 f) u
+    one f false t u = subst T (blank 256 f) t
 
 module _ {book rows rejects : List ℕ} where
   pub pass-start : (p q : List Bool) → (length p ≡ 256) × (length q ≡ 256) → Pass book rows rejects p q p q false 0
@@ -76,41 +84,47 @@ module _ {book rows rejects : List ℕ} where
     closed = λ e. absurd (true≢false e);
   }
 
-  pub filling-more : {start p₀ q₀ p q : List Bool} {a ad : Bool} {j : ℕ} → Filling book rows rejects start p₀ q₀ a → Pass book rows rejects p₀ q₀ p q ad j → rowCount rows ≤ j → Filling book rows rejects start p q ad
-  filling-more v w h = record { held = grown-sound (w .grown) (v .held); apart = w .grown .apart (v .apart); closed = λ e i b. w .closed e i (omega arith) }
+  pub filling-start : (p q : List Bool) → Filling book rows rejects p q p q true
+  filling-start p q = record { grown = grown-none p q; closed = λ n. absurd (true≢false n) }
+
+  pub filling-more : {p₀ q₀ p₁ q₁ p q : List Bool} {a ad : Bool} {j : ℕ} → Filling book rows rejects p₀ q₀ p₁ q₁ a → Pass book rows rejects p₁ q₁ p q ad j → rowCount rows ≤ j → Filling book rows rejects p₀ q₀ p q ad
+  filling-more v w h = record { grown = grown-both (v .grown) (w .grown); closed = λ e i b. w .closed e i (omega arith) }
 
   -- the waiting lists go on where a pass has added, so that another pass follows
-  pub filling-grown : {start p₀ q₀ p q : List Bool} {ad : Bool} → Filling book rows rejects start p₀ q₀ ad → ad ≡ true → Grown book rows rejects p₀ q₀ p q → Filling book rows rejects start p q ad
-  filling-grown v t g = record { held = grown-sound g (v .held); apart = g .apart (v .apart); closed = λ e. absurd (true≢false (sym t ∙ e)) }
+  pub filling-grown : {p₀ q₀ p₁ q₁ p q : List Bool} {ad : Bool} → Filling book rows rejects p₀ q₀ p₁ q₁ ad → ad ≡ true → Grown book rows rejects p₁ q₁ p q → Filling book rows rejects p₀ q₀ p q ad
+  filling-grown v t g = record { grown = grown-both (v .grown) g; closed = λ e. absurd (true≢false (sym t ∙ e)) }
+
+  -- the negations that are assumed follow
+  module _ (start : List Bool) where
+    start-literal : (f : ℕ) (c : Bool) → T (literalMarked (replicate 256 false) start (record { atom = f; negated = c })) → FollowsFrom book rows rejects start (record { atom = f; negated = c })
+    unfolding literalMarked atomHolds
+    start-literal f true t = from-start f t
+    start-literal f false t = absurd (subst T (blank 256 f) t)
+
+    start-sound : SoundMarks book rows rejects start (replicate 256 false) start
+    start-sound = record { sound = λ l t. start-literal (l .atom) (l .negated) t; started = λ f t. t }
+
+  -- what has grown from the start is sound
+  pub from-the-start : {start p q : List Bool} → Grown book rows rejects (replicate 256 false) start p q → SoundMarks book rows rejects start p q
+  from-the-start {start} g = grown-sound g (start-sound start)
 
   -- nothing is added any more: all that follows is marked
-  pub full : {start p q : List Bool} → Filling book rows rejects start p q false → (l : Literal) → FollowsFrom book rows rejects start l → T (literalMarked p q l)
+  full : {start p q : List Bool} → SoundMarks book rows rejects start p q → Closed book rows rejects p q (rowCount rows) → (l : Literal) → FollowsFrom book rows rejects start l → T (literalMarked p q l)
   unfolding literalMarked adds
-  full w l (from-start f t) = w .held .started f t
-  full {p = p} {q = q} w l (by-row r k a below) =
-      let v : (j : ℕ) × (j < rowCount rows) × (rowAt book rows j ≡ r) = row-of book rows r k in
-      let n : adds p q rejects r ≡ false = subst (λ (x : Rule). adds p q rejects x ≡ false) (v .2) (w .closed refl (v .0) (v .1)) in
+  full w k l (from-start f t) = w .started f t
+  full {p = p} {q = q} w k l (by-row r i a below) =
+      let v : (j : ℕ) × (j < rowCount rows) × (rowAt book rows j ≡ r) = row-of book rows r i in
+      let n : adds p q rejects r ≡ false = subst (λ (x : Rule). adds p q rejects x ≡ false) (v .2) (k (v .0) (v .1)) in
       forced (literalMarked p q (r .head)) (alive rejects r && all (literalMarked p q) (r .body)) n
-      (and-both (alive rejects r) (all (literalMarked p q) (r .body)) a (all-of (literalMarked p q) (r .body) (λ x i. full w x (below x i))))
+      (and-both (alive rejects r) (all (literalMarked p q) (r .body)) a (all-of (literalMarked p q) (r .body) (λ x y. full w k x (below x y))))
 
-  pub filling-start : (start : List Bool) → Filling book rows rejects start (replicate 256 false) start true
-  unfolding literalMarked atomHolds complement
-  filling-start start = record {
-    held = record {
-      sound = λ l t. go (l .atom) (l .negated) t;
-      started = λ f t. t;
-    };
-    apart = λ l t u. one (l .atom) (l .negated) t u;
-    closed = λ n. absurd (true≢false n);
+  pub filled : {start p q : List Bool} → Filling book rows rejects (replicate 256 false) start p q false → Fills book rows rejects start p q false
+  filled {start} w = record {
+    sound = from-the-start (w .grown) .sound;
+    full = λ e. full (from-the-start (w .grown)) (w .closed refl);
+    apart = λ e. w .grown .apart (start-apart start);
+    clash = λ e. absurd (true≢false (sym e));
   }
-    where
-      go : (f : ℕ) (c : Bool) → T (literalMarked (replicate 256 false) start (record { atom = f; negated = c })) → FollowsFrom book rows rejects start (record { atom = f; negated = c })
-      go f true t = from-start f t
-      go f false t = absurd (subst T (blank 256 f) t)
-
-      one : (f : ℕ) (c : Bool) → T (literalMarked (replicate 256 false) start (record { atom = f; negated = c })) → T (literalMarked (replicate 256 false) start (record { atom = f; negated = not c })) → ⊥
-      one f true t u = subst T (blank 256 f) u
-      one f false t u = subst T (blank 256 f) t
 
   -- a fact both ways
   pub conflict : {start : List Bool} (h : ℕ) → h < 512 → FollowsFrom book rows rejects start (literalNamed h) → FollowsFrom book rows rejects start (complement (literalNamed h)) → Conflict book rows rejects start

@@ -2,9 +2,10 @@
 use mathlib.Core.Path.{_≡_, refl, sym, ap, subst, _∙_}
 use mathlib.Core.Bool.{Bool, true, false, not, _&&_, cond}
 use mathlib.Core.Logic.{_⊎_, inl, inr}
-use mathlib.Core.List.{List}
+use mathlib.Core.List.{List, [], _∷_}
 use Prim.Native.Nat.{ℕ, zero, suc, _+_, _*_, _-_, _%_, _/_, _^_, _<_, _≤_}
 use native.Mathlib.Decide.{ℕ-discrete}
+use native.Mathlib.Omega.{arith}
 use borrow.Author.Tests.{le-leb, lt-leb, not-true, not-false}
 use lib.Bits.{bitAnd}
 use lib.Dec.{T, eqb}
@@ -12,7 +13,7 @@ use lib.ListN.{length, getD, set, replicate}
 use lib.Seq.{getD-set-same, getD-set-other}
 use Rattle.base.specs.Lists.{all}
 use Rattle.layers.specs.Masks.{bitOf}
-use Rattle.format.specs.Book.{literalOf}
+use Rattle.format.specs.Book.{Literal, literalOf, literalsOf}
 use Rattle.models.specs.StableModels.{atomHolds}
 use Rattle.layers.proofs.WarshallLaws.{test-bit}
 use Rattle.table.specs.Names.{literalNamed}
@@ -91,3 +92,20 @@ module _ (p q : List Bool) (book rows rejects : List ℕ) (j h : ℕ) (e : h ≡
 
     pub adds-body : not a ≡ false → (b : Bool) → b ≡ all (literalMarked p q) (rowAt book rows j .body) → b ≡ adds p q rejects (rowAt book rows j)
     adds-body t b eb = eb ∙ ap (λ (c : Bool). c && all (literalMarked p q) (rowAt book rows j .body)) (sym (not-false a t)) ∙ rest
+
+-- a literal of the bytes that fails a test, by its number
+and-off : (c d : Bool) → false ≡ d → false ≡ (c && d)
+and-off true d e = e
+and-off false d e = refl
+
+pub literal-fails : (t : Literal → Bool) (s : List ℕ) (i : ℕ) → i < length s / 2 → (r : Bool) → r ≡ t (literalOf (getD s (2 * i) 0) (getD s (2 * i + 1) 0)) → not r ≡ true → false ≡ all t (literalsOf s)
+unfolding literalsOf all
+literal-fails t [] i h r e n = absurd (omega arith)
+literal-fails t (a ∷ []) i h r e n = absurd (omega arith)
+literal-fails t (a ∷ b ∷ s) zero h r e n = ap (λ (x : Bool). x && all t (literalsOf s)) (sym (not-true r n) ∙ e)
+literal-fails t (a ∷ b ∷ s) (suc i) h r e n =
+    let two : 2 * suc i ≡ suc (suc (2 * i)) = omega arith in
+    let three : 2 * suc i + 1 ≡ suc (suc (2 * i + 1)) = omega arith in
+    and-off (t (literalOf a b)) (all t (literalsOf s))
+    (literal-fails t s i (omega arith) r
+    (e ∙ ap (λ (x : ℕ). t (literalOf (getD (a ∷ b ∷ s) x 0) (getD (a ∷ b ∷ s) (2 * suc i + 1) 0))) two ∙ ap (λ (x : ℕ). t (literalOf (getD s (2 * i) 0) (getD (a ∷ b ∷ s) x 0))) three) n)

@@ -38,10 +38,15 @@ fn literal_marked(positive: &[bool], negative: &[bool], a: u8, b: u8) -> bool
     fact
 }
 
-// Whether every literal of a body's bytes is marked.
-fn body_marked(positive: &[bool], negative: &[bool], body: &[u8]) -> bool
+// Whether every literal of a body's bytes is marked. The one numbered `watch` is tried first.
+fn body_marked(positive: &[bool], negative: &[bool], body: &[u8], watch: usize) -> bool
     ensures { λ r. ⌜ r ≡ all (literalMarked (now (positive .entry)) (now (negative .entry))) (literalsOf (now (body .entry))) ⌝ }
 {
+    if watch < body.len() / 2 {
+        if !literal_marked(positive, negative, body[2 * watch], body[2 * watch + 1]) {
+            return false;
+        }
+    }
     let mut i: usize = 0;
     while 2 <= body.len() - i {
         if !literal_marked(positive, negative, body[i], body[i + 1]) {
@@ -64,15 +69,31 @@ pub fn row_alive(book: &[u8], rows: &[u16], rejects: &[u32], j: usize) -> bool
     (rejects[h] >> (layer as u32)) & 1 != 1
 }
 
+// The number of the literal that a row watches: the one that kept it from adding its head when it was last asked. Nothing rests on it
+// but speed.
+fn watch_of(watched: &[u16], j: usize) -> usize {
+    if j < watched.len() {
+        return wide16(watched[j]);
+    }
+    0
+}
+
 // Whether a row's body is marked: the body is handed on as a part of the book.
-fn row_marked(book: &[u8], rows: &[u16], positive: &[bool], negative: &[bool], j: usize) -> bool
+fn row_marked(
+    book: &[u8],
+    rows: &[u16],
+    positive: &[bool],
+    negative: &[bool],
+    watched: &[u16],
+    j: usize,
+) -> bool
     requires { ⌜ RowsFit (now book) (now rows) ⌝ }
     requires { ⌜ j < rowCount (now rows) ⌝ }
     ensures { λ r. ⌜ r ≡ all (literalMarked (now (positive .entry)) (now (negative .entry))) (rowAt (now (book .entry)) (now (rows .entry)) j .body) ⌝ }
 {
     let from = wide16(rows[4 * j]);
     let to = from + wide16(rows[4 * j + 1]);
-    body_marked(positive, negative, &book[from..to])
+    body_marked(positive, negative, &book[from..to], watch_of(watched, j))
 }
 
 // Whether a row adds its head: the head is not marked, the row is alive and its body is marked.
@@ -82,6 +103,7 @@ fn row_adds(
     rejects: &[u32],
     positive: &[bool],
     negative: &[bool],
+    watched: &[u16],
     j: usize,
 ) -> bool
     requires { ⌜ RowsFit (now book) (now rows) ⌝ }
@@ -95,7 +117,7 @@ fn row_adds(
     if !row_alive(book, rows, rejects, j) {
         return false;
     }
-    row_marked(book, rows, positive, negative, j)
+    row_marked(book, rows, positive, negative, watched, j)
 }
 
 // Marks a row's head if the row adds it and the opposite is not marked, and says whether it did.
@@ -105,6 +127,7 @@ fn add_head(
     rejects: &[u32],
     positive: &mut [bool],
     negative: &mut [bool],
+    watched: &[u16],
     j: usize,
 ) -> bool
     requires { ⌜ RowsFit (now book) (now rows) ⌝ }
@@ -113,7 +136,7 @@ fn add_head(
     requires { ⌜ j < rowCount (now rows) ⌝ }
     ensures { λ _. ⌜ Grown (now (book .entry)) (now (rows .entry)) (now (rejects .entry)) (now (positive .entry)) (now (negative .entry)) (now (positive .exit)) (now (negative .exit)) ⌝ }
 {
-    if !row_adds(book, rows, rejects, positive, negative, j) {
+    if !row_adds(book, rows, rejects, positive, negative, watched, j) {
         return false;
     }
     let h = row_head(rows, j);
@@ -128,16 +151,32 @@ fn add_head(
     true
 }
 
-// The number of the first literal of a body's bytes, from the one numbered `from` on, that is not marked; past them all, if none is.
-fn first_unmarked(positive: &[bool], negative: &[bool], body: &[u8], from: usize) -> usize {
-    let mut i = from;
-    while i < body.len() / 2 {
+// A number below the count, 0 for what is past it.
+fn in_turn(i: usize, count: usize) -> usize
+    requires { ⌜ 0 < count ⌝ }
+    ensures { λ r. ⌜ r < count ⌝ }
+{
+    if i < count {
+        return i;
+    }
+    0
+}
+
+// The number of a literal of a body's bytes that is not marked, looked for from the one numbered `from` on and then from the first
+// on; past them all, if there is none.
+fn unmarked_from(positive: &[bool], negative: &[bool], body: &[u8], from: usize) -> usize {
+    let count = body.len() / 2;
+    let mut next = from;
+    let mut left = count;
+    while 0 < left {
+        let i = in_turn(next, count);
         if !literal_marked(positive, negative, body[2 * i], body[2 * i + 1]) {
             return i;
         }
-        i += 1;
+        next = i + 1;
+        left -= 1;
     }
-    i
+    count
 }
 
 // The name under which a row waits for the literal of two bytes.
@@ -150,29 +189,29 @@ fn waiting_name(a: u8, b: u8) -> usize
     wide(b) + 256
 }
 
-// Lets a row wait for the first literal of its body that is not marked, and says whether there is one. The search for it goes on
-// from the one that the row waited for last, which `seen` has.
+// Lets a row wait for a literal of its body that is not marked, and says whether there is one. It is looked for from the one on that
+// the row watches, which stays from filling to filling: what kept a row from adding its head at one setting often does at the next.
 fn wait(
     book: &[u8],
     rows: &[u16],
     positive: &[bool],
     negative: &[bool],
     links: &mut [u16],
-    seen: &mut [u16],
+    watched: &mut [u16],
     j: usize,
 ) -> bool
     requires { ⌜ RowsFit (now book) (now rows) ⌝ }
-    requires { ⌜ (length (now links) ≡ 1536) × (length (now seen) ≡ 1024) ⌝ }
+    requires { ⌜ (length (now links) ≡ 1536) × (length (now watched) ≡ 1024) ⌝ }
     requires { ⌜ (j < rowCount (now rows)) × (j < 1024) ⌝ }
 {
     let from = wide16(rows[4 * j]);
     let to = from + wide16(rows[4 * j + 1]);
-    let i = first_unmarked(positive, negative, &book[from..to], wide16(seen[j]));
+    let i = unmarked_from(positive, negative, &book[from..to], wide16(watched[j]));
     if (to - from) / 2 <= i {
         return false;
     }
     let h = waiting_name(book[from + 2 * i], book[from + 2 * i + 1]);
-    seen[j] = i as u16;
+    watched[j] = i as u16;
     links[512 + j] = links[h];
     links[h] = (512 + j) as u16;
     true
@@ -186,13 +225,13 @@ fn settle(
     positive: &mut [bool],
     negative: &mut [bool],
     links: &mut [u16],
-    seen: &mut [u16],
+    watched: &mut [u16],
     j: usize,
 ) -> bool
     requires { ⌜ RowsFit (now book) (now rows) ⌝ }
     requires { ⌜ length (now rejects) ≡ 512 ⌝ }
     requires { ⌜ (length (now positive) ≡ 256) × (length (now negative) ≡ 256) ⌝ }
-    requires { ⌜ (length (now links) ≡ 1536) × (length (now seen) ≡ 1024) ⌝ }
+    requires { ⌜ (length (now links) ≡ 1536) × (length (now watched) ≡ 1024) ⌝ }
     requires { ⌜ (j < rowCount (now rows)) × (j < 1024) ⌝ }
     ensures { λ _. ⌜ Grown (now (book .entry)) (now (rows .entry)) (now (rejects .entry)) (now (positive .entry)) (now (negative .entry)) (now (positive .exit)) (now (negative .exit)) ⌝ }
 {
@@ -202,27 +241,29 @@ fn settle(
     if !row_alive(book, rows, rejects, j) {
         return false;
     }
-    if wait(book, rows, positive, negative, links, seen, j) {
+    if wait(book, rows, positive, negative, links, watched, j) {
         return false;
     }
-    add_head(book, rows, rejects, positive, negative, j)
+    add_head(book, rows, rejects, positive, negative, watched, j)
 }
 
-// Marks more of what follows, by waiting lists: a row waits for the first literal of its body that is not marked, and is tried
-// again when that one is. Only the order of trying is new: what is added is tested on the spot, and the passes of fill still say
-// when nothing is left. `links` leads from a name (0 to 511) to the first row that waits for it and from a row (512 and its
-// number) to the next; 0 ends a list. On the stack `names` are those just marked, `fresh` is the first row not tried yet, `node`
-// the next row of the list in hand. A row waits once a literal, so no lawful book takes all the turns.
+// Marks more of what follows, by waiting lists: a row waits for a literal of its body that is not marked, and is tried again when that one is.
+// Only the order of trying is new: what is added is tested on the spot, and the passes of fill still say when nothing is left.
+// `links` leads from a name (0 to 511) to the first row that waits for it and from a row (512 and its number) to the next; 0 ends a
+// list. On the stack `names` are those just marked, `fresh` is the first row not tried yet, `node` the next row of the list in hand.
+// A row waits once a literal, so no lawful book takes all the turns.
 fn propagate(
     book: &[u8],
     rows: &[u16],
     rejects: &[u32],
     positive: &mut [bool],
     negative: &mut [bool],
+    watched: &mut [u16],
 )
     requires { ⌜ RowsFit (now book) (now rows) ⌝ }
     requires { ⌜ length (now rejects) ≡ 512 ⌝ }
     requires { ⌜ (length (now positive) ≡ 256) × (length (now negative) ≡ 256) ⌝ }
+    requires { ⌜ length (now watched) ≡ 1024 ⌝ }
     ensures { λ _. ⌜ Grown (now (book .entry)) (now (rows .entry)) (now (rejects .entry)) (now (positive .entry)) (now (negative .entry)) (now (positive .exit)) (now (negative .exit)) ⌝ }
 {
     let count = rows.len() / 4;
@@ -230,7 +271,6 @@ fn propagate(
         return;
     }
     let mut links: [u16; 1536] = [0; 1536];
-    let mut seen: [u16; 1024] = [0; 1024];
     let mut names: [u16; 512] = [0; 512];
     let mut top = 0;
     let mut fresh = 0;
@@ -251,7 +291,7 @@ fn propagate(
                 positive,
                 negative,
                 &mut links,
-                &mut seen,
+                watched,
                 j,
             ) {
                 if top < 512 {
@@ -278,24 +318,30 @@ pub struct Marks {
     pub conflict: bool,
 }
 
-// The two arrays, filled from the negations of the start until nothing is added, or until a fact is reached both ways. Passes
-// over the rows say when nothing is added. Few books need more than four; where the fourth still adds, waiting lists go on from
-// there.
-pub fn fill(book: &[u8], rows: &[u16], rejects: &[u32], start: [bool; 256]) -> Marks
+// The two arrays, filled from the negations of the start until nothing is added, or until a fact is reached both ways. Passes over
+// the rows say when nothing is added. Few books need more than two; where the second still adds, waiting lists go on from there.
+pub fn fill(
+    book: &[u8],
+    rows: &[u16],
+    rejects: &[u32],
+    start: [bool; 256],
+    watched: &mut [u16],
+) -> Marks
     requires { ⌜ RowsFit (now book) (now rows) ⌝ }
     requires { ⌜ length (now rejects) ≡ 512 ⌝ }
+    requires { ⌜ length (now watched) ≡ 1024 ⌝ }
     ensures { λ r. ⌜ Fills (now (book .entry)) (now (rows .entry)) (now (rejects .entry)) start (r .positive) (r .negative) (r .conflict) ⌝ }
 {
     let count = rows.len() / 4;
     let mut positive = [false; 256];
     let mut negative = start;
     let mut added = true;
-    let mut plain: usize = 3;
+    let mut first = true;
     while added {
         added = false;
         let mut j = 0;
         while j < count {
-            if row_adds(book, rows, rejects, &positive, &negative, j) {
+            if row_adds(book, rows, rejects, &positive, &negative, watched, j) {
                 let h = row_head(rows, j);
                 if name_marked(&positive, &negative, opposite(h)) {
                     return Marks {
@@ -313,10 +359,10 @@ pub fn fill(book: &[u8], rows: &[u16], rejects: &[u32], start: [bool; 256]) -> M
             }
             j += 1;
         }
-        if 0 < plain {
-            plain -= 1;
+        if first {
+            first = false;
         } else if added {
-            propagate(book, rows, rejects, &mut positive, &mut negative);
+            propagate(book, rows, rejects, &mut positive, &mut negative, watched);
         }
     }
     Marks {

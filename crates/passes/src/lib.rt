@@ -5,12 +5,13 @@ ghost use mathlib.Core.List.{map};
 ghost use Prim.Native.Nat.{_*_, _≤_};
 ghost use lib.ListN.{length};
 ghost use Rattle.base.specs.Lists.{flat};
+ghost use Rattle.insertion.specs.Runs.{Mult};
 ghost use Rattle.models.specs.Listing.{stableModels, recordSize, recordOf};
 ghost use Rattle.table.specs.Table.{programOf};
 ghost use Rattle.setting.specs.RuleMasks.{RuleMasks};
 ghost use Rattle.search.specs.Searchable.{Searchable};
 ghost use Rattle.passes.specs.First.{FirstWritten};
-ghost use Rattle.passes.specs.Tallied.{Tallied};
+ghost use Rattle.passes.specs.Tallied.{Passed, Tallied};
 use search::Goal;
 use search::Visit;
 use search::search;
@@ -18,6 +19,51 @@ use search::search;
 pub struct Counts {
     pub count: usize,
     pub standing: usize,
+}
+
+// One pass of the search: no fact is decided at first, nothing is met, and the whole part is a gap for the records.
+fn pass(
+    book: &[u8],
+    layer: usize,
+    rows: &[u16],
+    overridden: &[u32],
+    masks: &[u32],
+    atoms: &[u8],
+    n: usize,
+    goal: Goal,
+    atom: usize,
+    part: &mut [u8],
+) -> Visit
+    requires { ⌜ Searchable (now book) (now rows) (now overridden) (now atoms) layer n ⌝ }
+    requires { ⌜ RuleMasks (now book) (now rows) (now atoms) (now masks) ⌝ }
+    requires { ⌜ Mult (recordSize n) (length (now part)) ⌝ }
+    ensures { λ r. ⌜ Passed (programOf (now (book .entry)) layer) (now (atoms .entry)) n goal atom (now (part .entry)) r (now (part .exit)) ⌝ }
+{
+    let room = part.len();
+    let mut watched: [u16; 1024] = [0; 1024];
+    let v = Visit {
+        goal,
+        atom,
+        count: 0,
+        standing: 0,
+        lo: 0,
+        hi: room,
+    };
+    search(
+        book,
+        layer,
+        rows,
+        overridden,
+        masks,
+        atoms,
+        atoms,
+        n,
+        0,
+        0,
+        &mut watched,
+        part,
+        v,
+    )
 }
 
 // Counts the stable models, and those in which an atom holds, until the goal is reached.
@@ -37,27 +83,17 @@ pub fn tally(
     ensures { λ r. ⌜ Tallied (programOf (now (book .entry)) layer) goal atom (r .count) (r .standing) ⌝ }
 {
     let mut none: [u8; 0] = [];
-    let v = Visit {
-        goal,
-        atom,
-        count: 0,
-        standing: 0,
-        lo: 0,
-        hi: 0,
-    };
-    let end = search(
+    let end = pass(
         book,
         layer,
         rows,
         overridden,
         masks,
         atoms,
-        atoms,
         n,
-        0,
-        0,
+        goal,
+        atom,
         &mut none,
-        v,
     );
     Counts {
         count: end.count,
@@ -81,28 +117,17 @@ pub fn write_all(
     requires { ⌜ length (now part) ≡ length (stableModels (programOf (now book) layer)) * recordSize n ⌝ }
     ensures { λ _. ⌜ now (part .exit) ≡ flat (map (recordOf n) (stableModels (programOf (now (book .entry)) layer))) ⌝ }
 {
-    let room = part.len();
-    let v = Visit {
-        goal: Goal::All,
-        atom: 0,
-        count: 0,
-        standing: 0,
-        lo: 0,
-        hi: room,
-    };
-    search(
+    pass(
         book,
         layer,
         rows,
         overridden,
         masks,
         atoms,
-        atoms,
         n,
-        0,
+        Goal::All,
         0,
         part,
-        v,
     );
 }
 
@@ -122,28 +147,17 @@ pub fn write_first(
     requires { ⌜ length (now part) ≡ recordSize n ⌝ }
     ensures { λ r. ⌜ FirstWritten (programOf (now (book .entry)) layer) n (now (part .entry)) r (now (part .exit)) ⌝ }
 {
-    let size = part.len();
-    let v = Visit {
-        goal: Goal::First,
-        atom: 0,
-        count: 0,
-        standing: 0,
-        lo: 0,
-        hi: size,
-    };
-    let end = search(
+    let end = pass(
         book,
         layer,
         rows,
         overridden,
         masks,
         atoms,
-        atoms,
         n,
-        0,
+        Goal::First,
         0,
         part,
-        v,
     );
     0 < end.count
 }

@@ -1,30 +1,34 @@
 -- The stable model of a setting, as the code finds it: the start that the setting gives, agreement with it, and that what is
--- filled is the only state that can be stable there. Used by denied, agrees and model_at. Assumes nothing.
+-- filled is the only state that can be stable there. Used by denied, undisputed, covers, agrees, model_from and model_at. Assumes
+-- nothing.
 use mathlib.Core.Path.{_≡_, refl, sym, ap, subst, _∙_}
 use mathlib.Core.Logic.{_⊎_, inl, inr}
-use mathlib.Core.Bool.{Bool, true, false, not, _&&_, Bool·beq, false≢true}
+use mathlib.Core.Bool.{Bool, true, false, not, _&&_, Bool·beq, true≢false, false≢true}
 use mathlib.Core.List.{List, [], _∷_, List·Memᴰ·cases-cons, List·Memᴰ·not-nil}
 use Prim.Native.Nat.{ℕ, zero, suc, _+_, _-_, _<_, _≤_}
 use native.Mathlib.Decide.{decLt, ℕ-discrete}
 use native.Mathlib.Numerals.{add-one}
 use native.Mathlib.Omega.{arith}
+use borrow.Author.Tests.{not-true, not-false}
 use lib.Dec.{T}
 use lib.ListN.{length, getD, set, take, drop, length-set, replicate, length-replicate, drop-of-length-le}
 use lib.Seq.{drop-cons, ext-getD, getD-set-same, getD-set-other, getD-take, length-take-le}
 use Rattle.base.specs.Lists.{consIf, all, upTo}
-use Rattle.base.proofs.Members.{_∈_, filter-from}
-use Rattle.base.proofs.UpTo.{upTo-lt}
+use Rattle.base.proofs.Members.{_∈_, all-at, filter-from}
+use Rattle.base.proofs.UpTo.{passed, upTo-lt}
 use Rattle.models.specs.Program.{Program}
 use Rattle.models.specs.StableModels.{Interpretation, atomHolds, stable, StableModel}
 use Rattle.models.specs.Branching.{branching, branchingAtoms}
 use Rattle.table.specs.Rows.{rowCount}
 use Rattle.table.specs.Table.{programOf}
 use Rattle.filling.specs.Marks.{Fills}
-use Rattle.tester.specs.Masks.{RejectedMasks}
+use Rattle.tester.specs.Masks.{RejectedMasks, Uncontested}
+use Rattle.tester.proofs.TestLaws.{beq-same}
+use Rattle.tester.proofs.UncontestedLaws.{fills-wider, uncontested-stable}
 use Rattle.tester.proofs.SettingMarks.{SettingStart, no-conflict, marks-found}
 use Rattle.insertion.proofs.SortedLaws.{getD-member}
 use Rattle.search.specs.Found.{agreeOn, fits, atSetting}
-use Rattle.search.specs.Searchable.{Searchable, Denied}
+use Rattle.search.specs.Searchable.{Searchable, Denied, Undisputed, Covered}
 use Rattle.search.proofs.FoundLaws.{branching-listed, setting-is, setting-none}
 
 -- ---- the start
@@ -97,6 +101,45 @@ denied-end atoms setting i start w h = record {
       let q = index-of atoms f k in
       subst (λ (x : ℕ). T (atomHolds start x)) (q .2) (w .full (q .0) (omega (arith, q .1)) (subst (λ (x : ℕ). T (not (atomHolds setting x))) (sym (q .2)) t));
 }
+
+-- ---- the undisputed part of the start, and what covers the rest
+pub undisputed-start : (rejects : List ℕ) (start : List Bool) → Undisputed rejects start (replicate {A = Bool} 256 false)
+unfolding atomHolds
+undisputed-start rejects start = record { among = λ f t. absurd (subst T (none 256 f) t); clear = λ f t. absurd (subst T (none 256 f) t) }
+
+pub undisputed-more : {rejects : List ℕ} {start assumed : List Bool} → Undisputed rejects start assumed → length assumed ≡ 256 → (f : ℕ) → f < 256 → getD rejects f 0 ≡ 0 → Undisputed rejects start (set assumed f (getD start f false))
+unfolding atomHolds
+undisputed-more {rejects} {start} {assumed} w e f b z = record {
+  among = λ g t. among-at g (ℕ-discrete g f) t;
+  clear = λ g t. clear-at g (ℕ-discrete g f) t;
+}
+  where
+    other : (g : ℕ) → (g ≡ f → ⊥) → T (getD (set assumed f (getD start f false)) g false) → T (getD assumed g false)
+    other g n t = subst T (getD-set-other assumed f g (getD start f false) false n) t
+
+    among-at : (g : ℕ) → Dec (g ≡ f) → T (getD (set assumed f (getD start f false)) g false) → T (getD start g false)
+    among-at g (no n) t = w .among g (other g n t)
+    among-at g (yes q) t =
+        subst (λ (x : ℕ). T (getD start x false)) (sym q)
+        (subst T (getD-set-same assumed f (getD start f false) false (omega arith)) (subst (λ (x : ℕ). T (getD (set assumed f (getD start f false)) x false)) q t))
+
+    clear-at : (g : ℕ) → Dec (g ≡ f) → T (getD (set assumed f (getD start f false)) g false) → getD rejects g 0 ≡ 0
+    clear-at g (no n) t = w .clear g (other g n t)
+    clear-at g (yes q) t = ap (λ (x : ℕ). getD rejects x 0) q ∙ z
+
+module _ (atoms : List ℕ) (start q : List Bool) where
+  -- one atom on, where the atom is marked or not of the start
+  pub covered-more : {i : ℕ} → Covered atoms start q i → (f : ℕ) → f ≡ getD atoms i 0 → (T (atomHolds start f) → T (atomHolds q f)) → Covered atoms start q (i + 1)
+  covered-more {i} w f e k j b = go (decLt j i)
+    where
+      go : Dec (j < i) → T (atomHolds start (getD atoms j 0)) → T (atomHolds q (getD atoms j 0))
+      go (yes y) = w j y
+      go (no y) = let z : f ≡ getD atoms j 0 = e ∙ ap (λ (x : ℕ). getD atoms x 0) {x = i} {y = j} (omega arith) in subst (λ (x : ℕ). T (atomHolds start x) → T (atomHolds q x)) z k
+
+  pub covered-start : {o : Interpretation} → Denied atoms o start → Covered atoms start q (length atoms) → (f : ℕ) → T (atomHolds start f) → T (atomHolds q f)
+  covered-start d k f t =
+      let x = index-of atoms f (d .sound f t .0) in
+      subst (λ (y : ℕ). T (atomHolds q y)) (x .2) (k (x .0) (x .1) (subst (λ (y : ℕ). T (atomHolds start y)) (sym (x .2)) t))
 
 -- ---- agreement
 module _ (atoms : List ℕ) (m o : Interpretation) where
@@ -211,3 +254,48 @@ module _ {book rows overridden atoms : List ℕ} {layer n : ℕ} (w : Searchable
 
     pub state-size : length (take (n - 0) (drop 0 p)) ≡ n
     state-size = ap length cut ∙ length-take-le n p (omega (arith, w .few))
+
+-- ---- the model, from the undisputed part of the start
+module _ {book rows overridden atoms : List ℕ} {layer n : ℕ} (w : Searchable book rows overridden atoms layer n) (o : Interpretation)
+    (rejects : List ℕ) (g : RejectedMasks book rows overridden o rejects (rowCount rows)) (start : List Bool) (d : Denied atoms o start)
+    (assumed : List Bool) (u : Undisputed rejects start assumed) (p q : List Bool) (c : Bool) (filled : Fills book rows rejects assumed p q c) where
+  pub conflict-fills : c ≡ true → Fills book rows rejects start p q c
+  conflict-fills e = fills-wider (u .among) filled (λ f. absurd (true≢false (sym e ∙ f)))
+
+  module _ (k : Bool) (ek : k ≡ true → Covered atoms start q (length atoms)) (tk : not k ≡ false) where
+    over : (f : ℕ) → T (atomHolds start f) → T (atomHolds q f)
+    over = covered-start atoms start q d (ek (not-false k tk))
+
+    pub covered-fills : Fills book rows rejects start p q c
+    covered-fills = fills-wider (u .among) filled (λ e. over)
+
+    pub model-uncontested : (l : length p ≡ 256) (e : c ≡ false) (a : Bool) → a ≡ agreeOn atoms (take (n - 0) (drop 0 p)) o → not a ≡ false
+        → (r : Bool) → (r ≡ false → Uncontested book rows rejects (take (n - 0) (drop 0 p)) q (rowCount rows)) → not r ≡ true → atSetting (programOf book layer) atoms o ≡ consIf true (take n p) []
+    unfolding agreeOn atomHolds
+    model-uncontested l e a ea t r er tr =
+        model-tested w o rejects g start d p q c covered-fills l e a ea t true (sym (passed (stable P (take (n - 0) (drop 0 p))) (subst (λ (x : Interpretation). T (stable P x)) (sym cut) found)))
+      where
+        P : Program
+        P = programOf book layer
+
+        cut : take (n - 0) (drop 0 p) ≡ take n p
+        cut = let z : n - 0 ≡ n = omega arith in ap (λ (k : ℕ). take k p) z
+
+        size : length (take n p) ≡ P .atoms
+        size = length-take-le n p (omega (arith, w .few)) ∙ w .size
+
+        agrees-all : T (agreeOn atoms (take n p) o)
+        agrees-all = subst T (sym (ap (λ (s : List Bool). agreeOn atoms s o) (sym cut) ∙ sym ea ∙ not-false a t)) tt
+
+        same-on : (f : ℕ) → T (branching P f) → atomHolds (take n p) f ≡ atomHolds o f
+        same-on f b =
+            beq-same (atomHolds (take n p) f) (atomHolds o f)
+            (all-at (λ g. Bool·beq (atomHolds (take n p) g) (atomHolds o g)) agrees-all (subst (λ (l : List ℕ). f ∈ l) (sym (w .listed)) (branching-listed P (w .formed) f b)))
+
+        kept : (f : ℕ) → f < P .atoms → atomHolds (take n p) f ≡ atomHolds p f
+        kept f h = getD-take n p f false (subst (λ (k : ℕ). f < k) (sym (w .size)) h)
+
+        found : T (stable P (take n p))
+        found =
+            uncontested-stable (w .formed) (w .table) g (setting-start w o rejects g start d p q c covered-fills) (u .among) (u .clear) filled e over (take n p) size kept same-on
+            (subst (λ (x : Interpretation). Uncontested book rows rejects x q (rowCount rows)) cut (er (not-true r tr)))

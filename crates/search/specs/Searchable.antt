@@ -1,10 +1,11 @@
--- What is worked out once a call, before the search: the table of the rules and the branching facts. Assumes nothing.
+-- What is worked out once a call, before the search: the table of the rules and the branching facts; and what a setting of these
+-- assumes. Assumes nothing.
 use mathlib.Core.Path.{_≡_}
 use mathlib.Core.Bool.{Bool, not}
 use mathlib.Core.List.{List, List·Memᴰ}
 use Prim.Native.Nat.{ℕ, _<_, _≤_}
 use lib.Dec.{T}
-use lib.ListN.{length}
+use lib.ListN.{length, getD}
 use Rattle.base.specs.Bounds.{maxAtoms, maxRules, maxBranching}
 use Rattle.models.specs.StableModels.{Interpretation, atomHolds, WellFormed}
 use Rattle.models.specs.Branching.{branchingAtoms}
@@ -25,3 +26,12 @@ pub record Searchable (book rows overridden atoms : List ℕ) (layer n : ℕ) : 
 pub record Denied (atoms : List ℕ) (setting : Interpretation) (start : List Bool) : Type 0 where
   pub sound : (f : ℕ) → T (atomHolds start f) → List·Memᴰ f atoms × T (not (atomHolds setting f))
   pub full : (f : ℕ) → List·Memᴰ f atoms → T (not (atomHolds setting f)) → T (atomHolds start f)
+
+-- of the start, those of whose facts no rule is rejected
+pub record Undisputed (rejects : List ℕ) (start assumed : List Bool) : Type 0 where
+  pub among : (f : ℕ) → T (atomHolds assumed f) → T (atomHolds start f)
+  pub clear : (f : ℕ) → T (atomHolds assumed f) → getD rejects f 0 ≡ 0
+
+-- of the first n atoms, those that the start has are marked
+abbrev pub Covered : List ℕ → List Bool → List Bool → ℕ → Type 0
+Covered atoms start q n = (i : ℕ) → i < n → T (atomHolds start (getD atoms i 0)) → T (atomHolds q (getD atoms i 0))

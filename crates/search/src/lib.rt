@@ -7,10 +7,12 @@ ghost use lib.ListN.{length, take};
 ghost use Rattle.base.specs.Lists.{consIf};
 ghost use Rattle.search.specs.Found.{agreeOn, atSetting, foundBy};
 ghost use Rattle.search.specs.Visits.{stopped, Kept, Met, Searched};
+ghost use Rattle.table.specs.Rows.{rowCount};
 ghost use Rattle.table.specs.Table.{programOf};
+ghost use Rattle.tester.specs.Masks.{RejectedMasks};
 ghost use Rattle.setting.specs.Setting.{settingOf};
 ghost use Rattle.setting.specs.RuleMasks.{RuleMasks};
-ghost use Rattle.search.specs.Searchable.{Searchable, Denied};
+ghost use Rattle.search.specs.Searchable.{Searchable, Denied, Undisputed, Covered};
 ghost use Rattle.search.specs.Decided.{Decided};
 use base::wide;
 use filling::fill;
@@ -20,6 +22,7 @@ use records::insert_state;
 use setting::headed;
 use setting::setting_of;
 use table::atom_holds;
+use tester::contested;
 use tester::is_stable;
 use tester::rejected_masks;
 
@@ -78,6 +81,40 @@ fn denied(atoms: &[u8], setting: [bool; 256]) -> [bool; 256]
     start
 }
 
+// Of the negations of a start, those of whose facts no rule is rejected: they are defaults in whatever the filling leads to.
+fn undisputed(atoms: &[u8], start: [bool; 256], rejects: &[u32]) -> [bool; 256]
+    requires { ⌜ length (now rejects) ≡ 512 ⌝ }
+    ensures { λ r. ⌜ Undisputed (now (rejects .entry)) start r ⌝ }
+{
+    let mut assumed = [false; 256];
+    let mut i = 0;
+    while i < atoms.len() {
+        let f = wide(atoms[i]);
+        if rejects[f] == 0 {
+            assumed[f] = start[f];
+        }
+        i += 1;
+    }
+    assumed
+}
+
+// Whether all branching facts of the start are marked.
+fn covers(atoms: &[u8], start: &[bool], negative: &[bool]) -> bool
+    ensures { λ r. ⌜ (r ≡ true → Covered (now (atoms .entry)) (now (start .entry)) (now (negative .entry)) (length (now (atoms .entry)))) ⌝ }
+{
+    let mut i = 0;
+    while i < atoms.len() {
+        let f = wide(atoms[i]);
+        if atom_holds(start, f) {
+            if !atom_holds(negative, f) {
+                return false;
+            }
+        }
+        i += 1;
+    }
+    true
+}
+
 // Whether a state gives the branching facts as the setting does.
 fn agrees(atoms: &[u8], state: &[bool], setting: &[bool]) -> bool
     ensures { λ r. ⌜ r ≡ agreeOn (now (atoms .entry)) (now (state .entry)) (now (setting .entry)) ⌝ }
@@ -93,8 +130,43 @@ fn agrees(atoms: &[u8], state: &[bool], setting: &[bool]) -> bool
     true
 }
 
-// The stable model of a setting, if there is one. What follows from the setting is the only state that can be; it has to
-// agree with the setting, or it would be found under two settings, and to pass the test.
+// The stable model of a setting, if there is one, from all that the setting denies. What follows is the only state that can be; it
+// has to agree with the setting, or it would be found under two settings, and to pass the test.
+fn model_from(
+    book: &[u8],
+    layer: usize,
+    rows: &[u16],
+    overridden: &[u32],
+    rejects: &[u32],
+    atoms: &[u8],
+    n: usize,
+    setting: [bool; 256],
+    start: [bool; 256],
+    watched: &mut [u16],
+) -> Found
+    requires { ⌜ Searchable (now book) (now rows) (now overridden) (now atoms) layer n ⌝ }
+    requires { ⌜ RejectedMasks (now book) (now rows) (now overridden) setting (now rejects) (rowCount (now rows)) ⌝ }
+    requires { ⌜ Denied (now atoms) setting start ⌝ }
+    requires { ⌜ length (now watched) ≡ 1024 ⌝ }
+    ensures { λ r. ⌜ atSetting (programOf (now (book .entry)) layer) (now (atoms .entry)) setting ≡ consIf (r .ok) (take n (r .state)) [] ⌝ }
+{
+    let marks = fill(book, rows, rejects, start, watched);
+    let state = marks.positive;
+    if marks.conflict {
+        return Found { ok: false, state };
+    }
+    if !agrees(atoms, &state[0..n], &setting) {
+        return Found { ok: false, state };
+    }
+    Found {
+        ok: is_stable(book, rows, overridden, layer, &state[0..n], n),
+        state,
+    }
+}
+
+// The stable model of a setting, if there is one. Filling starts from the undisputed part of what the setting denies. Where that
+// comes to mark the rest, what follows is the only state that can be, and where no rejected rule is contested it needs no further
+// test.
 pub fn model_at(
     book: &[u8],
     layer: usize,
@@ -103,18 +175,44 @@ pub fn model_at(
     atoms: &[u8],
     n: usize,
     setting: [bool; 256],
+    watched: &mut [u16],
 ) -> Found
     requires { ⌜ Searchable (now book) (now rows) (now overridden) (now atoms) layer n ⌝ }
+    requires { ⌜ length (now watched) ≡ 1024 ⌝ }
     ensures { λ r. ⌜ atSetting (programOf (now (book .entry)) layer) (now (atoms .entry)) setting ≡ consIf (r .ok) (take n (r .state)) [] ⌝ }
 {
     let rejects = rejected_masks(book, rows, overridden, &setting);
-    let marks = fill(book, rows, &rejects, denied(atoms, setting));
+    let start = denied(atoms, setting);
+    let marks = fill(
+        book,
+        rows,
+        &rejects,
+        undisputed(atoms, start, &rejects),
+        watched,
+    );
     let state = marks.positive;
     if marks.conflict {
         return Found { ok: false, state };
     }
+    if !covers(atoms, &start, &marks.negative) {
+        return model_from(
+            book,
+            layer,
+            rows,
+            overridden,
+            &rejects,
+            atoms,
+            n,
+            setting,
+            start,
+            watched,
+        );
+    }
     if !agrees(atoms, &state[0..n], &setting) {
         return Found { ok: false, state };
+    }
+    if !contested(book, rows, &rejects, &state[0..n], &marks.negative) {
+        return Found { ok: true, state };
     }
     Found {
         ok: is_stable(book, rows, overridden, layer, &state[0..n], n),
@@ -149,10 +247,12 @@ pub fn visit_setting(
     atoms: &[u8],
     n: usize,
     standing: u32,
+    watched: &mut [u16],
     part: &mut [u8],
     v: Visit,
 ) -> Visit
     requires { ⌜ Searchable (now book) (now rows) (now overridden) (now atoms) layer n × Kept n v (now part) × (v .count < 4294967296) × (stopped v ≡ false) ⌝ }
+    requires { ⌜ length (now watched) ≡ 1024 ⌝ }
     ensures { λ r. ⌜ Searched n (atSetting (programOf (now (book .entry)) layer) (now (atoms .entry)) (settingOf (now (atoms .entry)) standing)) v (now (part .entry)) r (now (part .exit)) ⌝ }
 {
     let found = model_at(
@@ -163,6 +263,7 @@ pub fn visit_setting(
         atoms,
         n,
         setting_of(atoms, standing),
+        watched,
     );
     let state = found.state;
     if found.ok {
@@ -173,7 +274,7 @@ pub fn visit_setting(
 
 // Goes through the settings of the undecided branching facts, each at most once, and visits the stable model of each setting, if
 // there is one. `atoms` has all branching facts; of those decided so far, `standing` has the bits of those that stand and `denied`
-// the bits of the others.
+// the bits of the others; `watched` keeps the literals that the rules watch from one filling to the next.
 // Where no rule can reach a fact that stands, no setting of the others has a stable model, and none is gone through.
 pub fn search(
     book: &[u8],
@@ -186,10 +287,12 @@ pub fn search(
     n: usize,
     standing: u32,
     denied: u32,
+    watched: &mut [u16],
     part: &mut [u8],
     v: Visit,
 ) -> Visit
     requires { ⌜ Searchable (now book) (now rows) (now overridden) (now atoms) layer n × Kept n v (now part) × (v .count + 2 ^ length (now undecided) ≤ 4294967296) × RuleMasks (now book) (now rows) (now atoms) (now masks) × Decided (now atoms) (now undecided) (settingOf (now atoms) standing) standing denied ⌝ }
+    requires { ⌜ length (now watched) ≡ 1024 ⌝ }
     ensures { λ r. ⌜ Searched n (foundBy (atSetting (programOf (now (book .entry)) layer) (now (atoms .entry))) (now (undecided .entry)) (settingOf (now (atoms .entry)) standing)) v (now (part .entry)) r (now (part .exit)) ⌝ }
 {
     if stops(v) {
@@ -199,7 +302,18 @@ pub fn search(
         return v;
     }
     if undecided.len() == 0 {
-        return visit_setting(book, layer, rows, overridden, atoms, n, standing, part, v);
+        return visit_setting(
+            book,
+            layer,
+            rows,
+            overridden,
+            atoms,
+            n,
+            standing,
+            watched,
+            part,
+            v,
+        );
     }
     let rest = undecided.len();
     let bit = 1 << ((atoms.len() - rest) as u32);
@@ -214,6 +328,7 @@ pub fn search(
         n,
         standing,
         denied | bit,
+        watched,
         part,
         v,
     );
@@ -228,6 +343,7 @@ pub fn search(
         n,
         standing | bit,
         denied,
+        watched,
         part,
         half,
     )

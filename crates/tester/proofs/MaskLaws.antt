@@ -1,25 +1,27 @@
--- Rejection by masks, supported atoms, and the other atoms: what the loops keep, row by row and atom by atom. Used by row_mask,
--- rejected_masks, supported and defaults_of. Assumes nothing.
+-- Rejection by masks, supported atoms, violated and contested rows, and the other atoms: what the loops keep, row by row and atom by
+-- atom. Used by row_mask, rejected_masks, name_holds, supported, undecided, contested and defaults_of. Assumes nothing.
 use mathlib.Core.Path.{_≡_, refl, sym, ap, subst, _∙_}
 use mathlib.Core.Logic.{⊎-elim}
 use mathlib.Core.Bool.{Bool, true, false, not, cond, true≢false}
 use mathlib.Core.List.{List}
-use Prim.Native.Nat.{ℕ, _+_, _<_, _≤_}
+use Prim.Native.Nat.{ℕ, _+_, _-_, _<_, _≤_}
 use native.Mathlib.Decide.{decLt, ℕ-discrete}
 use native.Mathlib.Omega.{arith}
+use borrow.Author.Tests.{not-false}
 use lib.Bits.{bitOr}
 use lib.Dec.{T}
 use lib.ListN.{getD, set, length-set, replicate, length-replicate}
 use lib.Seq.{getD-set-same, getD-set-other}
 use Rattle.layers.specs.Masks.{bitOf}
 use Rattle.format.specs.Book.{Literal}
-use Rattle.models.specs.StableModels.{Interpretation, atomHolds, positive, complement, bodyHolds}
+use Rattle.models.specs.StableModels.{Interpretation, atomHolds, positive, complement, signed, holds, bodyHolds}
 use Rattle.layers.proofs.WarshallLaws.{no-bit}
 use Rattle.layers.proofs.BitLaws.{no-bits, or-cases, or-left, or-right}
 use Rattle.table.specs.Names.{literalNamed}
 use Rattle.table.specs.Rows.{headName, rowAt}
 use Rattle.table.proofs.NameLaws.{name-low, name-high, one-name}
-use Rattle.tester.specs.Masks.{Rejection, RejectedMasks, Support, Supported, Others}
+use Rattle.tester.specs.Masks.{Rejection, RejectedMasks, Support, Supported, Violation, Decided, Uncontested, Others}
+use Rattle.filling.specs.Marks.{alive}
 use Rattle.filling.proofs.MarkLaws.{blank, set-only, set-keeps}
 
 -- the mask of a row, as its body decides
@@ -143,6 +145,10 @@ module _ {book rows : List ℕ} {m : Interpretation} where
             let q : x .row ≡ j = omega (arith, x .before) in
             n f (subst (λ (z : ℕ). rowAt book rows z .head ≡ positive f) q (x .head-is)) (subst (λ (z : ℕ). T (bodyHolds m (rowAt book rows z))) q (x .holds-in))
 
+    -- a body that does not hold
+    pub supported-not : (r : Bool) → r ≡ bodyHolds m (rowAt book rows j) → r ≡ false → Supported book rows m atoms (j + 1)
+    supported-not r q n = supported-same (λ f p t. absurd (subst T (sym q ∙ n) t))
+
     module _ (h : ℕ) (e : h ≡ headName rows j) where
       named : h < 256 → rowAt book rows j .head ≡ positive h
       unfolding rowAt
@@ -155,19 +161,6 @@ module _ {book rows : List ℕ} {m : Interpretation} where
       pub supported-negated : 256 ≤ h → Supported book rows m atoms (j + 1)
       unfolding rowAt
       supported-negated b = supported-same (λ f q t. absurd (true≢false (ap (λ (l : Literal). l .negated) (sym (name-high h b) ∙ ap literalNamed e ∙ q))))
-
-      -- an atom that is there already
-      pub supported-known : h < 256 → not (getD atoms h false) ≡ false → Supported book rows m atoms (j + 1)
-      unfolding atomHolds
-      supported-known b t = supported-same (λ f q u. subst (λ (z : ℕ). T (getD atoms z false)) (head-of b f q) (on (getD atoms h false) t))
-        where
-          on : (c : Bool) → not c ≡ false → T c
-          on true y = tt
-          on false y = absurd (true≢false y)
-
-      -- a body that does not hold
-      pub supported-not : (r : Bool) → r ≡ bodyHolds m (rowAt book rows j) → r ≡ false → Supported book rows m atoms (j + 1)
-      supported-not r q n = supported-same (λ f p t. absurd (subst T (sym q ∙ n) t))
 
       pub supported-more : (r : Bool) → h < 256 → r ≡ bodyHolds m (rowAt book rows j) → r ≡ true → Supported book rows m (set atoms h true) (j + 1)
       unfolding atomHolds
@@ -188,6 +181,68 @@ module _ {book rows : List ℕ} {m : Interpretation} where
           go f x k (no y) =
               let p : x .row ≡ j = omega (arith, x .before) in
               subst (λ (z : ℕ). T (atomHolds (set atoms h true) z)) (head-of b f (subst (λ (z : ℕ). rowAt book rows z .head ≡ positive f) p (x .head-is))) here
+
+-- the literal of a name, as the code tests it
+module _ (m : Interpretation) (h : ℕ) where
+  pub plain-holds : h < 256 → atomHolds m h ≡ holds m (literalNamed h)
+  unfolding holds signed
+  plain-holds b = ap (holds m) (sym (name-low h b))
+
+  pub negated-holds : 256 ≤ h → not (atomHolds m (h - 256)) ≡ holds m (literalNamed h)
+  unfolding holds signed
+  negated-holds b = ap (holds m) (sym (name-high h b))
+
+-- violated rows, and contested ones
+head-holds : (book rows : List ℕ) (m : Interpretation) (j h : ℕ) → h ≡ headName rows j → (x : Bool) → x ≡ holds m (literalNamed h) → x ≡ holds m (rowAt book rows j .head)
+unfolding rowAt
+head-holds book rows m j h e x ex = ex ∙ ap (λ (z : ℕ). holds m (literalNamed z)) e
+
+module _ {book rows rejects : List ℕ} {m : Interpretation} where
+  pub violation-at : {n : ℕ} (j : ℕ) → j < n → (a : Bool) → a ≡ alive rejects (rowAt book rows j) → a ≡ true → (r : Bool) → r ≡ bodyHolds m (rowAt book rows j) → r ≡ true
+      → (h : ℕ) → h ≡ headName rows j → (x : Bool) → x ≡ holds m (literalNamed h) → not x ≡ true → Violation book rows rejects m n
+  violation-at j b a ea ta r er tr h e x ex tx = record {
+    row = j;
+    before = b;
+    lives = subst T (sym (sym ea ∙ ta)) tt;
+    holds-in = subst T (sym (sym er ∙ tr)) tt;
+    fails-in = subst T (sym (ap not (sym (head-holds book rows m j h e x ex)) ∙ tx)) tt;
+  }
+
+  -- one row on, where row j is not contested
+  module _ {q : List Bool} {j : ℕ} (w : Uncontested book rows rejects m q j) where
+    uncontested-more : (alive rejects (rowAt book rows j) ≡ false → T (bodyHolds m (rowAt book rows j)) → Decided m q (rowAt book rows j .head)) → Uncontested book rows rejects m q (j + 1)
+    uncontested-more k = record { each = λ i b. go i b (decLt i j) }
+      where
+        go : (i : ℕ) → i < j + 1 → Dec (i < j) → alive rejects (rowAt book rows i) ≡ false → T (bodyHolds m (rowAt book rows i)) → Decided m q (rowAt book rows i .head)
+        go i b (yes y) = w .each i y
+        go i b (no y) =
+            let e : j ≡ i = omega arith in
+            subst (λ (z : ℕ). alive rejects (rowAt book rows z) ≡ false → T (bodyHolds m (rowAt book rows z)) → Decided m q (rowAt book rows z .head)) e k
+
+    pub uncontested-alive : (a : Bool) → a ≡ alive rejects (rowAt book rows j) → not a ≡ false → Uncontested book rows rejects m q (j + 1)
+    uncontested-alive a e t = uncontested-more (λ n. absurd (true≢false (sym (not-false a t) ∙ e ∙ n)))
+
+    pub uncontested-decided : (h : ℕ) → h ≡ headName rows j → Decided m q (literalNamed h) → Uncontested book rows rejects m q (j + 1)
+    unfolding rowAt
+    uncontested-decided h e d = uncontested-more (λ n u. subst (λ (z : ℕ). Decided m q (literalNamed z)) e d)
+
+    pub uncontested-not : (r : Bool) → r ≡ bodyHolds m (rowAt book rows j) → r ≡ false → Uncontested book rows rejects m q (j + 1)
+    uncontested-not r e n = uncontested-more (λ d u. absurd (subst T (sym e ∙ n) u))
+
+-- a fact that is decided, as the code tests it
+module _ (m : Interpretation) (q : List Bool) (h : ℕ) where
+  pub decided-negated : 256 ≤ h → Decided m q (literalNamed h)
+  decided-negated b f e n = absurd (true≢false (ap (λ (l : Literal). l .negated) (sym (name-high h b) ∙ e)))
+
+  module _ (b : h < 256) where
+    atom-is : (f : ℕ) → literalNamed h ≡ positive f → h ≡ f
+    atom-is f e = ap (λ (l : Literal). l .atom) (sym (name-low h b) ∙ e)
+
+    pub decided-holds : (r : Bool) → r ≡ atomHolds m h → r ≡ true → Decided m q (literalNamed h)
+    decided-holds r er t f e n = subst (λ (x : ℕ). T (atomHolds m x)) (atom-is f e) (subst T (sym (sym er ∙ t)) tt)
+
+    pub decided-marked : (r : Bool) → r ≡ atomHolds q h → not r ≡ false → Decided m q (literalNamed h)
+    decided-marked r er t f e n = absurd (true≢false (sym (not-false r t) ∙ er ∙ ap (atomHolds q) (atom-is f e) ∙ n))
 
 -- the other atoms
 module _ {atoms : List Bool} where

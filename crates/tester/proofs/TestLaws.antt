@@ -24,7 +24,7 @@ use Rattle.table.proofs.RowLaws.{row-in, row-of}
 use Rattle.table.proofs.TableLaws.{overrides-heads}
 use Rattle.filling.specs.Marks.{literalMarked, alive, FollowsFrom, from-start, by-row, Conflict, Fills}
 use Rattle.tester.specs.Agreement.{marksAgree}
-use Rattle.tester.specs.Masks.{Rejection, RejectedMasks, Support, Supported, Others}
+use Rattle.tester.specs.Masks.{Rejection, RejectedMasks, Support, Supported, Violation, Others}
 
 pub holds-one : (m : Interpretation) (f : ℕ) → T (holds m (positive f)) → T (holds m (negative f)) → ⊥
 unfolding holds signed
@@ -35,7 +35,7 @@ pub derived-lt : (P : Program) → WellFormed P → (m : Interpretation) (l : Li
 derived-lt P w m l (by-default f h d) = h
 derived-lt P w m l (by-rule r k u below) = w .heads r k
 
-beq-same : (a b : Bool) → T (Bool·beq a b) → a ≡ b
+pub beq-same : (a b : Bool) → T (Bool·beq a b) → a ≡ b
 beq-same true true t = refl
 beq-same true false t = absurd t
 beq-same false true t = absurd t
@@ -123,6 +123,18 @@ module _ {P : Program} {book rows overridden : List ℕ} (w : Tabulates P book r
     alive-unrejected r k u =
         not-T (rejected P m r)
         (λ t. T-not (eqb (bitOf (getD rejects (nameOf (r .head)) 0) (r .layer)) 1) u (subst (λ (x : ℕ). T (eqb x 1)) (sym (rejected-bit r k t)) tt))
+
+    -- a row that is alive and violated: the interpretation is not stable
+    pub violated-unstable : WellFormed P → length m ≡ P .atoms → Violation book rows rejects m (rowCount rows) → false ≡ stable P m
+    unfolding bodyHolds
+    violated-unstable lw sz x =
+        let r : Rule = rowAt book rows (x .row) in
+        let k : r ∈ P .rules = row-rule (x .row) (x .before) in
+        sym (failed (stable P m) (λ t.
+        let z : StableModel P m = stable-sound P m sz t in
+        T-not (holds m (r .head)) (x .fails-in)
+        (z .exact (r .head) (lw .heads r k) .0
+        (by-rule r k (alive-unrejected r k (x .lives)) (λ l i. z .exact l (lw .bodies r k l i) .1 (all-at (holds m) (x .holds-in) i))))))
 
     module _ {atoms start : List Bool} {n : ℕ} (lw : WellFormed P) (en : n ≡ P .atoms) (bn : n ≤ 256) (s : Supported book rows m atoms (rowCount rows)) (d : Others atoms start n) where
       start-default : (f : ℕ) → T (atomHolds start f) → T (default P m f)

@@ -1,16 +1,19 @@
--- What an interpretation does to the rows: which are rejected, as masks of layers at each name, and which atoms are supported.
+-- What an interpretation does to the rows: which are rejected, as masks of layers at each name, which are violated or contested, and
+-- which atoms are supported.
 -- Assumes nothing.
 use mathlib.Core.Path.{_≡_}
-use mathlib.Core.Bool.{Bool, not}
+use mathlib.Core.Bool.{Bool, true, false, not}
 use mathlib.Core.List.{List}
 use Prim.Native.Nat.{ℕ, _<_}
 use lib.Dec.{T}
 use lib.ListN.{length, getD}
 use Rattle.base.specs.Bounds.{maxAtoms}
 use Rattle.layers.specs.Masks.{bitOf}
-use Rattle.models.specs.StableModels.{Interpretation, atomHolds, positive, complement, bodyHolds}
+use Rattle.format.specs.Book.{Literal}
+use Rattle.models.specs.StableModels.{Interpretation, atomHolds, positive, complement, holds, bodyHolds}
 use Rattle.table.specs.Names.{literalNamed}
 use Rattle.table.specs.Rows.{rowAt}
+use Rattle.filling.specs.Marks.{alive}
 
 -- a row before n whose body holds, whose head is opposite to name h, and which overrides rules of layer i
 pub record Rejection (book rows overridden : List ℕ) (m : Interpretation) (n h i : ℕ) : Type 0 where
@@ -38,6 +41,29 @@ pub record Supported (book rows : List ℕ) (m : Interpretation) (atoms : List B
   pub size : length atoms ≡ maxAtoms
   pub sound : (f : ℕ) → T (atomHolds atoms f) → Support book rows m n f
   pub full : (f : ℕ) → Support book rows m n f → f < maxAtoms → T (atomHolds atoms f)
+
+-- a row before n that is alive and whose body holds, but not its head
+pub record Violation (book rows rejects : List ℕ) (m : Interpretation) (n : ℕ) : Type 0 where
+  pub row : ℕ
+  pub before : row < n
+  pub lives : T (alive rejects (rowAt book rows row))
+  pub holds-in : T (bodyHolds m (rowAt book rows row))
+  pub fails-in : T (not (holds m (rowAt book rows row .head)))
+
+-- one pass over the rows: the supported atoms, or a violated row
+pub record Supports (book rows rejects : List ℕ) (m : Interpretation) (atoms : List Bool) (violated : Bool) (n : ℕ) : Type 0 where
+  pub support : violated ≡ false → Supported book rows m atoms n
+  pub violation : violated ≡ true → Violation book rows rejects m n
+
+-- a plain literal holds, or its negation is marked
+abbrev pub Decided : Interpretation → List Bool → Literal → Type 0
+Decided m q l = (f : ℕ) → l ≡ positive f → atomHolds q f ≡ false → T (atomHolds m f)
+
+-- of the rows before n, none is contested: where a rejected row's body holds and its head is plain, the head holds too, or its
+-- negation is marked
+pub record Uncontested (book rows rejects : List ℕ) (m : Interpretation) (q : List Bool) (n : ℕ) : Type 0 where
+  pub each : (j : ℕ) → j < n → alive rejects (rowAt book rows j) ≡ false
+      → T (bodyHolds m (rowAt book rows j)) → Decided m q (rowAt book rows j .head)
 
 -- the atoms below n that are not among these
 pub record Others (atoms others : List Bool) (n : ℕ) : Type 0 where

@@ -2,16 +2,18 @@
 // (which rows are rejected, which atoms are supported) is worked out once; then the marks are filled from the defaults and compared
 // with the candidate.
 ghost use mathlib.Core.Path.{_≡_};
-ghost use mathlib.Core.Bool.{cond};
+ghost use mathlib.Core.Bool.{false, cond};
 ghost use Prim.Native.Nat.{_<_, _≤_};
 ghost use lib.ListN.{length, getD};
 ghost use Rattle.base.specs.Lists.{all, upTo};
-ghost use Rattle.models.specs.StableModels.{bodyHolds, stable, WellFormed};
+ghost use Rattle.models.specs.StableModels.{holds, bodyHolds, stable, WellFormed};
+ghost use Rattle.table.specs.Names.{literalNamed};
 ghost use Rattle.table.specs.Rows.{rowCount, rowAt, RowsFit};
 ghost use Rattle.table.specs.Table.{programOf, Tabulates};
 ghost use Rattle.tester.specs.Agreement.{marksAgree};
-ghost use Rattle.tester.specs.Masks.{RejectedMasks, Supported, Others};
+ghost use Rattle.tester.specs.Masks.{RejectedMasks, Supports, Decided, Uncontested, Others};
 use filling::fill;
+use filling::row_alive;
 use table::atom_holds;
 use table::opposite;
 use table::row_head;
@@ -54,26 +56,89 @@ pub fn rejected_masks(book: &[u8], rows: &[u16], overridden: &[u32], m: &[bool])
     rejects
 }
 
-// The plain heads of the rows whose bodies hold.
-fn supported(book: &[u8], rows: &[u16], m: &[bool]) -> [bool; 256]
+// Whether the literal of a name holds.
+fn name_holds(m: &[bool], h: usize) -> bool
+    ensures { λ r. ⌜ r ≡ holds (now (m .entry)) (literalNamed h) ⌝ }
+{
+    if h < 256 {
+        return atom_holds(m, h);
+    }
+    !atom_holds(m, h - 256)
+}
+
+// What the rows whose bodies hold say: the atoms that they support, or that one of them is violated.
+pub struct Support {
+    pub atoms: [bool; 256],
+    pub violated: bool,
+}
+
+// The plain heads of the rows whose bodies hold, rejected or not. A row that is alive and whose head does not hold ends it: no
+// stable model violates such a row, and nothing need be filled.
+fn supported(book: &[u8], rows: &[u16], rejects: &[u32], m: &[bool]) -> Support
     requires { ⌜ RowsFit (now book) (now rows) ⌝ }
-    ensures { λ r. ⌜ Supported (now (book .entry)) (now (rows .entry)) (now (m .entry)) r (rowCount (now (rows .entry))) ⌝ }
+    requires { ⌜ length (now rejects) ≡ 512 ⌝ }
+    ensures { λ r. ⌜ Supports (now (book .entry)) (now (rows .entry)) (now (rejects .entry)) (now (m .entry)) (r .atoms) (r .violated) (rowCount (now (rows .entry))) ⌝ }
 {
     let count = rows.len() / 4;
     let mut atoms = [false; 256];
     let mut j = 0;
     while j < count {
-        let h = row_head(rows, j);
-        if h < 256 {
-            if !atoms[h] {
+        if row_holds(book, rows, m, j) {
+            let h = row_head(rows, j);
+            let lives = row_alive(book, rows, rejects, j);
+            if lives {
+                if !name_holds(m, h) {
+                    return Support {
+                        atoms,
+                        violated: true,
+                    };
+                }
+            }
+            if h < 256 {
+                atoms[h] = true;
+            }
+        }
+        j += 1;
+    }
+    Support {
+        atoms,
+        violated: false,
+    }
+}
+
+// Whether a name is a fact that does not hold and whose negation is not marked.
+fn undecided(m: &[bool], negative: &[bool], h: usize) -> bool
+    ensures { λ r. ⌜ (r ≡ false → Decided (now (m .entry)) (now (negative .entry)) (literalNamed h)) ⌝ }
+{
+    if 256 <= h {
+        return false;
+    }
+    if atom_holds(m, h) {
+        return false;
+    }
+    !atom_holds(negative, h)
+}
+
+// Whether a rejected row's body holds, but not its plain head, whose negation is not marked either. Where none is so, marks that were
+// filled from a setting need no second filling from the defaults.
+pub fn contested(book: &[u8], rows: &[u16], rejects: &[u32], m: &[bool], negative: &[bool]) -> bool
+    requires { ⌜ RowsFit (now book) (now rows) ⌝ }
+    requires { ⌜ length (now rejects) ≡ 512 ⌝ }
+    ensures { λ r. ⌜ (r ≡ false → Uncontested (now (book .entry)) (now (rows .entry)) (now (rejects .entry)) (now (m .entry)) (now (negative .entry)) (rowCount (now (rows .entry)))) ⌝ }
+{
+    let count = rows.len() / 4;
+    let mut j = 0;
+    while j < count {
+        if !row_alive(book, rows, rejects, j) {
+            if undecided(m, negative, row_head(rows, j)) {
                 if row_holds(book, rows, m, j) {
-                    atoms[h] = true;
+                    return true;
                 }
             }
         }
         j += 1;
     }
-    atoms
+    false
 }
 
 // The defaults: the atoms below n that are not supported.
@@ -132,12 +197,13 @@ pub fn is_stable(
     ensures { λ r. ⌜ r ≡ stable (programOf (now (book .entry)) layer) (now (m .entry)) ⌝ }
 {
     let rejects = rejected_masks(book, rows, overridden, m);
-    let marks = fill(
-        book,
-        rows,
-        &rejects,
-        defaults_of(supported(book, rows, m), n),
-    );
+    let support = supported(book, rows, &rejects, m);
+    let atoms = support.atoms;
+    if support.violated {
+        return false;
+    }
+    let mut watched: [u16; 1024] = [0; 1024];
+    let marks = fill(book, rows, &rejects, defaults_of(atoms, n), &mut watched);
     if marks.conflict {
         return false;
     }

@@ -1,7 +1,7 @@
 -- Every turn that marks marks what follows (`settle`), and no other touches the marks; the turns left fall.
 use mathlib.Core.Path.{_≡_}
 use Prim.Native.Nat.{_/_, _≤_}
-use lib.ListN.{length}
+use lib.ListN.{length, length-set}
 use Rattle.filling.proofs.GrowingLaws.{grown-both}
 use Rattle.filling.proofs.WaitingLaws.{Turn}
 use borrow.Author.Needs.{needs}
@@ -9,11 +9,11 @@ use Rattle.filling.proofs.propagate.Statement.{statement}
 use Rattle.filling.proofs.propagate.Tie as tie
 
 abbrev Inv-loop : tie.InvT-loop
-Inv-loop book rows rejects positive₀ negative₀ count links₀ seen₀ names₀ top₀ fresh₀ node₀ turns₀ positive negative links seen names top fresh node turns =
-    (count ≡ length rows / 4) × (count ≤ 1024) × Turn book rows rejects positive₀ negative₀ positive negative links seen names top
+Inv-loop book rows rejects positive₀ negative₀ watched₀ count links₀ names₀ top₀ fresh₀ node₀ turns₀ positive negative watched links names top fresh node turns =
+    (count ≡ length rows / 4) × (count ≤ 1024) × Turn book rows rejects positive₀ negative₀ positive negative links watched names top
 
 abbrev μ-loop : tie.MeasureT-loop
-μ-loop book rows rejects positive₀ negative₀ count links₀ seen₀ names₀ top₀ fresh₀ node₀ turns₀ positive negative links seen names top fresh node turns =
+μ-loop book rows rejects positive₀ negative₀ watched₀ count links₀ names₀ top₀ fresh₀ node₀ turns₀ positive negative watched links names top fresh node turns =
     turns
 
 returns : tie.Need-returns Inv-loop μ-loop
@@ -31,6 +31,9 @@ same-length c = search needs
 same-length-2 : tie.Need-same-length-2 Inv-loop μ-loop
 same-length-2 c = search needs
 
+same-length-3 : tie.Need-same-length-3 Inv-loop μ-loop
+same-length-3 c = search needs
+
 returns-2 : tie.Need-returns-2 Inv-loop μ-loop
 returns-2 c = search needs
 
@@ -46,12 +49,9 @@ wide16-requires c κs = search needs
 slice-aggregate-settle : tie.Need-slice-aggregate-settle Inv-loop μ-loop
 slice-aggregate-settle c = search needs
 
-slice-aggregate-settle-2 : tie.Need-slice-aggregate-settle-2 Inv-loop μ-loop
-slice-aggregate-settle-2 c = search needs
-
 settle-requires : tie.Need-settle-requires Inv-loop μ-loop
 settle-requires c κs =
-    let s = c .before .before .before .before .before .before .before .before .before .before .before .before .before .before .before in
+    let s = c .before .before .before .before .before .before .before .before .before .before .before .before .before .before .before .before in
     let l = c .before .before .before .before .before .before .before .before .loop in
     (s .pre .0, (s .pre .1 .0, (l .inv .2 .size, (search needs, search needs))))
 
@@ -75,21 +75,21 @@ loop-less c = search needs
 
 loop-again : tie.Need-loop-again Inv-loop μ-loop
 loop-again c =
-    (search needs, search needs, record { grown = grown-both (c .before .before .before .before .before .before .before .before .before .before .before .before .before .before .before .before .before .before .loop .inv .2 .grown) (c .before .before .before .before .before .before .before .before .before .settle .ensures); size = search needs; lists = search needs; room = search needs })
+    (search needs, search needs, record { grown = grown-both (c .before .before .before .before .before .before .before .before .before .before .before .before .before .before .before .before .before .before .before .loop .inv .2 .grown) (c .before .before .before .before .before .before .before .before .before .before .settle .ensures); size = search needs; lists = (search needs, search needs, simp length-set (c .before .before .before .before .before .before .before .before .before .before .before .before .before .before .before .before .before .before .before .loop .inv .2 .lists .2)); room = search needs })
 
 loop-less-2 : tie.Need-loop-less-2 Inv-loop μ-loop
 loop-less-2 c = search needs
 
 loop-again-2 : tie.Need-loop-again-2 Inv-loop μ-loop
 loop-again-2 c =
-    (search needs, search needs, record { grown = grown-both (c .before .before .before .before .before .before .before .before .before .before .before .before .before .before .before .before .before .loop .inv .2 .grown) (c .before .before .before .before .before .before .before .before .settle .ensures); size = search needs; lists = search needs; room = search needs })
+    (search needs, search needs, record { grown = grown-both (c .before .before .before .before .before .before .before .before .before .before .before .before .before .before .before .before .before .before .loop .inv .2 .grown) (c .before .before .before .before .before .before .before .before .before .settle .ensures); size = search needs; lists = search needs; room = search needs })
 
 loop-less-3 : tie.Need-loop-less-3 Inv-loop μ-loop
 loop-less-3 c = search needs
 
 loop-again-3 : tie.Need-loop-again-3 Inv-loop μ-loop
 loop-again-3 c =
-    (search needs, search needs, record { grown = grown-both (c .before .before .before .before .before .before .before .before .before .before .before .before .before .before .before .before .loop .inv .2 .grown) (c .before .before .before .before .before .before .before .settle .ensures); size = search needs; lists = search needs; room = search needs })
+    (search needs, search needs, record { grown = grown-both (c .before .before .before .before .before .before .before .before .before .before .before .before .before .before .before .before .before .loop .inv .2 .grown) (c .before .before .before .before .before .before .before .before .settle .ensures); size = search needs; lists = search needs; room = search needs })
 
 sub-top : tie.Need-sub-top Inv-loop μ-loop
 sub-top c = search needs
@@ -130,20 +130,26 @@ loop-less-5 c = search needs
 loop-again-5 : tie.Need-loop-again-5 Inv-loop μ-loop
 loop-again-5 c = search needs
 
-same-length-3 : tie.Need-same-length-3 Inv-loop μ-loop
-same-length-3 c = search needs
-
 same-length-4 : tie.Need-same-length-4 Inv-loop μ-loop
 same-length-4 c = search needs
-
-returns-3 : tie.Need-returns-3 Inv-loop μ-loop
-returns-3 c = search needs
 
 same-length-5 : tie.Need-same-length-5 Inv-loop μ-loop
 same-length-5 c = search needs
 
 same-length-6 : tie.Need-same-length-6 Inv-loop μ-loop
 same-length-6 c = search needs
+
+returns-3 : tie.Need-returns-3 Inv-loop μ-loop
+returns-3 c = search needs
+
+same-length-7 : tie.Need-same-length-7 Inv-loop μ-loop
+same-length-7 c = search needs
+
+same-length-8 : tie.Need-same-length-8 Inv-loop μ-loop
+same-length-8 c = search needs
+
+same-length-9 : tie.Need-same-length-9 Inv-loop μ-loop
+same-length-9 c = search needs
 
 returns-4 : tie.Need-returns-4 Inv-loop μ-loop
 returns-4 c = search needs
@@ -159,12 +165,12 @@ propagate-spec =
     sub-turns
     same-length
     same-length-2
+    same-length-3
     returns-2
     mul-wide16
     array-read-wide16
     wide16-requires
     slice-aggregate-settle
-    slice-aggregate-settle-2
     settle-requires
     row-head-requires
     cast-names
@@ -190,9 +196,11 @@ propagate-spec =
     add-fresh
     loop-less-5
     loop-again-5
-    same-length-3
     same-length-4
-    returns-3
     same-length-5
     same-length-6
+    returns-3
+    same-length-7
+    same-length-8
+    same-length-9
     returns-4)

@@ -49,8 +49,10 @@ part-body-marked-start : tie.Need-part-body-marked-start
 part-body-marked-start c = search needs
 
 part-body-marked-end : tie.Need-part-body-marked-end
-part-body-marked-end c =
-    omega (arith, c .wide162 .ensures .0, c .before .before .wide16 .ensures .0, c .before .before .before .before .before .before .before .before .pre .0 .part (c .before .before .before .before .before .before .before .before .args .j) (search needs))
+part-body-marked-end c = omega (arith, c .wide162 .ensures .0, c .before .before .wide16 .ensures .0, c .before .before .before .before .before .before .before .before .before .pre .0 .part (c .before .before .before .before .before .before .before .before .before .args .j) (search needs))
+
+watch-of-requires : tie.Need-watch-of-requires
+watch-of-requires c κs = search needs
 
 body-marked-requires : tie.Need-body-marked-requires
 body-marked-requires c κs = search needs
@@ -58,8 +60,8 @@ body-marked-requires c κs = search needs
 returns : tie.Need-returns
 unfolding rowAt
 returns c =
-    let e = c .before .before .before .before .before .before .before .before .before .before .args in
-    c .body-marked .ensures ∙ ap (λ (x : List ℕ). all (literalMarked (e .positive .now) (e .negative .now)) (literalsOf x)) (body-part (e .book .now) (e .rows .now) (e .j) (c .before .before .before .before .wide16 .result) (c .before .before .wide162 .result) (c .before .before .before .before .wide16 .ensures .0) (c .before .before .wide162 .ensures .0))
+    let e = c .before .before .before .before .before .before .before .before .before .before .before .before .args in
+    c .body-marked .ensures ∙ ap (λ (x : List ℕ). all (literalMarked (e .positive .now) (e .negative .now)) (literalsOf x)) (body-part (e .book .now) (e .rows .now) (e .j) (c .before .before .before .before .before .wide16 .result) (c .before .before .before .wide162 .result) (c .before .before .before .before .before .wide16 .ensures .0) (c .before .before .before .wide162 .ensures .0))
 
 pub row-marked-spec : {M : Type 1} → statement M
 row-marked-spec =
@@ -78,5 +80,6 @@ row-marked-spec =
     sub-body-marked
     part-body-marked-start
     part-body-marked-end
+    watch-of-requires
     body-marked-requires
     returns)

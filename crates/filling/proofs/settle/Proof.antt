@@ -49,7 +49,7 @@ returns-3 : tie.Need-returns-3
 returns-3 c = search needs
 
 add-head-requires : tie.Need-add-head-requires
-add-head-requires c κs = let s = c .before .before .before .before .before .before .before .before .before .before .before .before .before .before .before .before .before .before .before .before .before .before .before .before .before .before in (s .pre .0, (s .pre .1 .0, (s .pre .1 .1 .0, search needs)))
+add-head-requires c κs = let s = c .before .before .before .before .before .before .before .before .before .before .before .before .before .before .before .before .before .before .before .before .before .before .before .before .before .before .before in (s .pre .0, (s .pre .1 .0, (s .pre .1 .1 .0, search needs)))
 
 same-length-9 : tie.Need-same-length-9
 same-length-9 c = search needs

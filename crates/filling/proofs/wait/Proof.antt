@@ -35,14 +35,14 @@ wide16-requires-2 c κs = search needs
 add-to : tie.Need-add-to
 add-to c = search needs
 
-sub-first-unmarked : tie.Need-sub-first-unmarked
-sub-first-unmarked c = search needs
+sub-unmarked-from : tie.Need-sub-unmarked-from
+sub-unmarked-from c = search needs
 
-part-first-unmarked-start : tie.Need-part-first-unmarked-start
-part-first-unmarked-start c = search needs
+part-unmarked-from-start : tie.Need-part-unmarked-from-start
+part-unmarked-from-start c = search needs
 
-part-first-unmarked-end : tie.Need-part-first-unmarked-end
-part-first-unmarked-end c =
+part-unmarked-from-end : tie.Need-part-unmarked-from-end
+part-unmarked-from-end c =
     let s = c .before .before .before .before .before .before .before .before .before .before in
     omega (arith, c .wide162 .ensures .0, c .before .before .wide16 .ensures .0, s .pre .0 .part (s .args .j) (search needs))
 
@@ -55,8 +55,8 @@ slice-read-wide16 c = search needs
 wide16-requires-3 : tie.Need-wide16-requires-3
 wide16-requires-3 c κs = search needs
 
-first-unmarked-requires : tie.Need-first-unmarked-requires
-first-unmarked-requires c κs = search needs
+unmarked-from-requires : tie.Need-unmarked-from-requires
+unmarked-from-requires c κs = search needs
 
 sub-if1 : tie.Need-sub-if1
 sub-if1 c = search needs
@@ -92,14 +92,14 @@ shared-slice-read-waiting-name-2 c =
 waiting-name-requires : tie.Need-waiting-name-requires
 waiting-name-requires c κs = search needs
 
-cast-seen : tie.Need-cast-seen
-cast-seen c = search needs
+cast-watched : tie.Need-cast-watched
+cast-watched c = search needs
 
-mul-seen : tie.Need-mul-seen
-mul-seen c = search needs
+mul-watched : tie.Need-mul-watched
+mul-watched c = search needs
 
-slice-write-seen : tie.Need-slice-write-seen
-slice-write-seen c = search needs
+slice-write-watched : tie.Need-slice-write-watched
+slice-write-watched c = search needs
 
 mul-links : tie.Need-mul-links
 mul-links c = search needs
@@ -151,13 +151,13 @@ wait-spec =
     shared-slice-read-wide16-2
     wide16-requires-2
     add-to
-    sub-first-unmarked
-    part-first-unmarked-start
-    part-first-unmarked-end
+    sub-unmarked-from
+    part-unmarked-from-start
+    part-unmarked-from-end
     mul-wide16-5
     slice-read-wide16
     wide16-requires-3
-    first-unmarked-requires
+    unmarked-from-requires
     sub-if1
     returns
     mul-waiting-name
@@ -168,9 +168,9 @@ wait-spec =
     add-waiting-name-3
     shared-slice-read-waiting-name-2
     waiting-name-requires
-    cast-seen
-    mul-seen
-    slice-write-seen
+    cast-watched
+    mul-watched
+    slice-write-watched
     mul-links
     slice-read-links
     add-links

@@ -6,10 +6,6 @@ use borrow.Author.Needs.{needs}
 use native.Mathlib.Omega.{arith}
 use Rattle.search.proofs.agrees.Statement.{statement}
 use Rattle.search.proofs.agrees.Tie as tie
-use Rattle.search.proofs.agrees.Reads as reads
-use Rattle.search.proofs.agrees.Lts as lts
-use Rattle.base.proofs.wide.Reads as wide-reads
-use Rattle.table.proofs.atom_holds.Reads as atom-holds-reads
 
 abbrev Inv-loop : tie.InvT-loop
 Inv-loop atoms state setting i₀ i = (i ≤ length atoms) × AgreeFrom atoms state setting i

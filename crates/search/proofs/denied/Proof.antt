@@ -7,9 +7,6 @@ use borrow.Author.Needs.{needs}
 use native.Mathlib.Omega.{arith}
 use Rattle.search.proofs.denied.Statement.{statement}
 use Rattle.search.proofs.denied.Tie as tie
-use Rattle.search.proofs.denied.Reads as reads
-use Rattle.search.proofs.denied.Lts as lts
-use Rattle.base.proofs.wide.Reads as wide-reads
 
 abbrev Inv-loop : tie.InvT-loop
 Inv-loop atoms setting start₀ i₀ start i = DeniedTo atoms setting i start

@@ -3,8 +3,6 @@ use Rattle.search.specs.Visits.{reaches}
 use borrow.Author.Needs.{needs}
 use Rattle.search.proofs.stops.Statement.{statement}
 use Rattle.search.proofs.stops.Tie as tie
-use Rattle.search.proofs.stops.Reads as reads
-use Rattle.search.proofs.stops.Lts as lts
 
 -- src/lib.rt:43:22
 enum-told : tie.Need-enum-told

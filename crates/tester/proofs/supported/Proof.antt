@@ -1,33 +1,49 @@
--- The invariant: the array has exactly what the rows passed support. The rows left fall. A row changes nothing where its head is
--- negated or there already, or where its body does not hold.
-use mathlib.Core.Path.{_≡_, refl, subst}
+-- The invariant: the array has exactly what the rows passed support. The rows left fall. A row changes nothing where its body does
+-- not hold or its head is negated; whether it is alive matters only where its head does not hold, and then the pass is over.
+use mathlib.Core.Path.{_≡_, refl, sym, subst}
 use mathlib.Core.Logic.{⊎-elim}
+use mathlib.Core.Bool.{true≢false}
 use Prim.Native.Nat.{_-_, _/_, _≤_}
 use lib.ListN.{length}
 use Rattle.tester.specs.Masks.{Supported}
-use Rattle.tester.proofs.MaskLaws.{supported-start, supported-negated, supported-known, supported-not, supported-more}
+use Rattle.tester.proofs.MaskLaws.{supported-start, supported-negated, supported-not, supported-more, violation-at}
 use borrow.Author.Needs.{needs}
 use native.Mathlib.Omega.{arith}
 use Rattle.tester.proofs.supported.Statement.{statement}
 use Rattle.tester.proofs.supported.Tie as tie
 
 abbrev Inv-loop : tie.InvT-loop
-Inv-loop book rows m count atoms₀ j₀ atoms j = (count ≡ length rows / 4) × (j ≤ count) × Supported book rows m atoms j
+Inv-loop book rows rejects m count atoms₀ j₀ atoms j = (count ≡ length rows / 4) × (j ≤ count) × Supported book rows m atoms j
 
 abbrev μ-loop : tie.MeasureT-loop
-μ-loop book rows m count atoms₀ j₀ atoms j = count - j
+μ-loop book rows rejects m count atoms₀ j₀ atoms j = count - j
 
 loop-holds : tie.Need-loop-holds Inv-loop μ-loop
 loop-holds c = (refl, omega arith, supported-start)
 
+row-holds-requires : tie.Need-row-holds-requires Inv-loop μ-loop
+row-holds-requires c κs = search needs
+
 row-head-requires : tie.Need-row-head-requires Inv-loop μ-loop
 row-head-requires c κs = search needs
 
-array-read-if2 : tie.Need-array-read-if2 Inv-loop μ-loop
-array-read-if2 c = search needs
+row-alive-requires : tie.Need-row-alive-requires Inv-loop μ-loop
+row-alive-requires c κs = search needs
 
-row-holds-requires : tie.Need-row-holds-requires Inv-loop μ-loop
-row-holds-requires c κs = search needs
+name-holds-requires : tie.Need-name-holds-requires Inv-loop μ-loop
+name-holds-requires c κs = search needs
+
+returns : tie.Need-returns Inv-loop μ-loop
+returns c =
+    let l = c .before .before .before .before .before .before .before .before .loop in
+    let k = c .before .before .before .before .before .before .row-holds in
+    let h = c .before .before .before .before .row-head in
+    let a = c .before .before .before .row-alive in
+    let x = c .before .name-holds in
+    record {
+      support = λ e. absurd (true≢false e);
+      violation = λ e. violation-at (l .j) (search needs) (a .result) (a .ensures) (c .before .before .if2 .taken) (k .result) (k .ensures) (c .before .before .before .before .before .if1 .taken) (h .result) (h .ensures .0) (x .result) (x .ensures) (c .if3 .taken);
+    }
 
 array-write-atoms : tie.Need-array-write-atoms Inv-loop μ-loop
 array-write-atoms c = search needs
@@ -41,23 +57,23 @@ loop-less c = search needs
 loop-again : tie.Need-loop-again Inv-loop μ-loop
 loop-again c =
     let w = c .before .before .before .loop .inv .2 in
-    let h = c .before .row-head in
+    let k = c .before .row-holds in
     ⊎-elim
-    (λ v. (refl, omega arith, rw (v .4) (supported-more w (h .result) (h .ensures .0) (v .2 .result) (v .0 .taken) (v .2 .ensures) (v .3 .taken))))
+    (λ v. (refl, omega arith, rw (v .5) (supported-more w (v .1 .result) (v .1 .ensures .0) (k .result) (v .4 .taken) (k .ensures) (v .0 .taken))))
     (λ u. ⊎-elim
-    (λ v. (refl, omega arith, rw (v .4) (supported-not w (h .result) (h .ensures .0) (v .2 .result) (v .2 .ensures) (v .3 .left))))
-    (λ t. ⊎-elim
-    (λ v. (refl, omega arith, rw (v .2) (supported-known w (h .result) (h .ensures .0) (v .0 .taken) (v .1 .left))))
-    (λ v. (refl, omega arith, rw (v .1) (supported-negated w (h .result) (h .ensures .0) (v .0 .left))))
-    t)
+    (λ v. (refl, omega arith, rw (v .5) (supported-negated w (v .1 .result) (v .1 .ensures .0) (v .4 .left))))
+    (λ v. (refl, omega arith, rw (v .1) (supported-not w (k .result) (k .ensures) (v .0 .left))))
     u)
     (c .if1 .came)
 
-returns : tie.Need-returns Inv-loop μ-loop
-returns c =
-    let e = c .before .before .before .before .before .args in
+returns-2 : tie.Need-returns-2 Inv-loop μ-loop
+returns-2 c =
+    let e = c .before .before .before .before .before .before .args in
     let l = c .before .loop in
-    subst (Supported (e .book .now) (e .rows .now) (e .m .now) (l .atoms)) {x = l .j} {y = length (e .rows .now) / 4} (omega (arith, c .loop-test .left, l .inv .1)) (l .inv .2)
+    record {
+      support = λ y. subst (Supported (e .book .now) (e .rows .now) (e .m .now) (l .atoms)) {x = l .j} {y = length (e .rows .now) / 4} (omega (arith, c .loop-test .left, l .inv .1)) (l .inv .2);
+      violation = λ y. absurd (true≢false (sym y));
+    }
 
 pub supported-spec : {M : Type 1} → statement M
 supported-spec =
@@ -66,11 +82,13 @@ supported-spec =
     Inv-loop
     μ-loop
     loop-holds
-    row-head-requires
-    array-read-if2
     row-holds-requires
+    row-head-requires
+    row-alive-requires
+    name-holds-requires
+    returns
     array-write-atoms
     add-j
     loop-less
     loop-again
-    returns)
+    returns-2)
