@@ -13,7 +13,7 @@ use Rattle.book.specs.declared.Verdict.{Verdict}
 use Rattle.book.specs.declared.Verdict.the-variants.{Accepted, Refused}
 
 -- a verdict is one or the other
-pub never : (c : Cause) (v : Verdict) → v ≡ Refused c → v ≡ Accepted → ⊥
+never : (c : Cause) (v : Verdict) → v ≡ Refused c → v ≡ Accepted → ⊥
 never c v e f = let z : _≡_ {A = ℕ} 0 1 = cc in omega arith
 
 module _ (t : Test) (ts : List Test) where

@@ -8,9 +8,10 @@ use lib.ListN.{length, drop}
 use Rattle.layers.specs.Masks.{LowerMasks}
 use Rattle.format.specs.Book.{records, sectionRecords, ruleOf, ruleSection, ruleRecords, arrowsOf, rulesOf, bookOf}
 use Rattle.table.specs.Table.{RuleRecords, Prepared}
+use Rattle.book.proofs.RangeLaws.{Ranges, ranges}
 use Rattle.book.proofs.Accepted.{accepted-lawful}
 use Rattle.accepted.specs.Accepted.{IsAccepted, rulesStart}
-use Rattle.accepted.proofs.RangeFacts.{Ranges, ranges, Sections, sections, rest-is}
+use Rattle.accepted.proofs.RangeFacts.{Sections, sections, rest-is}
 use Rattle.accepted.proofs.RecordFacts.{RuleGood, good-rule, book-short}
 
 module _ (s : List ℕ) (e : IsAccepted s) where

@@ -13,40 +13,10 @@ use Rattle.format.specs.Book.{u16At, u32At, records, meetsEnd, sectionBytes, se
 use Rattle.format.specs.Sections.{wholeSection, hasBrokenSection}
 use Rattle.format.proofs.SectionLaws.{or-first, or-second}
 use Rattle.layers.proofs.BitLaws.{and-left, and-right}
-use Rattle.book.specs.Causes.{within, isTooShort, isOutOfRange}
+use Rattle.book.specs.Causes.{isTooShort}
 use Rattle.book.proofs.Accepted.{accepted-lawful}
+use Rattle.book.proofs.RangeLaws.{Ranges, ranges}
 use Rattle.accepted.specs.Accepted.{IsAccepted, rulesStart}
-
-in-range : (low high x : ℕ) → not (within low high x) ≡ false → (low ≤ x) × (x ≤ high)
-unfolding within
-in-range low high x e =
-    let f : (leb low x && leb x high) ≡ true = not-false (leb low x && leb x high) e in
-    (leb-true low x (and-left (leb low x) (leb x high) f), leb-true x high (and-right (leb low x) (leb x high) f))
-
--- n, L and the counts are in their ranges
-pub record Ranges (s : List ℕ) : Type 0 where
-  pub some-atom : 1 ≤ atomCount s
-  pub atoms-few : atomCount s ≤ 256
-  pub layers-few : layerCount s ≤ 32
-  pub arrows-few : sectionCount s 8 ≤ 496
-  pub rules-few : sectionCount s (ruleSection s) ≤ 1024
-
-pub ranges : (s : List ℕ) → isOutOfRange s ≡ false → Ranges s
-unfolding isOutOfRange
-ranges s e =
-    let a : Bool = not (within 1 256 (atomCount s)) in
-    let b : Bool = not (within 1 32 (layerCount s)) in
-    let c : Bool = not (within 0 496 (sectionCount s 8)) in
-    let d : Bool = not (within 0 1024 (sectionCount s (ruleSection s))) in
-    let abc : (a || b || c) ≡ false = or-first (a || b || c) d e in
-    let ab : (a || b) ≡ false = or-first (a || b) c abc in
-    record {
-      some-atom = in-range 1 256 (atomCount s) (or-first a b ab) .0;
-      atoms-few = in-range 1 256 (atomCount s) (or-first a b ab) .1;
-      layers-few = in-range 1 32 (layerCount s) (or-second a b ab) .1;
-      arrows-few = in-range 0 496 (sectionCount s 8) (or-second (a || b) c abc) .1;
-      rules-few = in-range 0 1024 (sectionCount s (ruleSection s)) (or-second (a || b || c) d e) .1;
-    }
 
 -- a whole section: it lies inside the book, its records meet its end, and they are as many as it says
 pub record Whole (s : List ℕ) (at : ℕ) : Type 0 where

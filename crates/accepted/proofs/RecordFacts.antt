@@ -10,17 +10,17 @@ use lib.Dec.{T, eqb, ltb, eqb→eq}
 use lib.ListN.{length}
 use Rattle.base.specs.Lists.{all, upTo}
 use Rattle.base.proofs.Members.{_∈_, and-left, and-right, filter-from, all-at, any-at}
-use Rattle.base.proofs.UpTo.{passed, upTo-lt}
+use Rattle.base.proofs.UpTo.{passed, true-of, upTo-lt}
 use Rattle.format.specs.Book.{Literal, Rule, records, sectionRecords, arrowOf, ruleOf, atomCount, layerCount, ruleSection, arrowRecords, ruleRecords, rulesOf, bookOf}
 use Rattle.format.proofs.SectionLaws.{or-first, or-second}
 use Rattle.models.specs.Program.{relevant, programAt}
 use Rattle.models.specs.StableModels.{WellFormed}
 use Rattle.table.specs.Table.{programOf}
 use Rattle.book.specs.Causes.{arrowOk, ruleLength, atomBelow, ruleOk, hasBadRecord}
+use Rattle.book.proofs.RangeLaws.{Ranges, ranges}
 use Rattle.book.proofs.Accepted.{accepted-lawful, meets-short}
-use Rattle.book.proofs.RingLaws.{true-of}
 use Rattle.accepted.specs.Accepted.{IsAccepted}
-use Rattle.accepted.proofs.RangeFacts.{Ranges, ranges, Sections, sections, section-length}
+use Rattle.accepted.proofs.RangeFacts.{Sections, sections, section-length}
 
 pub record RuleGood (l n : ℕ) (r : List ℕ) : Type 0 where
   pub long : 3 ≤ length r

@@ -1,5 +1,5 @@
--- The computed closure is exactly what is derived.
--- Assumes nothing.
+-- The computed closure is exactly what follows by the clauses: each turn adds only what follows, and leaves fewer clauses that wait
+-- for their conclusion, so as many turns as clauses are enough. Used for `below` and for `least`. Assumes nothing.
 use mathlib.Core.Path.{_≡_, refl, sym, subst}
 use mathlib.Core.Logic.{_⊎_, inl, inr}
 use mathlib.Core.Bool.{Bool, true, false, not}

@@ -1,5 +1,5 @@
--- Membership in a filtered list, and what a test over a list says of its members.
--- Assumes nothing.
+-- Tests as statements: what && and || of tests say, which members a filtered list has, and what a test over a list says of its
+-- members. Assumes nothing.
 use mathlib.Core.Path.{_≡_, refl, sym, subst}
 use mathlib.Core.Logic.{_⊎_, inl, inr}
 use mathlib.Core.Bool.{Bool, true, false, not, _&&_, _||_}
@@ -49,15 +49,15 @@ module _ {A : Type 0} where
 
   infix 50 _∈_
   module _ (p : A → Bool) where
-    kept : (c : Bool) {x : A} (y : A) (xs : List A) → x ∈ consIf c y xs → ((x ≡ y) × T c) ⊎ x ∈ xs
+    consIf-from : (c : Bool) {x : A} (y : A) (xs : List A) → x ∈ consIf c y xs → ((x ≡ y) × T c) ⊎ x ∈ xs
     unfolding consIf
-    kept true y xs m = elim (List·Memᴰ·cases-cons m) [ inl e ↦ inl (e, tt) | inr k ↦ inr k ]
-    kept false y xs m = inr m
+    consIf-from true y xs m = elim (List·Memᴰ·cases-cons m) [ inl e ↦ inl (e, tt) | inr k ↦ inr k ]
+    consIf-from false y xs m = inr m
 
     pub filter-from : {x : A} (xs : List A) → x ∈ filter p xs → x ∈ xs × T (p x)
     unfolding filter
     filter-from [] m = absurd (List·Memᴰ·not-nil m)
-    filter-from {x} (y ∷ ys) m = go (kept (p y) y (filter p ys) m) (λ k. filter-from ys k)
+    filter-from {x} (y ∷ ys) m = go (consIf-from (p y) y (filter p ys) m) (λ k. filter-from ys k)
       where
         go : ((x ≡ y) × T (p y)) ⊎ x ∈ filter p ys → (x ∈ filter p ys → x ∈ ys × T (p x)) → x ∈ (y ∷ ys) × T (p x)
         go (inl e) f = (List·Memᴰ·head (e .0), subst (λ (z : A). T (p z)) (sym (e .0)) (e .1))

@@ -14,16 +14,16 @@ module _ {A : Type 0} (_⊏_ : A → A → Type 0) where
   Rising [] = Unit {0}
   Rising (x ∷ xs) = ((y : A) → y ∈ xs → x ⊏ y) × Rising xs
 
-  keep-rising : (c : Bool) (x : A) (xs : List A) → ((y : A) → y ∈ xs → x ⊏ y) → Rising xs → Rising (consIf c x xs)
+  consIf-rising : (c : Bool) (x : A) (xs : List A) → ((y : A) → y ∈ xs → x ⊏ y) → Rising xs → Rising (consIf c x xs)
   unfolding consIf
-  keep-rising true x xs h r = (h, r)
-  keep-rising false x xs h r = r
+  consIf-rising true x xs h r = (h, r)
+  consIf-rising false x xs h r = r
 
   pub filter-rising : (p : A → Bool) (xs : List A) → Rising xs → Rising (filter p xs)
   unfolding filter
   filter-rising p [] r = tt
   filter-rising p (x ∷ xs) r =
-      keep-rising (p x) x (filter p xs) (λ y m. r .0 y (filter-from p xs m .0)) (filter-rising p xs (r .1))
+      consIf-rising (p x) x (filter p xs) (λ y m. r .0 y (filter-from p xs m .0)) (filter-rising p xs (r .1))
 
   module _ (asym : (x y : A) → x ⊏ y → y ⊏ x → ⊥) where
     head-same : (x : A) (xs : List A) (y : A) (ys : List A) → ((z : A) → z ∈ xs → x ⊏ z) → ((z : A) → z ∈ ys → y ⊏ z)

@@ -1,7 +1,6 @@
--- 0 to n - 1, and a test over them.
--- Assumes nothing.
+-- The numbers 0 to n - 1: which they are, and a test over some of them as a loop makes it. Assumes nothing.
 use mathlib.Core.Path.{_≡_, refl, sym, subst}
-use mathlib.Core.Bool.{Bool, true, false, _||_}
+use mathlib.Core.Bool.{Bool, true, false, _||_, false≢true}
 use mathlib.Core.Logic.{_⊎_, inl, inr}
 use mathlib.Core.List.{List, [], _∷_, _++_, List·Memᴰ·head, List·Memᴰ·cases-cons, List·Memᴰ·not-nil, List·Memᴰ·append-cases, Memᴰ·append-left, Memᴰ·append-right}
 use Prim.Native.Nat.{ℕ, zero, suc, _+_, _<_, _≤_}
@@ -12,9 +11,14 @@ use lib.Dec.{T}
 use Rattle.base.specs.Lists.{any, upTo}
 use Rattle.base.proofs.Members.{_∈_, any-of}
 
+-- a test's answer, and the statement that it passes
 pub passed : (c : Bool) → T c → c ≡ true
 passed true t = refl
 passed false t = absurd t
+
+pub true-of : (c : Bool) → c ≡ true → T c
+true-of true e = tt
+true-of false e = absurd (false≢true e)
 
 pub failed : (c : Bool) → (T c → ⊥) → c ≡ false
 failed true f = absurd (f tt)
@@ -43,7 +47,7 @@ upTo-has (suc n) f h = go (λ u. upTo-has n f u) (eq-or-lt-of-le (le-of-suc-le-s
     go rec (inl e) = Memᴰ·append-right (upTo n) (List·Memᴰ·head e)
     go rec (inr u) = Memᴰ·append-left (n ∷ []) (rec u)
 
--- a test over the numbers below n, as a loop makes it
+-- a test over two lists, one behind the other
 pub any-append : (p : ℕ → Bool) (xs ys : List ℕ) → any p (xs ++ ys) ≡ (any p xs || any p ys)
 unfolding any
 any-append p [] ys = refl
@@ -57,6 +61,7 @@ one-any : (p : ℕ → Bool) (i : ℕ) → p i ≡ false → any p (i ∷ []) �
 unfolding any
 one-any p i f = rw f refl
 
+-- a test over the numbers below n, as a loop makes it
 module _ (p : ℕ → Bool) where
   pub any-start : any p (upTo 0) ≡ false
   unfolding any upTo

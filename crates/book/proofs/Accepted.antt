@@ -1,7 +1,7 @@
 -- What acceptance says: none of causes 1 to 8 applies, and each section is its records, one after the other.
 -- Assumes nothing.
 use mathlib.Core.Path.{_≡_, refl, ap}
-use mathlib.Core.Bool.{Bool, true, false, _&&_, false≢true}
+use mathlib.Core.Bool.{Bool, true, false}
 use mathlib.Core.List.{List, [], _∷_, map, List·Memᴰ·head, List·Memᴰ·tail}
 use Prim.Native.Nat.{ℕ, zero, suc, _*_, _≤_}
 use native.Mathlib.Omega.{arith}
@@ -11,6 +11,7 @@ use lib.ListN.{length, drop, length-append, length-drop, take-append-drop}
 use lib.Seq.{length-take-le}
 use Rattle.base.specs.Lists.{flat}
 use Rattle.base.proofs.Members.{_∈_}
+use Rattle.layers.proofs.BitLaws.{and-left, and-right}
 use Rattle.format.specs.Book.{recordsIn, records, meetsEndIn, meetsEnd}
 use Rattle.format.specs.Sections.{hasBrokenSection}
 use Rattle.book.specs.Causes.{isTooShort, hasWrongVersion, hasWrongLength, isOutOfRange, hasBadRecord, repeatsArrow, hasCycle, tests, verdictIf, firstOf, verdict}
@@ -18,6 +19,7 @@ use Rattle.book.specs.declared.Cause.{Cause}
 use Rattle.book.specs.declared.Verdict.{Verdict}
 use Rattle.book.specs.declared.Verdict.the-variants.{Accepted, Refused}
 
+-- none of the eight causes applies
 pub record Lawful (s : List ℕ) : Type 0 where
   pub not1 : isTooShort s ≡ false
   pub not2 : hasWrongVersion s ≡ false
@@ -46,21 +48,9 @@ accepted-lawful s e =
     let p8 = passes (hasCycle s) _ _ (p7 .1) in
     record { not1 = p1 .0; not2 = p2 .0; not3 = p3 .0; not4 = p4 .0; not5 = p5 .0; not6 = p6 .0; not7 = p7 .0; not8 = p8 .0 }
 
-pub lawful-accepted : (s : List ℕ) → Lawful s → verdict s ≡ Accepted
-unfolding verdict firstOf tests verdictIf
-lawful-accepted s w = rw (w .not1, w .not2, w .not3, w .not4, w .not5, w .not6, w .not7, w .not8) refl
-
 -- a record with its length byte
 pub framed : List ℕ → List ℕ
 framed r = length r ∷ r
-
-and-left : (a b : Bool) → (a && b) ≡ true → a ≡ true
-and-left true b e = refl
-and-left false b e = e
-
-and-right : (a b : Bool) → (a && b) ≡ true → b ≡ true
-and-right true b e = e
-and-right false b e = absurd (false≢true e)
 
 frames-in : (k : ℕ) (s : List ℕ) → length s ≤ k → meetsEndIn k s ≡ true → flat (map framed (recordsIn k s)) ≡ s
 unfolding meetsEndIn recordsIn flat framed

@@ -1,6 +1,6 @@
-pub mod RangeLaws
 pub mod RecordLaws
+pub mod RangeLaws
 pub mod MaskLaws
-pub mod RingLaws
+pub mod CycleLaws
 pub mod VerdictLaws
 pub mod Accepted

@@ -1,6 +1,5 @@
--- Laws for the masks: one more bit, and arrows read into bits.
--- Assumes nothing.
-use Rattle.layers.specs.Layers.{Arrow, link, repeats, sameArrow}
+-- The arrows read into masks, record by record: two equal arrows are met where the bit is there already (`left-over`), and the masks of
+-- all arrows have a bit for each. Used by repeated and arrow_masks. Assumes nothing.
 use mathlib.Core.Path.{_≡_, refl, sym, ap, _∙_}
 use mathlib.Core.Bool.{Bool, true, false, _&&_, _||_}
 use mathlib.Core.List.{List, [], _∷_, map}
@@ -13,6 +12,7 @@ use lib.Seq.{getD-take, getD-drop}
 use Rattle.base.specs.Lists.{all, any}
 use Rattle.format.specs.Book.{records, recordEnd, arrowOf}
 use Rattle.book.specs.Causes.{arrowOk}
+use Rattle.layers.specs.Layers.{Arrow, link, repeats, sameArrow}
 use Rattle.layers.specs.Masks.{marked}
 use Rattle.format.proofs.Offsets.{records-cut, records-done, end-over, end-in}
 use Rattle.layers.proofs.BitLaws.{or-false, or-assoc, and-left, and-right, none-marked}

@@ -1,17 +1,20 @@
--- Laws for causes 5 and 6: the ranges, and the contents of the records of both sections. Assumes nothing.
+-- Causes 5 and 6: the tests of the code decide whether the numbers are in their ranges and whether the records of both sections are
+-- good, and what follows for the numbers where cause 5 does not apply. Used by outside, out_of_range and bad_record; CycleLaws and the
+-- crate `accepted` cite `ranges`. Assumes nothing.
 use mathlib.Core.Path.{_≡_, refl, sym, ap, _∙_}
-use mathlib.Core.Bool.{Bool, true, false, not, _&&_}
+use mathlib.Core.Bool.{Bool, true, false, not, _&&_, _||_}
 use mathlib.Core.List.{List}
 use Prim.Native.Nat.{ℕ, _+_, _-_, _<_, _≤_}
 use native.Mathlib.Omega.{arith}
 use native.Mathlib.Decide.{decLt}
-use borrow.Author.Tests.{le-leb, lt-leb, le-ltb, lt-ltb}
+use borrow.Author.Tests.{le-leb, lt-leb, le-ltb, lt-ltb, leb-true, not-false}
 use lib.Dec.{leb, ltb}
 use lib.ListN.{length, getD, take, drop}
 use Rattle.base.specs.Lists.{all}
 use Rattle.format.specs.Book.{u16At, u32At, records, sectionBytes, sectionCount, sectionEnd, atomCount, layerCount, ruleSection, arrowRecords, ruleRecords}
 use Rattle.book.specs.Causes.{within, arrowOk, ruleOk, isOutOfRange, hasBadRecord}
-use Rattle.format.proofs.SectionLaws.{Laid, arrow-part, rule-part}
+use Rattle.layers.proofs.BitLaws.{and-left, and-right}
+use Rattle.format.proofs.SectionLaws.{or-first, or-second, Laid, arrow-part, rule-part}
 
 pub out-low : (low high x : ℕ) → x < low → true ≡ not (within low high x)
 unfolding within
@@ -43,6 +46,38 @@ module _ (s : List ℕ) (n : ℕ) (en : n ≡ u16At s 5) (t1 : Bool) (e1 : t1 �
       pub five-rules : t3 ≡ false → (b : ℕ) → b ≡ u32At s 8 → (r : ℕ) → r ≡ u16At s (14 + b + 4) → (t4 : Bool) → t4 ≡ not (within 0 1024 r) → t4 ≡ isOutOfRange s
       unfolding isOutOfRange atomCount layerCount sectionCount ruleSection sectionEnd sectionBytes
       five-rules f3 b eb r er t4 e4 = sym (rw (← en, ← e1, f1, ← el, ← e2, f2, ← ea, ← e3, f3, ← eb, ← er, ← e4) refl)
+
+-- where cause 5 does not apply
+in-range : (low high x : ℕ) → not (within low high x) ≡ false → (low ≤ x) × (x ≤ high)
+unfolding within
+in-range low high x e =
+    let f : (leb low x && leb x high) ≡ true = not-false (leb low x && leb x high) e in
+    (leb-true low x (and-left (leb low x) (leb x high) f), leb-true x high (and-right (leb low x) (leb x high) f))
+
+-- n, L and the counts are in their ranges
+pub record Ranges (s : List ℕ) : Type 0 where
+  pub some-atom : 1 ≤ atomCount s
+  pub atoms-few : atomCount s ≤ 256
+  pub layers-few : layerCount s ≤ 32
+  pub arrows-few : sectionCount s 8 ≤ 496
+  pub rules-few : sectionCount s (ruleSection s) ≤ 1024
+
+pub ranges : (s : List ℕ) → isOutOfRange s ≡ false → Ranges s
+unfolding isOutOfRange
+ranges s e =
+    let a : Bool = not (within 1 256 (atomCount s)) in
+    let b : Bool = not (within 1 32 (layerCount s)) in
+    let c : Bool = not (within 0 496 (sectionCount s 8)) in
+    let d : Bool = not (within 0 1024 (sectionCount s (ruleSection s))) in
+    let abc : (a || b || c) ≡ false = or-first (a || b || c) d e in
+    let ab : (a || b) ≡ false = or-first (a || b) c abc in
+    record {
+      some-atom = in-range 1 256 (atomCount s) (or-first a b ab) .0;
+      atoms-few = in-range 1 256 (atomCount s) (or-first a b ab) .1;
+      layers-few = in-range 1 32 (layerCount s) (or-second a b ab) .1;
+      arrows-few = in-range 0 496 (sectionCount s 8) (or-second (a || b) c abc) .1;
+      rules-few = in-range 0 1024 (sectionCount s (ruleSection s)) (or-second (a || b || c) d e) .1;
+    }
 
 -- the records of both sections, as the code cuts them
 module _ (s : List ℕ) (b : ℕ) (eb : b ≡ u32At s 8) where

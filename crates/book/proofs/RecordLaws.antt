@@ -1,4 +1,4 @@
--- Laws for the tests on records' contents: arrows and rules as the code reads them.
+-- Cause 6, record by record: the tests of the code decide whether an arrow's and a rule's record is good. Used by arrow_ok and rule_ok.
 -- Assumes nothing.
 use mathlib.Core.Path.{_≡_, refl, sym, subst, _∙_}
 use mathlib.Core.Bool.{Bool, true, false}

@@ -1,5 +1,5 @@
--- Records are taken one after the other: laws for a walk by offset.
--- Assumes nothing.
+-- Records are taken one after the other: what the record at an offset is, and what a walk by offset has passed. Used by
+-- whole_records, and in the crates above by every loop over records. Assumes nothing.
 use mathlib.Core.Path.{_≡_, refl, sym, ap, _∙_}
 use mathlib.Core.Bool.{Bool, true, false, _&&_}
 use mathlib.Core.List.{List, [], _∷_}
@@ -25,7 +25,7 @@ fuel (suc k) (suc j) [] h i = refl
 fuel (suc k) (suc j) (x ∷ s) h i = ap (λ (rs : List (List ℕ)). take x s ∷ rs) (fuel k j (drop x s) (simp length-drop (omega arith)) (simp length-drop (omega arith)))
 
 -- the law of records: the first, and those of what follows it
-pub records-next : (len : ℕ) (s : List ℕ) → records (len ∷ s) ≡ take len s ∷ records (drop len s)
+records-next : (len : ℕ) (s : List ℕ) → records (len ∷ s) ≡ take len s ∷ records (drop len s)
 unfolding records recordsIn
 records-next len s = ap (λ (rs : List (List ℕ)). take len s ∷ rs) (fuel (length s) (length (drop len s)) (drop len s) (simp length-drop (omega arith)) (omega arith))
 
@@ -39,7 +39,7 @@ meets-fuel (suc k) zero (x ∷ s) h i = absurd (omega arith)
 meets-fuel (suc k) (suc j) [] h i = refl
 meets-fuel (suc k) (suc j) (x ∷ s) h i = ap (λ (b : Bool). leb x (length s) && b) (meets-fuel k j (drop x s) (simp length-drop (omega arith)) (simp length-drop (omega arith)))
 
-pub meets-next : (len : ℕ) (s : List ℕ) → meetsEnd (len ∷ s) ≡ (leb len (length s) && meetsEnd (drop len s))
+meets-next : (len : ℕ) (s : List ℕ) → meetsEnd (len ∷ s) ≡ (leb len (length s) && meetsEnd (drop len s))
 unfolding meetsEnd meetsEndIn
 meets-next len s = ap (λ (b : Bool). leb len (length s) && b) (meets-fuel (length s) (length (drop len s)) (drop len s) (simp length-drop (omega arith)) (omega arith))
 
@@ -47,7 +47,7 @@ pub records-done : (s : List ℕ) (at : ℕ) → length s ≤ at → records (dr
 unfolding records recordsIn
 records-done s at h = ap records (drop-of-length-le s h)
 
-pub meets-done : (s : List ℕ) (at : ℕ) → length s ≤ at → meetsEnd (drop at s) ≡ true
+meets-done : (s : List ℕ) (at : ℕ) → length s ≤ at → meetsEnd (drop at s) ≡ true
 unfolding meetsEnd meetsEndIn
 meets-done s at h = ap meetsEnd (drop-of-length-le s h)
 

@@ -1,37 +1,36 @@
--- Laws for the sections: what the tests say of offsets.
+-- Cause 4: the tests of the code decide whether a section is whole and whether both are, and where they are, which bytes of the book
+-- are which records. Used by whole_section and broken_section; the crate `book` reads the sections by `arrow-part` and `rule-part`.
 -- Assumes nothing.
 use mathlib.Core.Path.{_≡_, refl, sym, ap, _∙_}
 use mathlib.Core.Bool.{Bool, true, false, not, _&&_, _||_, false≢true}
 use mathlib.Core.List.{List}
 use Prim.Native.Nat.{ℕ, _+_, _-_, _<_, _≤_}
 use native.Mathlib.Omega.{arith}
-use borrow.Author.Tests.{le-leb, lt-leb, leb-true, eqb-true}
+use borrow.Author.Tests.{le-leb, lt-leb, leb-true, eqb-true, not-false}
 use lib.Dec.{eqb}
 use lib.ListN.{length, take, drop}
 use Rattle.format.specs.Book.{u16At, u32At, records, meetsEnd, sectionBytes, sectionCount, sectionEnd, sectionRecords, ruleSection, arrowRecords, ruleRecords}
 use Rattle.format.specs.Sections.{wholeSection, hasBrokenSection}
+use Rattle.layers.proofs.BitLaws.{and-left}
 
 module _ (s : List ℕ) (at : ℕ) where
-  pub sound-short : length s < at + 6 → false ≡ wholeSection s at
+  pub section-short : length s < at + 6 → false ≡ wholeSection s at
   unfolding wholeSection sectionEnd
-  sound-short h = sym (rw (lt-leb (at + 6 + sectionBytes s at) (length s) (omega arith)) refl)
+  section-short h = sym (rw (lt-leb (at + 6 + sectionBytes s at) (length s) (omega arith)) refl)
 
   module _ (b : ℕ) (e : b ≡ u32At s at) where
-    pub sound-over : at + 6 ≤ length s → length s - (at + 6) < b → false ≡ wholeSection s at
+    pub section-over : at + 6 ≤ length s → length s - (at + 6) < b → false ≡ wholeSection s at
     unfolding wholeSection sectionEnd sectionBytes
-    sound-over h i = sym (rw (lt-leb (at + 6 + u32At s at) (length s) (omega arith)) refl)
+    section-over h i = sym (rw (lt-leb (at + 6 + u32At s at) (length s) (omega arith)) refl)
 
-    pub sound-walk : (k : ℕ) → k ≡ u16At s (at + 4) → at + 6 ≤ length s → b ≤ length s - (at + 6) → (t : Bool)
+    pub section-walk : (k : ℕ) → k ≡ u16At s (at + 4) → at + 6 ≤ length s → b ≤ length s - (at + 6) → (t : Bool)
         → t ≡ (meetsEnd (take (at + 6 + b - (at + 6)) (drop (at + 6) s)) && eqb (length (records (take (at + 6 + b - (at + 6)) (drop (at + 6) s)))) k) → t ≡ wholeSection s at
     unfolding wholeSection sectionEnd sectionRecords sectionBytes sectionCount
-    sound-walk k f h i t q =
+    section-walk k f h i t q =
         let w : at + 6 + b - (at + 6) ≡ u32At s at = omega arith in
         q ∙ sym (rw (le-leb (at + 6 + u32At s at) (length s) (omega arith), ← f, ← w) refl)
 
-left-of : (a b : Bool) → (a && b) ≡ true → a ≡ true
-left-of true b e = refl
-left-of false b e = e
-
+-- neither of two tests that fail together passes
 pub or-first : (a b : Bool) → (a || b) ≡ false → a ≡ false
 or-first true b e = e
 or-first false b e = refl
@@ -40,13 +39,9 @@ pub or-second : (a b : Bool) → (a || b) ≡ false → b ≡ false
 or-second true b e = absurd (false≢true (sym e))
 or-second false b e = e
 
-pub not-out : (a : Bool) → not a ≡ false → a ≡ true
-not-out true e = refl
-not-out false e = absurd (false≢true (sym e))
-
-pub sound-in : (s : List ℕ) (at : ℕ) → wholeSection s at ≡ true → at + 6 + u32At s at ≤ length s
+pub section-inside : (s : List ℕ) (at : ℕ) → wholeSection s at ≡ true → at + 6 + u32At s at ≤ length s
 unfolding wholeSection sectionEnd sectionBytes
-sound-in s at e = leb-true (at + 6 + u32At s at) (length s) (left-of _ _ (left-of _ _ e))
+section-inside s at e = leb-true (at + 6 + u32At s at) (length s) (and-left _ _ (and-left _ _ e))
 
 module _ (s : List ℕ) where
   pub four-first : wholeSection s 8 ≡ false → true ≡ hasBrokenSection s
@@ -54,7 +49,7 @@ module _ (s : List ℕ) where
   four-first e = sym (rw e refl)
 
   module _ (t : wholeSection s 8 ≡ true) (b : ℕ) (e : b ≡ u32At s 8) where
-    pub second-is : 14 + b ≡ ruleSection s
+    second-is : 14 + b ≡ ruleSection s
     unfolding ruleSection sectionEnd sectionBytes
     second-is = rw e refl
 
@@ -72,17 +67,17 @@ pub record Laid (s : List ℕ) : Type 0 where
   pub second-in : 14 + u32At s 8 + 6 + u32At s (14 + u32At s 8) ≡ length s
 
 module _ (s : List ℕ) (e : hasBrokenSection s ≡ false) where
-  sound-first : wholeSection s 8 ≡ true
+  first-whole : wholeSection s 8 ≡ true
   unfolding hasBrokenSection
-  sound-first = not-out (wholeSection s 8) (or-first (not (wholeSection s 8)) (not (wholeSection s (ruleSection s))) (or-first (not (wholeSection s 8) || not (wholeSection s (ruleSection s))) (not (eqb (sectionEnd s (ruleSection s)) (length s))) e))
+  first-whole = not-false (wholeSection s 8) (or-first (not (wholeSection s 8)) (not (wholeSection s (ruleSection s))) (or-first (not (wholeSection s 8) || not (wholeSection s (ruleSection s))) (not (eqb (sectionEnd s (ruleSection s)) (length s))) e))
 
   end-meets : sectionEnd s (ruleSection s) ≡ length s
   unfolding hasBrokenSection
-  end-meets = eqb-true (sectionEnd s (ruleSection s)) (length s) (not-out (eqb (sectionEnd s (ruleSection s)) (length s)) (or-second (not (wholeSection s 8) || not (wholeSection s (ruleSection s))) (not (eqb (sectionEnd s (ruleSection s)) (length s))) e))
+  end-meets = eqb-true (sectionEnd s (ruleSection s)) (length s) (not-false (eqb (sectionEnd s (ruleSection s)) (length s)) (or-second (not (wholeSection s 8) || not (wholeSection s (ruleSection s))) (not (eqb (sectionEnd s (ruleSection s)) (length s))) e))
 
   pub laid : Laid s
   unfolding sectionEnd sectionBytes ruleSection
-  laid = record { first-in = sound-in s 8 sound-first; second-in = end-meets }
+  laid = record { first-in = section-inside s 8 first-whole; second-in = end-meets }
 
 -- the two parts, as the code cuts them
 module _ (s : List ℕ) (b : ℕ) (eb : b ≡ u32At s 8) where

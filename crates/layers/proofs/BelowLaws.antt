@@ -1,17 +1,14 @@
--- The test `below` passes exactly where there is a path.
--- Assumes nothing.
-use Rattle.layers.specs.Layers.{Arrow}
+-- The test `below` passes exactly where there is a path: a path is what follows by the arrows, read backwards. Assumes nothing.
 use mathlib.Core.Path.{_≡_, refl, sym, subst}
 use mathlib.Core.List.{List, map, List·Memᴰ·head, List·Memᴰ·eq-of-singleton, Memᴰ·map, Memᴰ·of-map}
 use Prim.Native.Nat.{ℕ}
 use lib.Dec.{T, eqb, eqb-refl, eqb→eq}
 use Rattle.base.specs.Lists.{filter}
 use Rattle.base.specs.Closure.{Clause, Consequence, given, by-clause}
-use Rattle.layers.specs.Layers.{Path, single, longer, backwards, layersBelow, below}
+use Rattle.layers.specs.Layers.{Arrow, Path, single, longer, backwards, layersBelow, below}
 use Rattle.base.proofs.Members.{_∈_, filter-from, filter-into}
 use Rattle.base.proofs.ClosureLaws.{member-sound, member-complete, closure-sound, closure-complete}
 
--- layers
 module _ (arrows : List Arrow) (j : ℕ) where
   starts : List ℕ
   starts = map (λ a. a .earlier) (filter (λ a. eqb (a .later) j) arrows)

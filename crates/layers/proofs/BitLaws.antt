@@ -1,6 +1,5 @@
--- Laws for the masks: one more bit, and arrows read into bits.
--- Assumes nothing.
-use Rattle.layers.specs.Layers.{link}
+-- Masks bit by bit: the bits of a power of two, of two masks joined, of what they share and of nothing, and one more bit in a list of
+-- masks. Used by the closure and by every crate that keeps masks. Assumes nothing.
 use mathlib.Core.Path.{_≡_, refl, sym, ap, subst, _∙_}
 use mathlib.Core.Bool.{Bool, true, false, _&&_, _||_, false≢true}
 use mathlib.Core.Logic.{_⊎_, inl, inr}
@@ -11,14 +10,14 @@ use native.Mathlib.Nat.{zero-div, div-one, div-eq-of-lt, div-self, div-div-eq-di
 use native.Mathlib.Decide.{decLt, ℕ-discrete}
 use borrow.Author.Tests.{eq-eqb, ne-eqb}
 use lib.Pow.{pow-pos, pow-lt, pow-add}
-use lib.Bits.{bitOr, bitAnd, and-step, and-shr}
+use lib.Bits.{bitOr, bitAnd, or-step, or-shr, and-step, and-shr}
 use lib.Dec.{eqb}
 use lib.ListN.{length, getD, set, replicate}
 use lib.Seq.{getD-set-same, getD-set-other}
-use Rattle.layers.specs.Layers.{sameArrow}
+use Rattle.layers.specs.Layers.{link, sameArrow}
 use Rattle.layers.specs.Masks.{bitOf, marked}
-use Rattle.layers.proofs.WarshallLaws.{bit-or, bit-small}
 
+-- tests joined, as equations
 pub or-true : (b : Bool) → true ≡ (b || true)
 or-true true = refl
 or-true false = refl
@@ -38,6 +37,9 @@ and-left false b e = e
 pub and-right : (a b : Bool) → (a && b) ≡ true → b ≡ true
 and-right true b e = e
 and-right false b e = absurd (false≢true e)
+
+pub bit-small : (a j : ℕ) → bitOf a j < 2
+bit-small a j = omega arith
 
 -- the bits of a power of two
 pub pow-fits : (j : ℕ) → j < 32 → 1 * 2 ^ j % 4294967296 ≡ 2 ^ j
@@ -64,6 +66,9 @@ bit-other j y n = go (decLt j y)
     go (no h) = let e : suc (j - y - 1) + y ≡ j = omega arith in subst (λ (k : ℕ). bitOf (2 ^ k) y ≡ 0) e (bit-under y (j - y - 1))
 
 -- a bit of two masks joined, or of what they share
+pub bit-or : (a b j : ℕ) → bitOf (bitOr a b) j ≡ max (bitOf a j) (bitOf b j)
+bit-or a b j = rw (or-shr a b j) (omega (arith, or-step (a / 2 ^ j) (b / 2 ^ j)))
+
 module _ (a b i : ℕ) where
   pub or-cases : bitOf (bitOr a b) i ≡ 1 → (bitOf a i ≡ 1) ⊎ (bitOf b i ≡ 1)
   or-cases e = go (ℕ-discrete (bitOf a i) 1)
@@ -90,6 +95,7 @@ module _ (a b i : ℕ) where
   pub and-both : bitOf a i ≡ 1 → bitOf b i ≡ 1 → bitOf (bitAnd a b) i ≡ 1
   and-both e f = omega (arith, bit-and)
 
+-- one more bit: bit j of mask i
 module _ (m : List ℕ) (i j : ℕ) (h : i < length m) (k : j < 32) where
   pub with-bit : (x y : ℕ) → marked (set m i (bitOr (getD m i 0) (1 * 2 ^ j % 4294967296))) x y ≡ (marked m x y || sameArrow (link i j) (link x y))
   unfolding marked sameArrow
@@ -106,6 +112,7 @@ module _ (m : List ℕ) (i j : ℕ) (h : i < length m) (k : j < 32) where
           alone b = let e : max b 0 ≡ b = omega arith in rw e (sym (or-false (eqb b 1)))
       go (no e) d = rw (getD-set-other m i x (bitOr (getD m i 0) (2 ^ j)) 0 (λ q. e (sym q)), ne-eqb i x e) (sym (or-false (eqb (bitOf (getD m x 0) y) 1)))
 
+-- nothing has no bit
 pub no-bits : (n x : ℕ) → getD {A = ℕ} (replicate n 0) x 0 ≡ 0
 no-bits zero x = refl
 no-bits (suc n) zero = refl
@@ -113,6 +120,9 @@ no-bits (suc n) (suc x) = no-bits n x
 
 pub no-bit : (i : ℕ) → bitOf 0 i ≡ 1 → ⊥
 no-bit i e = omega (arith, e, zero-div (2 ^ i))
+
+pub zero-bit : (a i : ℕ) → a ≡ 0 → bitOf a i ≡ 1 → ⊥
+zero-bit a i e h = no-bit i (subst (λ (x : ℕ). bitOf x i ≡ 1) e h)
 
 -- a number that is not 0 has a bit that is set
 pub some-bit : (k a : ℕ) → a < k → 0 < a → (i : ℕ) × (bitOf a i ≡ 1)

@@ -1,3 +1,3 @@
 pub mod BelowLaws
-pub mod WarshallLaws
 pub mod BitLaws
+pub mod WarshallLaws

@@ -1,19 +1,18 @@
--- Laws that the proof of masks cites. Assumes nothing.
+-- The closure by Warshall: a turn at layer k joins the ways through k, mask by mask (`Row`, `Step`), and after the turns up to k the
+-- masks are closed under ways through those layers (`Turns`). Used by transitive_closure. Assumes nothing.
 use mathlib.Core.Path.{_≡_, refl, sym, _∙_, subst}
 use mathlib.Core.Logic.{_⊎_, inl, inr, ⊎-elim}
 use mathlib.Core.List.{List}
 use Prim.Native.Nat.{ℕ, _+_, _/_, _^_, _≤_, _<_, max}
-use native.Mathlib.Nat.{zero-div}
 use native.Mathlib.Decide.{decLt, ℕ-discrete}
 use native.Mathlib.Omega.{arith}
-use lib.Bits.{bitOr, bitAnd, or-step, or-shr, and-mask}
+use lib.Bits.{bitOr, bitAnd, and-mask}
 use lib.ListN.{length, getD, set, length-set}
 use lib.Seq.{getD-set-same, getD-set-other}
 use Rattle.layers.specs.Masks.{bitOf, Linked, Way, edge, join, EmptyFrom}
+use Rattle.layers.proofs.BitLaws.{bit-or, bit-small}
 
-pub bit-or : (a b j : ℕ) → bitOf (bitOr a b) j ≡ max (bitOf a j) (bitOf b j)
-bit-or a b j = rw (or-shr a b j) (omega (arith, or-step (a / 2 ^ j) (b / 2 ^ j)))
-
+-- a bit as the code tests it
 pub test-bit : (a k : ℕ) → bitAnd (a / 2 ^ k) 1 ≡ bitOf a k
 test-bit a k = and-mask (a / 2 ^ k) 1
 
@@ -56,27 +55,21 @@ row-hit m₀ m k i v r b e y = record {
       (lt-or-eq x i h);
 }
 
--- what a turn at k does to the arrows
+-- what a turn at k does to the ways
 pub record Step (m₀ m : List ℕ) (k : ℕ) : Type 0 where
-  pub consIf : (x j : ℕ) → Linked m₀ x j → Linked m x j
+  pub kept : (x j : ℕ) → Linked m₀ x j → Linked m x j
   pub both : (x j : ℕ) → Linked m₀ x k → Linked m₀ k j → Linked m x j
   pub back : (x j : ℕ) → Linked m x j → Linked m₀ x j ⊎ (Linked m₀ x k × Linked m₀ k j)
 
-pub bit-small : (a j : ℕ) → bitOf a j < 2
-bit-small a j = omega arith
-
-pub no-bit : (a j : ℕ) → a ≡ 0 → bitOf a j ≡ 1 → ⊥
-no-bit a j e h = let z : bitOf 0 j ≡ 1 = rw e at h in omega (arith, z, zero-div (2 ^ j))
-
 module _ (m₀ m : List ℕ) (k i : ℕ) (r : Row m₀ m k i) (all : EmptyFrom i m₀) where
   step-of : Step m₀ m k
-  step-of = record { consIf = λ x j a. consIf-at x j a (ℕ-discrete (bitOf (getD m₀ x 0) k) 1) (decLt x i); both = both-at; back = λ x j a. back-at x j a (ℕ-discrete (bitOf (getD m₀ x 0) k) 1) (decLt x i) }
+  step-of = record { kept = λ x j a. kept-at x j a (ℕ-discrete (bitOf (getD m₀ x 0) k) 1) (decLt x i); both = both-at; back = λ x j a. back-at x j a (ℕ-discrete (bitOf (getD m₀ x 0) k) 1) (decLt x i) }
     where
-      consIf-at : (x j : ℕ) → Linked m₀ x j → Dec (Linked m₀ x k) → Dec (x < i) → Linked m x j
-      consIf-at x j a (yes y) (yes b) = rw (r .hit x b y, bit-or (getD m₀ x 0) (getD m₀ k 0) j) (omega (arith, bit-small (getD m₀ k 0) j))
-      consIf-at x j a (no n) (yes b) = rw (r .miss x b n) a
-      consIf-at x j a (yes y) (no b) = rw (r .same x (omega arith)) a
-      consIf-at x j a (no n) (no b) = rw (r .same x (omega arith)) a
+      kept-at : (x j : ℕ) → Linked m₀ x j → Dec (Linked m₀ x k) → Dec (x < i) → Linked m x j
+      kept-at x j a (yes y) (yes b) = rw (r .hit x b y, bit-or (getD m₀ x 0) (getD m₀ k 0) j) (omega (arith, bit-small (getD m₀ k 0) j))
+      kept-at x j a (no n) (yes b) = rw (r .miss x b n) a
+      kept-at x j a (yes y) (no b) = rw (r .same x (omega arith)) a
+      kept-at x j a (no n) (no b) = rw (r .same x (omega arith)) a
 
       both-at : (x j : ℕ) → Linked m₀ x k → Linked m₀ k j → Linked m x j
       both-at x j a b = go (decLt x i)
@@ -97,18 +90,18 @@ module _ (m₀ m : List ℕ) (k i : ℕ) (r : Row m₀ m k i) (all : EmptyFrom i
           go (yes c) q = inl c
           go (no c) q = inr (y, omega (arith, q, bit-small (getD m₀ x 0) j))
 
--- what the turns keep
+-- after the turns before k
 pub record Turns (s m : List ℕ) (k : ℕ) : Type 0 where
   pub len : length m ≡ 32
   pub sound : (i j : ℕ) → Linked m i j → Way s i j
-  pub saturate : (i j : ℕ) → Linked s i j → Linked m i j
+  pub kept : (i j : ℕ) → Linked s i j → Linked m i j
   pub closed : (x i j : ℕ) → x < k → Linked m i x → Linked m x j → Linked m i j
 
 pub turns-start : (s : List ℕ) → length s ≡ 32 → Turns s s 0
-turns-start s e = record { len = e; sound = λ i j a. edge i j a; saturate = λ i j a. a; closed = λ x i j h. absurd (omega arith) }
+turns-start s e = record { len = e; sound = λ i j a. edge i j a; kept = λ i j a. a; closed = λ x i j h. absurd (omega arith) }
 
 -- a way starts with a bit
-pub way-from : (s : List ℕ) (n : ℕ) → EmptyFrom n s → (i j : ℕ) → Way s i j → i < n
+way-from : (s : List ℕ) (n : ℕ) → EmptyFrom n s → (i j : ℕ) → Way s i j → i < n
 way-from s n e x y (edge i j a) = e i j a
 way-from s n e x y (join i k j b p q) = way-from s n e i k p
 
@@ -118,7 +111,7 @@ module _ (s : List ℕ) (n : ℕ) (few : n ≤ 32) (empty : EmptyFrom n s) where
   turns-more m₀ m k i t b r h = record {
     len = r .len ∙ t .len;
     sound = λ x j a. ⊎-elim (λ p. t .sound x j p) (λ p. join x k j (omega arith) (t .sound x k (p .0)) (t .sound k j (p .1))) (st .back x j a);
-    saturate = λ x j a. st .consIf x j (t .saturate x j a);
+    kept = λ x j a. st .kept x j (t .kept x j a);
     closed = λ x y j c p q. ⊎-elim (λ l. low x y j l (st .back y x p) (st .back x j q)) (λ e. st .both y j (to-k x y e (st .back y x p)) (from-k x j e (st .back x j q))) (lt-or-eq x k c);
   }
     where
@@ -126,7 +119,7 @@ module _ (s : List ℕ) (n : ℕ) (few : n ≤ 32) (empty : EmptyFrom n s) where
       st = step-of m₀ m k i r (λ x j a. omega (arith, way-from s n empty x j (t .sound x j a)))
 
       low : (x y j : ℕ) → x < k → Linked m₀ y x ⊎ (Linked m₀ y k × Linked m₀ k x) → Linked m₀ x j ⊎ (Linked m₀ x k × Linked m₀ k j) → Linked m y j
-      low x y j l (inl p) (inl q) = st .consIf y j (t .closed x y j l p q)
+      low x y j l (inl p) (inl q) = st .kept y j (t .closed x y j l p q)
       low x y j l (inl p) (inr q) = st .both y j (t .closed x y k l p (q .0)) (q .1)
       low x y j l (inr p) (inl q) = st .both y j (p .0) (t .closed x k j l (p .1) q)
       low x y j l (inr p) (inr q) = st .both y j (p .0) (q .1)
@@ -140,5 +133,5 @@ module _ (s : List ℕ) (n : ℕ) (few : n ≤ 32) (empty : EmptyFrom n s) where
       from-k x j e (inr p) = p .1
 
   pub full : (m : List ℕ) (k : ℕ) → Turns s m k → n ≤ k → (i j : ℕ) → Way s i j → Linked m i j
-  full m k t h x y (edge i j a) = t .saturate i j a
+  full m k t h x y (edge i j a) = t .kept i j a
   full m k t h x y (join i l j b p q) = t .closed l i j (omega (arith, way-from s n empty l j q)) (full m k t h i l p) (full m k t h l j q)

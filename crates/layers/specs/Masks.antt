@@ -11,6 +11,7 @@ use Rattle.layers.specs.Layers.{Arrow, below}
 abbrev pub bitOf : ℕ → ℕ → ℕ
 bitOf a j = a / 2 ^ j % 2
 
+-- bit j of mask i is set: as the code tests it, and as a statement
 unfoldable pub marked : List ℕ → ℕ → ℕ → Bool
 marked m i j = eqb (bitOf (getD m i 0) j) 1
 

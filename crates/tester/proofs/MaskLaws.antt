@@ -15,8 +15,7 @@ use lib.Seq.{getD-set-same, getD-set-other}
 use Rattle.layers.specs.Masks.{bitOf}
 use Rattle.format.specs.Book.{Literal}
 use Rattle.models.specs.StableModels.{Interpretation, atomHolds, positive, complement, signed, holds, bodyHolds}
-use Rattle.layers.proofs.WarshallLaws.{no-bit}
-use Rattle.layers.proofs.BitLaws.{no-bits, or-cases, or-left, or-right}
+use Rattle.layers.proofs.BitLaws.{no-bits, zero-bit, or-cases, or-left, or-right}
 use Rattle.table.specs.Names.{literalNamed}
 use Rattle.table.specs.Rows.{headName, rowAt}
 use Rattle.table.proofs.NameLaws.{name-low, name-high, one-name}
@@ -40,7 +39,7 @@ module _ {book rows overridden : List ℕ} {m : Interpretation} where
   pub rejects-start : RejectedMasks book rows overridden m (replicate {A = ℕ} 512 0) 0
   rejects-start = record {
     size = length-replicate {A = ℕ} 512 0;
-    sound = λ h i e. absurd (no-bit (getD (replicate {A = ℕ} 512 0) h 0) i (no-bits 512 h) e);
+    sound = λ h i e. absurd (zero-bit (getD (replicate {A = ℕ} 512 0) h 0) i (no-bits 512 h) e);
     full = λ h i x b. absurd (omega (arith, x .before));
   }
 
@@ -53,7 +52,7 @@ module _ {book rows overridden : List ℕ} {m : Interpretation} where
   rejects-skip {rejects} {j} w mask e z = record { size = w .size; sound = λ x i y. later (w .sound x i y); full = λ x i y k. go x i y k (decLt (y .row) j) }
     where
       none : (c : Bool) (i : ℕ) → mask ≡ cond c (getD overridden j 0) 0 → T c → bitOf (getD overridden j 0) i ≡ 1 → ⊥
-      none true i q t a = no-bit (getD overridden j 0) i (sym q ∙ z) a
+      none true i q t a = zero-bit (getD overridden j 0) i (sym q ∙ z) a
       none false i q t a = absurd t
 
       go : (x i : ℕ) (y : Rejection book rows overridden m (j + 1) x i) → x < 512 → Dec (y .row < j) → bitOf (getD rejects x 0) i ≡ 1
@@ -77,7 +76,7 @@ module _ {book rows overridden : List ℕ} {m : Interpretation} where
       where
         go : (c : Bool) → mask ≡ cond c (getD overridden j 0) 0 → bitOf mask i ≡ 1 → T c × (bitOf (getD overridden j 0) i ≡ 1)
         go true q z = (tt, rw q at z)
-        go false q z = absurd (no-bit mask i q z)
+        go false q z = absurd (zero-bit mask i q z)
 
     to-mask : (i : ℕ) → T (bodyHolds m (rowAt book rows j)) → bitOf (getD overridden j 0) i ≡ 1 → bitOf mask i ≡ 1
     to-mask i = go (bodyHolds m (rowAt book rows j)) e
@@ -132,7 +131,7 @@ module _ {book rows : List ℕ} {m : Interpretation} where
 
   -- one row on, where what row j supports is among the atoms
   module _ {atoms : List Bool} {j : ℕ} (w : Supported book rows m atoms j) where
-    pub supported-same : ((f : ℕ) → rowAt book rows j .head ≡ positive f → T (bodyHolds m (rowAt book rows j)) → T (atomHolds atoms f)) → Supported book rows m atoms (j + 1)
+    supported-same : ((f : ℕ) → rowAt book rows j .head ≡ positive f → T (bodyHolds m (rowAt book rows j)) → T (atomHolds atoms f)) → Supported book rows m atoms (j + 1)
     supported-same n = record {
       size = w .size;
       sound = λ f t. support-later (w .sound f t);

@@ -15,9 +15,9 @@ use Rattle.models.specs.Branching.{canReject, branching}
 use Rattle.base.proofs.Members.{_∈_, and-left, and-right, and-both, all-at, all-of, any-at, any-of}
 use Rattle.base.proofs.UpTo.{passed}
 use Rattle.models.proofs.BranchingLaws.{branch, rejected-same}
-use Rattle.models.proofs.LeastLaws.{lit-same, lit-refl, stable-complete}
+use Rattle.models.proofs.LeastLaws.{literal-same, literal-refl, stable-complete}
 use Rattle.layers.specs.Masks.{bitOf}
-use Rattle.layers.proofs.WarshallLaws.{no-bit}
+use Rattle.layers.proofs.BitLaws.{zero-bit}
 use Rattle.table.specs.Names.{nameOf}
 use Rattle.table.specs.Rows.{rowCount, rowAt}
 use Rattle.table.specs.Table.{Tabulates}
@@ -97,7 +97,7 @@ module _ {P : Program} {book rows overridden rejects : List ℕ} {o : Interpreta
         let v : (r : Rule) × r ∈ P .rules × T (sameLiteral (r .head) (positive f) && bodyHolds m r) = any-at (λ r. sameLiteral (r .head) (positive f) && bodyHolds m r) (P .rules) a in
         let r : Rule = v .0 in
         T-not (atomHolds m f) n
-        (stands r (v .1) (lit-same (r .head) (positive f) (and-left (sameLiteral (r .head) (positive f)) (bodyHolds m r) (v .2)))
+        (stands r (v .1) (literal-same (r .head) (positive f) (and-left (sameLiteral (r .head) (positive f)) (bodyHolds m r) (v .2)))
         (and-right (sameLiteral (r .head) (positive f)) (bodyHolds m r) (v .2)) (alive rejects r) refl))
       where
         stands : (r : Rule) → r ∈ P .rules → r .head ≡ positive f → T (bodyHolds m r) → (a : Bool) → alive rejects r ≡ a → T (atomHolds m f)
@@ -115,10 +115,11 @@ module _ {P : Program} {book rows overridden rejects : List ℕ} {o : Interpreta
       lives r e =
           let x : ℕ = getD rejects (nameOf (r .head)) 0 in
           passed (alive rejects r)
-          (not-T (eqb (bitOf x (r .layer)) 1) (λ t. no-bit x (r .layer) (ap (λ (l : Literal). getD rejects (nameOf l) 0) e ∙ clear f a) (eqb→eq (bitOf x (r .layer)) 1 t)))
+          (not-T (eqb (bitOf x (r .layer)) 1) (λ t. zero-bit x (r .layer) (ap (λ (l : Literal). getD rejects (nameOf l) 0) e ∙ clear f a) (eqb→eq (bitOf x (r .layer)) 1 t)))
 
-  contested-default : (f : ℕ) → T (not (atomHolds m f)) → atomHolds q f ≡ false → T (default P m f)
-  contested-default f n nq =
+  -- of an atom whose negation is not marked no rejected rule is contested
+  unmarked-default : (f : ℕ) → T (not (atomHolds m f)) → atomHolds q f ≡ false → T (default P m f)
+  unmarked-default f n nq =
       unsupported f n
       (λ r k e t y.
       let x : (j : ℕ) × (j < rowCount rows) × (rowAt book rows j ≡ r) = row-of book rows r (rule-in w r k) in
@@ -141,7 +142,7 @@ module _ {P : Program} {book rows overridden rejects : List ℕ} {o : Interpreta
     where
       go : (b : Bool) → atomHolds q f ≡ b → Derived P m (negative f)
       go true e = follows-derived (negative f) (filled .sound (negative f) (subst T (sym e) tt))
-      go false e = by-default f h (contested-default f t e)
+      go false e = by-default f h (unmarked-default f t e)
 
   -- a fact that follows has a rule whose body holds
   supports : (l : Literal) → FollowsFrom book rows rejects assumed l → l .negated ≡ false → T (any (λ r. sameLiteral (r .head) l && bodyHolds m r) (P .rules))
@@ -149,7 +150,7 @@ module _ {P : Program} {book rows overridden rejects : List ℕ} {o : Interpreta
   supports l (from-start f t) e = absurd (false≢true (sym e))
   supports l (by-row r k a below) e =
       any-of (λ x. sameLiteral (x .head) (r .head) && bodyHolds m x) (in-rule w r k)
-      (and-both (sameLiteral (r .head) (r .head)) (bodyHolds m r) (lit-refl (r .head)) (all-of (holds m) (r .body) (λ x i. follows-holds x (below x i))))
+      (and-both (sameLiteral (r .head) (r .head)) (bodyHolds m r) (literal-refl (r .head)) (all-of (holds m) (r .body) (λ x i. follows-holds x (below x i))))
 
   -- what is derived holds
   derived-holds : (l : Literal) → Derived P m l → T (holds m l)

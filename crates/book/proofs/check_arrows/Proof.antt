@@ -1,7 +1,7 @@
 -- `check_arrows` meets its contract: each test's answer is its cause's predicate, and the masks are those of `lower_masks`.
 -- Assumes nothing.
 use Rattle.format.proofs.SectionLaws.{laid}
-use Rattle.book.proofs.RingLaws.{count-few, eight-is}
+use Rattle.book.proofs.CycleLaws.{count-few, eight-is}
 use Rattle.book.proofs.VerdictLaws.{seven-applies, eight-applies, none-applies, checks-refused, checks-accepted}
 use native.Mathlib.Omega.{arith}
 use borrow.Author.Needs.{needs}

@@ -4,7 +4,7 @@ use mathlib.Core.Path.{sym, subst}
 use Prim.Native.Nat.{ℕ}
 use Rattle.layers.specs.Masks.{EmptyFrom}
 use Rattle.format.proofs.SectionLaws.{laid}
-use Rattle.book.proofs.RingLaws.{part-good, masks-empty, masks-are, count-is, count-few}
+use Rattle.book.proofs.CycleLaws.{part-good, masks-empty, masks-are, count-is, count-few}
 use native.Mathlib.Omega.{arith}
 use borrow.Author.Needs.{needs}
 use Rattle.book.proofs.lower_masks.Statement.{statement}

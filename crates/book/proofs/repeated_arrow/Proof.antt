@@ -1,5 +1,5 @@
 use Rattle.format.proofs.SectionLaws.{laid}
-use Rattle.book.proofs.RingLaws.{part-good, seven-is}
+use Rattle.book.proofs.CycleLaws.{part-good, seven-is}
 use native.Mathlib.Omega.{arith}
 use borrow.Author.Needs.{needs}
 use Rattle.book.proofs.repeated_arrow.Statement.{statement}

@@ -1,6 +1,6 @@
 use mathlib.Core.Path.{sym, _∙_}
 use borrow.Author.Tests.{not-true, not-false}
-use Rattle.format.proofs.SectionLaws.{sound-in, four-first, four-second, four-end}
+use Rattle.format.proofs.SectionLaws.{section-inside, four-first, four-second, four-end}
 use native.Mathlib.Omega.{arith}
 use borrow.Author.Needs.{needs}
 use Rattle.format.proofs.broken_section.Statement.{statement}
@@ -13,7 +13,7 @@ returns : tie.Need-returns
 returns c = four-first (c .before .before .before .args .book .now) (sym (c .before .whole-section .ensures) ∙ not-true _ (c .if1 .taken))
 
 be32-requires : tie.Need-be32-requires
-be32-requires c κs = omega (arith, sound-in (c .before .before .before .args .book .now) 8 (sym (c .before .whole-section .ensures) ∙ not-false _ (c .if1 .left)))
+be32-requires c κs = omega (arith, section-inside (c .before .before .before .args .book .now) 8 (sym (c .before .whole-section .ensures) ∙ not-false _ (c .if1 .left)))
 
 add-second : tie.Need-add-second
 add-second c = search needs
@@ -28,7 +28,7 @@ add-result : tie.Need-add-result
 add-result c = search needs
 
 be32-requires-2 : tie.Need-be32-requires-2
-be32-requires-2 c κs = omega (arith, sound-in (c .before .before .before .before .before .before .args .book .now) _ (sym (c .before .whole-section2 .ensures) ∙ not-false _ (c .if2 .left)))
+be32-requires-2 c κs = omega (arith, section-inside (c .before .before .before .before .before .before .args .book .now) _ (sym (c .before .whole-section2 .ensures) ∙ not-false _ (c .if2 .left)))
 
 add-result-2 : tie.Need-add-result-2
 add-result-2 c = search needs

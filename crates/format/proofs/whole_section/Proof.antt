@@ -1,16 +1,16 @@
-use Rattle.format.proofs.SectionLaws.{sound-short, sound-over, sound-walk}
+use Rattle.format.proofs.SectionLaws.{section-short, section-over, section-walk}
 use borrow.Author.Needs.{needs}
 use Rattle.format.proofs.whole_section.Statement.{statement}
 use Rattle.format.proofs.whole_section.Tie as tie
 
 returns : tie.Need-returns
-returns c = sound-short (c .before .before .args .book .now) (c .before .before .args .at) (search needs)
+returns c = section-short (c .before .before .args .book .now) (c .before .before .args .at) (search needs)
 
 sub-if2 : tie.Need-sub-if2
 sub-if2 c = search needs
 
 returns-2 : tie.Need-returns-2
-returns-2 c = sound-short (c .before .before .before .args .book .now) (c .before .before .before .args .at) (search needs)
+returns-2 c = section-short (c .before .before .before .args .book .now) (c .before .before .before .args .at) (search needs)
 
 add-from : tie.Need-add-from
 add-from c = search needs
@@ -22,7 +22,7 @@ sub-if3 : tie.Need-sub-if3
 sub-if3 c = search needs
 
 returns-3 : tie.Need-returns-3
-returns-3 c = sound-over (c .before .before .before .before .before .args .book .now) (c .before .before .before .before .before .args .at) (c .before .be32 .result) (c .before .be32 .ensures .0) (search needs) (c .if3 .taken)
+returns-3 c = section-over (c .before .before .before .before .before .args .book .now) (c .before .before .before .before .before .args .at) (c .before .be32 .result) (c .before .be32 .ensures .0) (search needs) (c .if3 .taken)
 
 add-to : tie.Need-add-to
 add-to c = search needs
@@ -46,7 +46,7 @@ whole-records-requires : tie.Need-whole-records-requires
 whole-records-requires c κs = search needs
 
 returns-4 : tie.Need-returns-4
-returns-4 c = sound-walk (c .before .before .before .before .before .before .before .before .args .book .now) (c .before .before .before .before .before .before .before .before .args .at) (c .before .before .before .before .be32 .result) (c .before .before .before .before .be32 .ensures .0) (c .before .be16 .result) (c .before .be16 .ensures .0) (search needs) (search needs) (c .whole-records .result) (c .whole-records .ensures)
+returns-4 c = section-walk (c .before .before .before .before .before .before .before .before .args .book .now) (c .before .before .before .before .before .before .before .before .args .at) (c .before .before .before .before .be32 .result) (c .before .before .before .before .be32 .ensures .0) (c .before .be16 .result) (c .before .be16 .ensures .0) (search needs) (search needs) (c .whole-records .result) (c .whole-records .ensures)
 
 pub whole-section-spec : {M : Type 1} → statement M
 whole-section-spec =

@@ -1,28 +1,24 @@
--- The closed masks have a bit exactly where a layer is below another; a layer is below itself where there is one on the diagonal.
--- Assumes nothing.
-use Rattle.layers.specs.Layers.{Arrow, link, repeats, sameArrow}
+-- Causes 7 and 8: the closed masks of the arrows have a bit exactly where a layer is below another, so a layer is below itself where
+-- there is one on the diagonal. Used by repeated_arrow, lower_masks and check_arrows. Assumes nothing.
 use mathlib.Core.Path.{_≡_, refl, sym, ap, subst, _∙_}
-use mathlib.Core.Bool.{Bool, true, false, not, _&&_, _||_, false≢true}
+use mathlib.Core.Bool.{Bool, true, false, not, _&&_}
 use mathlib.Core.List.{List, map, Memᴰ·cast, Memᴰ·of-map}
 use Prim.Native.Nat.{ℕ, _+_, _-_, _<_, _≤_}
 use native.Mathlib.Omega.{arith}
-use borrow.Author.Tests.{eq-eqb, eqb-true, ltb-true, lt-ltb, leb-true}
-use lib.Dec.{T, eqb, ltb, leb, eqb→eq, eqb-refl}
+use borrow.Author.Tests.{eq-eqb, eqb-true, ltb-true, lt-ltb, not-false}
+use lib.Dec.{T, eqb, ltb, eqb→eq, eqb-refl}
 use lib.ListN.{length, getD, take, drop}
 use Rattle.base.specs.Lists.{all, any, upTo}
-use Rattle.format.specs.Book.{u32At, records, arrowOf, arrowRecords, ruleRecords, arrowsOf, atomCount, layerCount, sectionCount, ruleSection}
-use Rattle.layers.specs.Layers.{Path, single, longer, below}
+use Rattle.format.specs.Book.{u32At, records, arrowOf, arrowRecords, ruleRecords, arrowsOf, atomCount, layerCount}
+use Rattle.layers.specs.Layers.{Arrow, link, repeats, sameArrow, Path, single, longer, below}
 use Rattle.layers.specs.Masks.{bitOf, marked, Linked, Way, edge, join, EmptyFrom, LowerMasks}
-use Rattle.book.specs.Causes.{within, arrowOk, ruleOk, isOutOfRange, hasBadRecord, repeatsArrow, hasCycle}
+use Rattle.book.specs.Causes.{arrowOk, ruleOk, isOutOfRange, hasBadRecord, repeatsArrow, hasCycle}
 use Rattle.base.proofs.Members.{_∈_, and-left, and-right, and-both, all-at, all-of, any-at, any-of, same-test}
-use Rattle.base.proofs.UpTo.{passed}
+use Rattle.base.proofs.UpTo.{passed, true-of}
 use Rattle.layers.proofs.BelowLaws.{below-sound, below-complete}
-use Rattle.format.proofs.SectionLaws.{or-first, or-second, not-out, arrow-part}
+use Rattle.format.proofs.SectionLaws.{or-first, arrow-part}
+use Rattle.book.proofs.RangeLaws.{ranges}
 use Rattle.book.proofs.MaskLaws.{linked}
-
-pub true-of : (b : Bool) → b ≡ true → T b
-true-of true e = tt
-true-of false e = absurd (false≢true e)
 
 same-is : (a b : Arrow) → T (sameArrow a b) → a ≡ b
 unfolding sameArrow
@@ -48,7 +44,7 @@ module _ (links : List Arrow) (start : List ℕ) (reads : (x y : ℕ) → marked
       let w : (a : Arrow) × a ∈ links × T (sameArrow a (link i j)) = any-at (λ a. sameArrow a (link i j)) links t in
       Memᴰ·cast (sym (same-is (w .0) (link i j) (w .2))) (w .1)
 
-  pub empty-from : (n : ℕ) → ((a : Arrow) → a ∈ links → a .later < n) → EmptyFrom n start
+  empty-from : (n : ℕ) → ((a : Arrow) → a ∈ links → a .later < n) → EmptyFrom n start
   empty-from n low j i e = low (link i j) (linked-in i j e)
 
   in-linked : (a : Arrow) → a ∈ links → Linked start (a .later) (a .earlier)
@@ -65,7 +61,7 @@ module _ (links : List Arrow) (start : List ℕ) (reads : (x y : ℕ) → marked
   path-way low j i (single a k e) = subst (λ (x : ℕ). Way start x (a .earlier)) e (edge (a .later) (a .earlier) (in-linked a k))
   path-way low j i (longer a k p) = join j (a .later) (a .earlier) (low a k) (path-way low j (a .later) p) (edge (a .later) (a .earlier) (in-linked a k))
 
-  pub closed : (m : List ℕ) → ((a : Arrow) → a ∈ links → a .later < 32) → ((i j : ℕ) → Linked m i j → Way start i j) → ((i j : ℕ) → Way start i j → Linked m i j) → LowerMasks links m
+  closed : (m : List ℕ) → ((a : Arrow) → a ∈ links → a .later < 32) → ((i j : ℕ) → Linked m i j → Way start i j) → ((i j : ℕ) → Way start i j → Linked m i j) → LowerMasks links m
   closed m low sound full = record {
     sound = λ i j z. below-complete links i j (way-path j i (sound j i z));
     full = λ i j t. full j i (path-way low j i (below-sound links i j t));
@@ -86,10 +82,10 @@ module _ (links : List Arrow) (n : ℕ) (m : List ℕ) (w : LowerMasks links m) 
       any-of (λ i. marked m i i) (f .1)
       (true-of (marked m (f .0) (f .0)) (eq-eqb (bitOf (getD m (f .0) 0) (f .0)) 1 (w .full (f .0) (f .0) (f .2))))
 
-  pub ring-is : any (λ i. marked m i i) (upTo n) ≡ any (λ i. below links i i) (upTo n)
-  ring-is = same-test (any (λ i. marked m i i) (upTo n)) (any (λ i. below links i i) (upTo n)) to-below to-marked
+  cycle-is : any (λ i. marked m i i) (upTo n) ≡ any (λ i. below links i i) (upTo n)
+  cycle-is = same-test (any (λ i. marked m i i) (upTo n)) (any (λ i. below links i i) (upTo n)) to-below to-marked
 
-pub arrows-are : (s : List ℕ) (b : ℕ) → b ≡ u32At s 8 → map arrowOf (records (take (14 + b - 14) (drop 14 s))) ≡ arrowsOf s
+arrows-are : (s : List ℕ) (b : ℕ) → b ≡ u32At s 8 → map arrowOf (records (take (14 + b - 14) (drop 14 s))) ≡ arrowsOf s
 unfolding arrowsOf
 arrows-are s b eb = ap (map arrowOf) (arrow-part s b eb)
 
@@ -113,20 +109,14 @@ both-low l r t =
     )
 
 module _ (s : List ℕ) (five : isOutOfRange s ≡ false) (six : hasBadRecord s ≡ false) where
-  pub layers-few : layerCount s ≤ 32
-  unfolding isOutOfRange within
-  layers-few =
-      let f : not (leb 1 (layerCount s) && leb (layerCount s) 32) ≡ false =
-      or-second (not (leb 1 (atomCount s) && leb (atomCount s) 256)) (not (leb 1 (layerCount s) && leb (layerCount s) 32))
-      (or-first (not (leb 1 (atomCount s) && leb (atomCount s) 256) || not (leb 1 (layerCount s) && leb (layerCount s) 32)) (not (leb 0 (sectionCount s 8) && leb (sectionCount s 8) 496))
-      (or-first (not (leb 1 (atomCount s) && leb (atomCount s) 256) || not (leb 1 (layerCount s) && leb (layerCount s) 32) || not (leb 0 (sectionCount s 8) && leb (sectionCount s 8) 496)) (not (leb 0 (sectionCount s (ruleSection s)) && leb (sectionCount s (ruleSection s)) 1024)) five)) in
-      leb-true (layerCount s) 32 (passed (leb (layerCount s) 32) (and-right (leb 1 (layerCount s)) (leb (layerCount s) 32) (true-of (leb 1 (layerCount s) && leb (layerCount s) 32) (not-out (leb 1 (layerCount s) && leb (layerCount s) 32) f))))
+  layers-few : layerCount s ≤ 32
+  layers-few = ranges s five .layers-few
 
   arrows-good : T (all (arrowOk (layerCount s)) (arrowRecords s))
   unfolding hasBadRecord
-  arrows-good = true-of (all (arrowOk (layerCount s)) (arrowRecords s)) (not-out (all (arrowOk (layerCount s)) (arrowRecords s)) (or-first (not (all (arrowOk (layerCount s)) (arrowRecords s))) (not (all (ruleOk (layerCount s) (atomCount s)) (ruleRecords s))) six))
+  arrows-good = true-of (all (arrowOk (layerCount s)) (arrowRecords s)) (not-false (all (arrowOk (layerCount s)) (arrowRecords s)) (or-first (not (all (arrowOk (layerCount s)) (arrowRecords s))) (not (all (ruleOk (layerCount s) (atomCount s)) (ruleRecords s))) six))
 
-  pub arrows-low : (a : Arrow) → a ∈ arrowsOf s → (a .earlier < layerCount s) × (a .later < layerCount s)
+  arrows-low : (a : Arrow) → a ∈ arrowsOf s → (a .earlier < layerCount s) × (a .later < layerCount s)
   unfolding arrowsOf
   arrows-low a k =
       let w : (r : List ℕ) × r ∈ arrowRecords s × (arrowOf r ≡ a) = Memᴰ·of-map arrowOf (arrowRecords s) k in
@@ -164,4 +154,4 @@ module _ (s : List ℕ) (five : isOutOfRange s ≡ false) (six : hasBadRecord s 
 
     pub eight-is : (m : List ℕ) → LowerMasks (arrowsOf s) m → (t : Bool) → t ≡ any (λ i. marked m i i) (upTo n) → t ≡ hasCycle s
     unfolding hasCycle
-    eight-is m w t e = e ∙ ring-is (arrowsOf s) n m w ∙ ap (λ (k : ℕ). any (λ i. below (arrowsOf s) i i) (upTo k)) count-is
+    eight-is m w t e = e ∙ cycle-is (arrowsOf s) n m w ∙ ap (λ (k : ℕ). any (λ i. below (arrowsOf s) i i) (upTo k)) count-is
