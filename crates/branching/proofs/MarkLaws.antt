@@ -1,4 +1,5 @@
--- Marking the facts of a body, literal by literal, and the bodies of all rows. Assumes nothing.
+-- Marking the facts of a body, literal by literal: what is marked and what is left are together what the body makes branch. Used by
+-- branches and mark_body. Assumes nothing.
 use mathlib.Core.Path.{_≡_, refl, sym, ap, subst, _∙_}
 use mathlib.Core.Bool.{Bool, true, false, _&&_, _||_}
 use mathlib.Core.List.{List, []}
@@ -14,7 +15,7 @@ use Rattle.base.specs.Lists.{any}
 use Rattle.format.specs.Book.{Literal, literalOf, literalsOf}
 use Rattle.format.proofs.LiteralLaws.{literals-next, literals-none}
 use Rattle.models.specs.StableModels.{atomHolds}
-use Rattle.layers.proofs.BitLaws.{or-false, or-assoc, and-left, and-right}
+use Rattle.layers.proofs.BitLaws.{or-true, or-false, or-assoc, and-left, and-right}
 use Rattle.branching.specs.Marks.{branchesIn, BodyMarked}
 
 -- what the loop over a body has marked, and what is left
@@ -69,10 +70,6 @@ module _ (body : List ℕ) (rejecting : Bool) (marks₀ : List Bool) (i : ℕ) (
     where
       yes-it : (leb 32768 v || rejecting) ≡ true
       yes-it = and-right (ltb (v % 32768) 256) (leb 32768 v || rejecting) (sym et ∙ q)
-
-      or-true : (a : Bool) → true ≡ (a || true)
-      or-true true = refl
-      or-true false = refl
 
       go : (f : ℕ) → Dec (v % 32768 ≡ f) → getD (set marks (v % 32768) true) f false ≡ (getD marks f false || (eqb (v % 32768) f && (leb 32768 v || rejecting)))
       go f (yes e) =

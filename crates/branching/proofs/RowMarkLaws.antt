@@ -1,4 +1,5 @@
--- A row can displace exactly where its mask is not empty, so the marks of all rows are the branching facts. Assumes nothing.
+-- A row can displace exactly where its mask is not empty, so the marks of all rows are the branching facts. Used by
+-- mark_branching. Assumes nothing.
 use mathlib.Core.Path.{_≡_, refl, sym, ap, ap₂, subst, _∙_}
 use mathlib.Core.Bool.{Bool, false, not, _||_}
 use mathlib.Core.List.{List, [], _∷_, map}
@@ -55,7 +56,7 @@ module _ (P : Program) (book rows : List ℕ) where
 
 module _ (P : Program) (book rows masks : List ℕ) (w : Tabulates P book rows masks) where
   -- some rule is overridden exactly where the mask is not 0
-  pub rejecting-is : (j : ℕ) → j < rowCount rows → not (eqb (getD masks j 0) 0) ≡ canReject P (rowAt book rows j)
+  rejecting-is : (j : ℕ) → j < rowCount rows → not (eqb (getD masks j 0) 0) ≡ canReject P (rowAt book rows j)
   unfolding canReject
   rejecting-is j h = same-test (not (eqb (getD masks j 0) 0)) (any (overrides P (rowAt book rows j)) (P .rules)) (λ t. from (ℕ-discrete (getD masks j 0) 0) t) (λ t. into (any-at (overrides P (rowAt book rows j)) (P .rules) t))
     where

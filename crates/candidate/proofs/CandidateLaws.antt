@@ -27,7 +27,7 @@ use Rattle.candidate.specs.Candidate.{hasSpareBit, isBadCandidate}
 abbrev pub Bytes : List ℕ → Type 0
 Bytes s = (i : ℕ) → getD s i 0 < 256
 
--- ---- bytes with the same bits are the same
+-- bytes with the same bits are the same
 bit-same : (a b : ℕ) → a < 2 → b < 2 → eqb a 1 ≡ eqb b 1 → a ≡ b
 bit-same a b h i e = go (ℕ-discrete a 1) (ℕ-discrete b 1)
   where
@@ -66,7 +66,7 @@ packed-bytes zero m i = omega arith
 packed-bytes (suc k) m zero = high-lt 8 m
 packed-bytes (suc k) m (suc i) = packed-bytes k (drop 8 m) i
 
--- ---- the bits of a candidate
+-- the bits of a candidate
 module _ (n : ℕ) (s : List ℕ) (ok : isBadCandidate n s ≡ false) where
   pub ok-length : length s ≡ recordSize n
   unfolding isBadCandidate
@@ -89,7 +89,7 @@ module _ (n : ℕ) (s : List ℕ) (ok : isBadCandidate n s ≡ false) where
       go (no h) = List·getD-eq-default (map (bitAt s) (upTo n)) false (omega (arith, map-length (bitAt s) n)) ∙ sym (ok-spare f (omega arith) i)
 
   -- the record of the state that is read is the candidate
-  pub read-record : Bytes s → recordOf n (interpretationOf n s) ≡ s
+  read-record : Bytes s → recordOf n (interpretationOf n s) ≡ s
   unfolding recordOf
   read-record b =
       bits-same (packed (recordSize n) (interpretationOf n s)) s (packed-length (recordSize n) (interpretationOf n s) ∙ sym ok-length) (packed-bytes (recordSize n) (interpretationOf n s)) b
@@ -100,13 +100,13 @@ pub read-length : (n : ℕ) (s : List ℕ) → length (interpretationOf n s) ≡
 unfolding interpretationOf
 read-length n s = map-length (bitAt s) n
 
--- ---- a record is a candidate
+-- a record is a candidate
 record-past : (n : ℕ) (m : Interpretation) → length m ≡ n → (f : ℕ) → f < 8 * recordSize n → n ≤ f → bitAt (recordOf n m) f ≡ false
 unfolding recordOf atomHolds
 record-past n m l f h i = packed-bit (recordSize n) f m h ∙ List·getD-eq-default m false (omega arith)
 
 module _ (n : ℕ) (m : Interpretation) (l : length m ≡ n) where
-  pub record-ok : isBadCandidate n (recordOf n m) ≡ false
+  record-ok : isBadCandidate n (recordOf n m) ≡ false
   unfolding isBadCandidate hasSpareBit
   record-ok =
       rw (eq-eqb (length (recordOf n m)) (recordSize n) (record-length n m))

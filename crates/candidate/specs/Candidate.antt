@@ -1,5 +1,5 @@
 -- Document 01, cause 10: when bytes are no candidate of n facts. `candidate-is-record` of proofs/CandidateLaws.antt: the others are
--- exactly the records of the states of n facts. Assumes nothing.
+-- exactly the records of the states of n facts; `record-read`: each gives its state back. Assumes nothing.
 use mathlib.Core.Bool.{Bool, not, _&&_, _||_}
 use mathlib.Core.List.{List}
 use Prim.Native.Nat.{ℕ, _*_}

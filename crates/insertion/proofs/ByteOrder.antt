@@ -33,7 +33,7 @@ module _ (x y : ℕ) (xs ys : List ℕ) where
   unfolding bytesBefore
   before-by-first h = rw (lt-ltb x y h) refl
 
-  pub not-before-by-first : y < x → bytesBefore (x ∷ xs) (y ∷ ys) ≡ false
+  not-before-by-first : y < x → bytesBefore (x ∷ xs) (y ∷ ys) ≡ false
   unfolding bytesBefore
   not-before-by-first h = rw (le-ltb x y (omega arith), lt-ltb y x h) refl
 

@@ -12,7 +12,7 @@ use lib.ListN.{List·getD-append, length, getD, take, drop, set, length-take, le
 use lib.Seq.{take-all, drop-cons, take-take, drop-drop, getD-take, getD-drop, length-take-le, take-append-le, take-at, drop-at, take-add, paste, paste-suc, drop-paste, take-length}
 use Rattle.insertion.specs.Runs.{bytesBefore, runs, Mult, HighStops, Settled}
 
--- ---- comparing: what is left of the record at `at`, against what is left of rec
+-- comparing: what is left of the record at `at`, against what is left of rec
 module _ (p rec : List ℕ) (at i : ℕ) (h : i < length rec) (room : at + length rec ≤ length p) where
   abbrev a : List ℕ
   a = take (length rec) (drop at p)
@@ -39,7 +39,7 @@ pub not-before-at-end : (p rec : List ℕ) (at i : ℕ) → length rec ≤ i →
 unfolding bytesBefore
 not-before-at-end p rec at i h = rw (drop-of-length-le (take (length rec) (drop at p)) {i = i} (omega (arith, length-take (length rec) (drop at p))), drop-of-length-le rec {i = i} h) refl
 
--- ---- copying
+-- copying
 module _ (l : List ℕ) (from to w i : ℕ) (h : i < w) (hf : from + w ≤ length l) (ht : to + w ≤ length l) (apart : (from + w ≤ to) ⊎ (to + w ≤ from)) where
   abbrev s : List ℕ
   s = take w (drop from l)
@@ -74,7 +74,7 @@ copy-end l from to w i e =
 pub put-end : (l rec : List ℕ) (at i : ℕ) → i ≡ length rec → paste l at rec i ≡ take at l ++ (rec ++ drop (at + length rec) l)
 put-end l rec at i e = rw (e, take-length rec, append-assoc) refl
 
--- ---- moving a record across the gap
+-- moving a record across the gap
 pub mult-more : {w n : ℕ} → Mult w n → Mult w (n + w)
 mult-more {w} {n} m = record { times = suc (m .times); eq = let e : suc (m .times) * w ≡ w + m .times * w = omega arith in omega (arith, m .eq, e) }
 
@@ -111,10 +111,10 @@ module _ (l rec : List ℕ) (to w : ℕ) (rec-len : length rec ≡ w) (ht : to +
       let d : drop (to + w) part ≡ drop (to + w) l = ap (drop (to + w)) grouped ∙ drop-at (take to l ++ rec) (drop (to + w) l) (to + w) front-len in
       ap (λ (k : ℕ). drop k part) (sym q) ∙ sym (drop-drop (n - (to + w)) (to + w) part) ∙ ap (drop (n - (to + w))) d ∙ drop-drop (n - (to + w)) (to + w) l ∙ ap (λ (k : ℕ). drop k l) q
 
-  pub moved-rest : drop to part ≡ rec ++ drop (to + w) l
+  moved-rest : drop to part ≡ rec ++ drop (to + w) l
   moved-rest = ap (drop to) e ∙ drop-at (take to l) (rec ++ drop (to + w) l) to to-len
 
-  pub moved-start : (n : ℕ) → n ≤ to → take n part ≡ take n l
+  moved-start : (n : ℕ) → n ≤ to → take n part ≡ take n l
   moved-start n h = ap (take n) e ∙ take-append-le n (take to l) (rec ++ drop (to + w) l) (omega (arith, to-len)) ∙ take-take n to l h
 
 -- it stood at `from`
@@ -123,23 +123,23 @@ module _ (l : List ℕ) (from to w : ℕ) (hf : from + w ≤ length l) (ht : to 
   rec-len : length (take w (drop from l)) ≡ w
   rec-len = length-take-le w (drop from l) (omega (arith, length-drop from l))
 
-  pub down-same : to + w ≤ from → runs (to + w) (from + w) part ≡ runs to from l
+  down-same : to + w ≤ from → runs (to + w) (from + w) part ≡ runs to from l
   down-same h =
       ap₂ (λ (x y : List ℕ). x ++ y) (moved-front l (take w (drop from l)) to w rec-len ht part e) (moved-back l (take w (drop from l)) to w rec-len ht part e (from + w) (omega arith))
       ∙ append-assoc (take to l) (take w (drop from l)) (drop (from + w) l)
       ∙ ap (λ (r : List ℕ). take to l ++ (take w (drop from l) ++ r)) (sym (drop-drop w from l))
       ∙ ap (λ (r : List ℕ). take to l ++ r) (take-append-drop w (drop from l))
 
-  pub up-same : from ≤ to → runs from to part ≡ runs (from + w) (to + w) l
+  up-same : from ≤ to → runs from to part ≡ runs (from + w) (to + w) l
   up-same h =
       ap₂ (λ (x y : List ℕ). x ++ y) (moved-start l (take w (drop from l)) to w rec-len ht part e from h) (moved-rest l (take w (drop from l)) to w rec-len ht part e)
       ∙ sym (append-assoc (take from l) (take w (drop from l)) (drop (to + w) l))
       ∙ ap (λ (r : List ℕ). r ++ drop (to + w) l) (sym (take-add from w l))
 
-  pub from-len : length part ≡ length l
+  from-len : length part ≡ length l
   from-len = moved-len l (take w (drop from l)) to w rec-len ht part e
 
-  pub moved-rec : take w (drop to part) ≡ take w (drop from l)
+  moved-rec : take w (drop to part) ≡ take w (drop from l)
   moved-rec = ap (take w) (moved-rest l (take w (drop from l)) to w rec-len ht part e) ∙ take-at (take w (drop from l)) (drop (to + w) l) w rec-len
 
 pub down-step : (w lo₀ hi₀ : ℕ) (part₀ : List ℕ) (lo hi : ℕ) (l part : List ℕ) → lo + w ≤ hi → hi + w ≤ length l → Settled w lo₀ hi₀ part₀ lo hi l

@@ -11,13 +11,13 @@ use lib.ListN.{length, getD, take, drop, length-drop, length-append, drop-of-len
 use lib.Seq.{take-all, take-nil, drop-nil, take-take, length-take-le, take-append-le, drop-append-le, take-at, drop-at, take-append-add, drop-append-add}
 use Rattle.base.specs.Lists.{flat}
 use Rattle.base.proofs.Members.{_∈_}
-use Rattle.insertion.specs.Sorted.{insertBy, insertAll, Up}
+use Rattle.insertion.specs.Sorted.{insertBy, Up}
 use Rattle.insertion.specs.Runs.{bytesBefore, runs, Mult, HighStops, LowStops, Settled, Wide, Held, Added}
-use Rattle.insertion.proofs.SortedLaws.{insert-from, insert-keeps-up, insert-position, insertAll-append}
+use Rattle.insertion.proofs.SortedLaws.{insert-from, insert-keeps-up, insert-position}
 use Rattle.insertion.proofs.ByteOrder.{bytes-le-lt, bytes-asym}
 use Rattle.insertion.proofs.MoveLaws.{mult-more, moved-len, moved-front, moved-back}
 
-pub flat-append : (xs ys : List (List ℕ)) → flat (xs ++ ys) ≡ flat xs ++ flat ys
+flat-append : (xs ys : List (List ℕ)) → flat (xs ++ ys) ≡ flat xs ++ flat ys
 unfolding flat
 flat-append [] ys = refl
 flat-append (x ∷ xs) ys = ap (λ (t : List ℕ). x ++ t) (flat-append xs ys) ∙ sym (append-assoc x (flat xs) (flat ys))
@@ -38,7 +38,7 @@ flat-take w (r ∷ rs) f (suc j) =
     let e : suc j * w ≡ length r + j * w = omega (arith, l) in
     ap (λ (k : ℕ). take k (r ++ flat rs)) e ∙ take-append-add r (flat rs) (j * w) ∙ ap (λ (t : List ℕ). r ++ t) (flat-take w rs (λ x m. f x (List·Memᴰ·tail m)) j)
 
-pub flat-drop : (w : ℕ) (rs : List (List ℕ)) → Wide w rs → (j : ℕ) → drop (j * w) (flat rs) ≡ flat (drop j rs)
+flat-drop : (w : ℕ) (rs : List (List ℕ)) → Wide w rs → (j : ℕ) → drop (j * w) (flat rs) ≡ flat (drop j rs)
 unfolding flat
 flat-drop w [] f j = drop-nil (j * w) ∙ ap flat (sym (drop-nil j))
 flat-drop w (r ∷ rs) f zero = let e : 0 * w ≡ 0 = omega arith in rw e refl
@@ -113,7 +113,7 @@ module _ (rec : List ℕ) (lo hi : ℕ) (l : List ℕ) (pos : 0 < length rec) (r
   placed : insertBy bytesBefore rec rs ≡ take j rs ++ (rec ∷ drop j rs)
   placed = insert-position bytesBefore bytes-le-lt bytes-asym [] rec rs j count-le up (λ i e. last-before i e (omega (arith, count-le))) next-not-before
 
-  pub put-bytes : (part : List ℕ) → part ≡ take lo l ++ (rec ++ drop (lo + length rec) l) → runs (lo + length rec) hi part ≡ flat (insertBy bytesBefore rec rs)
+  put-bytes : (part : List ℕ) → part ≡ take lo l ++ (rec ++ drop (lo + length rec) l) → runs (lo + length rec) hi part ≡ flat (insertBy bytesBefore rec rs)
   unfolding flat
   put-bytes part e =
       ap₂ (λ (x y : List ℕ). x ++ y) (moved-front l rec lo w refl (omega arith) part e) (moved-back l rec lo w refl (omega arith) part e hi room)

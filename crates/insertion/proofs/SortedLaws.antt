@@ -62,7 +62,7 @@ module _ {A : Type 0} (less : A → A → Bool) where
   insertPast-into false x y z rest ys f (inl e) = List·Memᴰ·head e
   insertPast-into false x y z rest ys f (inr m) = List·Memᴰ·tail m
 
-  pub insert-into : (x z : A) (ys : List A) → (z ≡ x) ⊎ z ∈ ys → z ∈ insertBy less x ys
+  insert-into : (x z : A) (ys : List A) → (z ≡ x) ⊎ z ∈ ys → z ∈ insertBy less x ys
   unfolding insertBy
   insert-into x z [] (inl e) = List·Memᴰ·head e
   insert-into x z [] (inr m) = absurd (List·Memᴰ·not-nil m)
@@ -73,7 +73,7 @@ module _ {A : Type 0} (less : A → A → Bool) where
   insertPast-length true x y rest ys e = ap suc e
   insertPast-length false x y rest ys e = refl
 
-  pub insert-length : (x : A) (ys : List A) → length (insertBy less x ys) ≡ suc (length ys)
+  insert-length : (x : A) (ys : List A) → length (insertBy less x ys) ≡ suc (length ys)
   unfolding insertBy
   insert-length x [] = refl
   insert-length x (y ∷ ys) = insertPast-length (less y x) x y (insertBy less x ys) ys (insert-length x ys)
@@ -204,7 +204,7 @@ module _ {A B : Type 0} (f : A → B) (less : B → B → Bool) where
   insertPast-map true x y rest ys = refl
   insertPast-map false x y rest ys = refl
 
-  pub insert-map : (x : A) (ys : List A) → map f (insertBy (λ a b. less (f a) (f b)) x ys) ≡ insertBy less (f x) (map f ys)
+  insert-map : (x : A) (ys : List A) → map f (insertBy (λ a b. less (f a) (f b)) x ys) ≡ insertBy less (f x) (map f ys)
   unfolding insertBy
   insert-map x [] = refl
   insert-map x (y ∷ ys) =

@@ -1,5 +1,5 @@
--- Two stable states that agree on the branching facts are equal.
--- Assumes nothing.
+-- Two stable states that agree on the branching facts are equal: they reject the same rules, so what one reaches plainly the other
+-- reaches too, by induction. Used by the search. Assumes nothing.
 use mathlib.Core.Path.{_≡_, refl, sym, subst, _∙_}
 use mathlib.Core.Bool.{Bool, true, false, _&&_, _||_, false≢true}
 use Prim.Native.Nat.{ℕ, _<_}
@@ -8,14 +8,13 @@ use lib.Seq.{ext-getD}
 use Rattle.base.specs.Lists.{any}
 use Rattle.models.specs.Program.{Program}
 use Rattle.format.specs.Book.{Literal, Rule}
-use Rattle.models.specs.StableModels.{Interpretation, atomHolds, signed, holds, bodyHolds, overrides, rejected}
+use Rattle.models.specs.StableModels.{Interpretation, atomHolds, signed, holds, bodyHolds, overrides, rejected, Derived, by-default, by-rule, StableModel, WellFormed}
 use Rattle.models.specs.Branching.{canReject, branching}
 use Rattle.models.specs.Condition3.{BranchingDecides}
-use Rattle.models.specs.StableModels.{Derived, by-default, by-rule, StableModel, WellFormed}
 use Rattle.base.proofs.Members.{_∈_, and-left, and-right, and-both, or-right, all-at, all-of, any-at, any-of, same-test}
 
 module _ (P : Program) (w : WellFormed P) where
-  -- a literal of a relevant rule's body that is negated, or whose rule may displace, names a branching fact
+  -- a literal of a relevant rule's body that is negated, or whose rule can displace, names a branching fact
   pub branch : (r : Rule) → r ∈ P .rules → (l : Literal) → l ∈ r .body → T (l .negated || canReject P r) → T (branching P (l .atom))
   unfolding branching
   branch r k l j t =
@@ -25,12 +24,12 @@ module _ (P : Program) (w : WellFormed P) where
 
   module _ (m o : Interpretation) (same : (f : ℕ) → T (branching P f) → atomHolds m f ≡ atomHolds o f) where
     -- a literal of a branching fact holds in both or in neither
-    pub holds-same : (l : Literal) → T (branching P (l .atom)) → T (holds m l) → T (holds o l)
+    holds-same : (l : Literal) → T (branching P (l .atom)) → T (holds m l) → T (holds o l)
     unfolding holds
     holds-same l t h = subst (λ (c : Bool). T (signed (l .negated) c)) (same (l .atom) t) h
 
-    -- the body of a rule that overrules a relevant rule
-    pub body-same : (t r : Rule) → t ∈ P .rules → r ∈ P .rules → T (overrides P t r) → T (bodyHolds m t) → T (bodyHolds o t)
+    -- the body of a rule that overrides another holds in both
+    body-same : (t r : Rule) → t ∈ P .rules → r ∈ P .rules → T (overrides P t r) → T (bodyHolds m t) → T (bodyHolds o t)
     unfolding bodyHolds canReject
     body-same t r k j v h =
         all-of (holds o) (t .body)
@@ -69,7 +68,6 @@ module _ (P : Program) (w : WellFormed P) where
         let l : Literal = record { atom = f; negated = false } in
         so .exact l h .0 (carry l (sm .exact l h .1 t) refl)
 
-  -- Two stable states that agree on the branching facts are equal.
   pub branching-decides : BranchingDecides P
   unfolding atomHolds
   branching-decides m o sm so same =

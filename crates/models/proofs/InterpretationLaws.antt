@@ -1,5 +1,5 @@
--- The states of n facts: all of them, each once, rising.
--- Assumes nothing.
+-- The states of n facts: all of them, each once, rising, so a list of those that pass a test is settled by its members. Used for
+-- listings and by the search. Assumes nothing.
 use mathlib.Core.Path.{_≡_, refl, sym, ap, subst, _∙_}
 use mathlib.Core.Logic.{_⊎_, inl, inr}
 use mathlib.Core.Bool.{Bool, true, false}
@@ -31,7 +31,7 @@ asym (true ∷ k) (true ∷ m) p q = asym k m p q
 asym (false ∷ k) (true ∷ m) p q = q
 asym (true ∷ k) (false ∷ m) p q = p
 
-pub append-rising : (xs ys : List Interpretation) → Rising _⊏_ xs → Rising _⊏_ ys → ((x : Interpretation) → x ∈ xs → (y : Interpretation) → y ∈ ys → x ⊏ y) → Rising _⊏_ (xs ++ ys)
+append-rising : (xs ys : List Interpretation) → Rising _⊏_ xs → Rising _⊏_ ys → ((x : Interpretation) → x ∈ xs → (y : Interpretation) → y ∈ ys → x ⊏ y) → Rising _⊏_ (xs ++ ys)
 append-rising [] ys r s h = s
 append-rising (x ∷ xs) ys r s h =
     (λ y m. go y (List·Memᴰ·append-cases xs m), append-rising xs ys (r .1) s (λ z k. h z (List·Memᴰ·tail k)))
@@ -77,7 +77,7 @@ interpretations-length (suc n) m k = go (λ x j. interpretations-length n x j) (
     go f (inl j) = one f false (Memᴰ·of-map (λ m. false ∷ m) (interpretations n) j)
     go f (inr j) = one f true (Memᴰ·of-map (λ m. true ∷ m) (interpretations n) j)
 
-pub interpretations-all : (m : Interpretation) → m ∈ interpretations (length m)
+interpretations-all : (m : Interpretation) → m ∈ interpretations (length m)
 unfolding interpretations
 interpretations-all [] = List·Memᴰ·head refl
 interpretations-all (false ∷ m) = Memᴰ·append-left (map (λ k. true ∷ k) (interpretations (length m))) (Memᴰ·map (λ k. false ∷ k) (interpretations-all m))

@@ -1,4 +1,4 @@
--- The states that pass a test which only one can pass. Used by the search for the model of a setting.
+-- The states that pass a test which only one can pass: that one, or none. Used by the search for the model of a setting.
 -- Assumes nothing.
 use mathlib.Core.Path.{_≡_, refl, sym, ap, subst, _∙_}
 use mathlib.Core.Logic.{inl, inr}

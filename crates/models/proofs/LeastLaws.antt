@@ -10,8 +10,7 @@ use Rattle.base.specs.Lists.{filter, upTo}
 use Rattle.base.specs.Closure.{Clause, Consequence, given, by-clause, member}
 use Rattle.models.specs.Program.{Program}
 use Rattle.format.specs.Book.{Literal, Rule}
-use Rattle.models.specs.StableModels.{Interpretation, atomHolds, signed, holds, sameLiteral, rejected, default, defaults, activeRules, clauseOf, least, agreesAt, stable}
-use Rattle.models.specs.StableModels.{Derived, by-default, by-rule, StableModel}
+use Rattle.models.specs.StableModels.{Interpretation, atomHolds, signed, holds, sameLiteral, rejected, default, defaults, activeRules, clauseOf, least, agreesAt, stable, Derived, by-default, by-rule, StableModel}
 use Rattle.base.proofs.Members.{_∈_, and-left, and-right, and-both, filter-from, filter-into, all-at, all-of, same-test}
 use Rattle.base.proofs.UpTo.{upTo-lt, upTo-has}
 use Rattle.base.proofs.ClosureLaws.{member-sound, member-complete, closure-sound, closure-complete}
@@ -26,22 +25,22 @@ pub beq-refl : (a : Bool) → T (Bool·beq a a)
 beq-refl true = tt
 beq-refl false = tt
 
-pub lit-same : (a b : Literal) → T (sameLiteral a b) → a ≡ b
+pub literal-same : (a b : Literal) → T (sameLiteral a b) → a ≡ b
 unfolding sameLiteral
-lit-same a b t =
+literal-same a b t =
     let p : a .atom ≡ b .atom = eqb→eq (a .atom) (b .atom) (and-left (eqb (a .atom) (b .atom)) (Bool·beq (a .negated) (b .negated)) t) in
     let q : a .negated ≡ b .negated = beq-same (a .negated) (b .negated) (and-right (eqb (a .atom) (b .atom)) (Bool·beq (a .negated) (b .negated)) t) in
     λ i. record { atom = p i; negated = q i }
 
-pub lit-refl : (a : Literal) → T (sameLiteral a a)
+pub literal-refl : (a : Literal) → T (sameLiteral a a)
 unfolding sameLiteral
-lit-refl a = and-both (eqb (a .atom) (a .atom)) (Bool·beq (a .negated) (a .negated)) (eqb-refl (a .atom)) (beq-refl (a .negated))
+literal-refl a = and-both (eqb (a .atom) (a .atom)) (Bool·beq (a .negated) (a .negated)) (eqb-refl (a .atom)) (beq-refl (a .negated))
 
-pub litin-from : (l : Literal) (ls : List Literal) → T (member sameLiteral l ls) → l ∈ ls
-litin-from l ls t = member-sound sameLiteral lit-same lit-refl l ls t
+literal-in : (l : Literal) (ls : List Literal) → T (member sameLiteral l ls) → l ∈ ls
+literal-in l ls t = member-sound sameLiteral literal-same literal-refl l ls t
 
-pub litin-of : {l : Literal} {ls : List Literal} → l ∈ ls → T (member sameLiteral l ls)
-litin-of k = member-complete sameLiteral lit-same lit-refl k
+in-literal : {l : Literal} {ls : List Literal} → l ∈ ls → T (member sameLiteral l ls)
+in-literal k = member-complete sameLiteral literal-same literal-refl k
 
 module _ (P : Program) (m : Interpretation) where
   named : ℕ → Literal
@@ -69,11 +68,11 @@ module _ (P : Program) (m : Interpretation) where
 
   pub least-sound : (l : Literal) → l ∈ least P m → Derived P m l
   unfolding least
-  least-sound l k = of-derived l (closure-sound sameLiteral lit-same lit-refl (map clauseOf (activeRules P m)) (defaults P m) l k)
+  least-sound l k = of-derived l (closure-sound sameLiteral literal-same literal-refl (map clauseOf (activeRules P m)) (defaults P m) l k)
 
   pub least-complete : (l : Literal) → Derived P m l → l ∈ least P m
   unfolding least
-  least-complete l d = closure-complete sameLiteral lit-same lit-refl (map clauseOf (activeRules P m)) (defaults P m) l (to-derived l d)
+  least-complete l d = closure-complete sameLiteral literal-same literal-refl (map clauseOf (activeRules P m)) (defaults P m) l (to-derived l d)
 
   plain : ℕ → Literal
   plain f = record { atom = f; negated = false }
@@ -92,7 +91,7 @@ module _ (P : Program) (m : Interpretation) where
     size = e;
     exact = λ l h.
         let q : member sameLiteral l (least P m) ≡ signed (l .negated) (atomHolds m (l .atom)) = told (l .atom) (all-at right t (upTo-has (P .atoms) (l .atom) h)) (l .negated) in
-        (λ r. subst T q (litin-of (least-complete l r)), λ u. least-sound l (litin-from l (least P m) (subst T (sym q) u)));
+        (λ r. subst T q (in-literal (least-complete l r)), λ u. least-sound l (literal-in l (least P m) (subst T (sym q) u)));
   }
 
   same-beq : (a c : Bool) → (T a → T c) → (T c → T a) → T (Bool·beq a c)
@@ -106,8 +105,8 @@ module _ (P : Program) (m : Interpretation) where
       let h : f < P .atoms = upTo-lt (P .atoms) f k in
       and-both (Bool·beq (member sameLiteral (plain f) (least P m)) (atomHolds m f)) (Bool·beq (member sameLiteral (named f) (least P m)) (not (atomHolds m f)))
       (same-beq (member sameLiteral (plain f) (least P m)) (atomHolds m f)
-      (λ t. w .exact (plain f) h .0 (least-sound (plain f) (litin-from (plain f) (least P m) t)))
-      (λ t. litin-of (least-complete (plain f) (w .exact (plain f) h .1 t))))
+      (λ t. w .exact (plain f) h .0 (least-sound (plain f) (literal-in (plain f) (least P m) t)))
+      (λ t. in-literal (least-complete (plain f) (w .exact (plain f) h .1 t))))
       (same-beq (member sameLiteral (named f) (least P m)) (not (atomHolds m f))
-      (λ t. w .exact (named f) h .0 (least-sound (named f) (litin-from (named f) (least P m) t)))
-      (λ t. litin-of (least-complete (named f) (w .exact (named f) h .1 t)))))
+      (λ t. w .exact (named f) h .0 (least-sound (named f) (literal-in (named f) (least P m) t)))
+      (λ t. in-literal (least-complete (named f) (w .exact (named f) h .1 t)))))

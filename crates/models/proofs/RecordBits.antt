@@ -1,4 +1,4 @@
--- A record's bits are the state's facts.
+-- A record's bits are the state's facts: bit 7 - (f mod 8) of byte f div 8 is fact f. Used by the reading of a candidate.
 -- Assumes nothing.
 use mathlib.Core.Path.{_≡_, refl, ap, subst, _∙_}
 use mathlib.Core.Bool.{Bool, true, false, not}

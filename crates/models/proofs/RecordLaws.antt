@@ -1,5 +1,5 @@
--- A record settles its state, and the records of a listing settle the list of states.
--- Assumes nothing.
+-- A record settles its state, and the bytes of a listing settle n and the list of states; how long they are. Used for condition 3 and
+-- wherever records are cut. Assumes nothing.
 use mathlib.Core.Path.{_≡_, refl, sym, ap, ap₂, _∙_}
 use mathlib.Core.Bool.{true, false}
 use mathlib.Core.List.{List, [], _∷_, _++_, map, List·Memᴰ·head, List·Memᴰ·tail, head-eq-of-cons-eq, tail-eq-of-cons-eq}
@@ -35,7 +35,7 @@ none : (m : Interpretation) → length m ≤ 0 → m ≡ []
 none [] h = refl
 none (a ∷ m) h = absurd (omega arith)
 
-pub packed-same : (k : ℕ) (m o : Interpretation) → length m ≡ length o → length m ≤ 8 * k → packed k m ≡ packed k o → m ≡ o
+packed-same : (k : ℕ) (m o : Interpretation) → length m ≡ length o → length m ≤ 8 * k → packed k m ≡ packed k o → m ≡ o
 unfolding packed
 packed-same zero m o l h e = none m (omega arith) ∙ sym (none o (omega arith))
 packed-same (suc k) m o l h e =
@@ -58,17 +58,17 @@ unfolding recordOf recordSize
 record-same n m o l j e = packed-same ((n + 7) / 8) m o (omega arith) (omega arith) e
 
 -- two parts of the same length in front: they are equal, and so is what follows
-pub front-same : (p q r s : List ℕ) (n : ℕ) → length p ≡ n → length q ≡ n → p ++ r ≡ q ++ s → p ≡ q
+front-same : (p q r s : List ℕ) (n : ℕ) → length p ≡ n → length q ≡ n → p ++ r ≡ q ++ s → p ≡ q
 front-same p q r s n a b e = sym (take-at p r n a) ∙ ap (take n) e ∙ take-at q s n b
 
-pub back-same : (p q r s : List ℕ) (n : ℕ) → length p ≡ n → length q ≡ n → p ++ r ≡ q ++ s → r ≡ s
+back-same : (p q r s : List ℕ) (n : ℕ) → length p ≡ n → length q ≡ n → p ++ r ≡ q ++ s → r ≡ s
 back-same p q r s n a b e = sym (drop-at p r n a) ∙ ap (drop n) e ∙ drop-at q s n b
 
 empty-front : (n : ℕ) (m : Interpretation) (r : List ℕ) → 0 < n → [] ≡ recordOf n m ++ r → ⊥
 unfolding recordSize
 empty-front n m r h e = omega (arith, record-length n m, simp length-append at (ap length e))
 
-pub records-same : (n : ℕ) → 0 < n → (ms os : List Interpretation) → ((m : Interpretation) → m ∈ ms → length m ≡ n) → ((m : Interpretation) → m ∈ os → length m ≡ n)
+records-same : (n : ℕ) → 0 < n → (ms os : List Interpretation) → ((m : Interpretation) → m ∈ ms → length m ≡ n) → ((m : Interpretation) → m ∈ os → length m ≡ n)
     → flat (map (recordOf n) ms) ≡ flat (map (recordOf n) os) → ms ≡ os
 unfolding flat
 records-same n h [] [] f g e = refl
@@ -82,11 +82,11 @@ records-same n h (m ∷ ms) (o ∷ os) f g e =
     (back-same (recordOf n m) (recordOf n o) (flat (map (recordOf n) ms)) (flat (map (recordOf n) os)) (recordSize n) (record-length n m) (record-length n o) e))
 
 -- the head names n
-pub listing-facts : (n i : ℕ) (ms os : List Interpretation) → n < 65536 → i < 65536 → listingOf n ms ≡ listingOf i os → n ≡ i
+listing-facts : (n i : ℕ) (ms os : List Interpretation) → n < 65536 → i < 65536 → listingOf n ms ≡ listingOf i os → n ≡ i
 unfolding listingOf be16 be32
 listing-facts n i ms os a b e = omega (arith, ap (λ (l : List ℕ). getD l 5 0) e, ap (λ (l : List ℕ). getD l 6 0) e)
 
-pub listing-records : (n i : ℕ) (ms os : List Interpretation) → listingOf n ms ≡ listingOf i os → flat (map (recordOf n) ms) ≡ flat (map (recordOf i) os)
+listing-records : (n i : ℕ) (ms os : List Interpretation) → listingOf n ms ≡ listingOf i os → flat (map (recordOf n) ms) ≡ flat (map (recordOf i) os)
 unfolding listingOf be16 be32
 listing-records n i ms os e = ap (drop 11) e
 

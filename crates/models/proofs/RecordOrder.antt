@@ -1,5 +1,5 @@
--- The records of two states, compared as byte strings, are in the states' order; inserting a state keeps a list rising.
--- Assumes nothing.
+-- The records of two states, compared as byte strings, are in the states' order: the first fact where they differ is in the first byte
+-- where they do. Used by the crate `records`. Assumes nothing.
 use mathlib.Core.Path.{_≡_, subst}
 use mathlib.Core.Logic.{_⊎_, inl, inr}
 use mathlib.Core.Bool.{true, false}

@@ -13,7 +13,7 @@ use Rattle.models.specs.StableModels.{Interpretation, atomHolds}
 use Rattle.models.specs.Listing.{bitValue, bitsValue, packed, recordSize, recordOf}
 use Rattle.models.proofs.RecordLaws.{high-lt}
 
--- ---- a bit
+-- a bit
 pub bit-set : (m : Interpretation) (f : ℕ) → atomHolds m f ≡ true → 1 ≡ bitValue (atomHolds m f) 1
 unfolding bitValue
 bit-set m f e = rw e refl
@@ -33,7 +33,7 @@ unfolding bitValue
 bit-le true = omega arith
 bit-le false = omega arith
 
--- ---- a byte
+-- a byte
 double : (a : Bool) (k : ℕ) → bitValue a (2 ^ suc k) ≡ bitValue a (2 ^ k) + bitValue a (2 ^ k)
 unfolding bitValue
 double true k = omega (arith, pow-suc 2 k)
@@ -59,7 +59,7 @@ byte-step m at i v b e f = rw (add-one i, bits-snoc i (drop at m), getD-drop at 
 pub byte-fits : (m : Interpretation) (at i v : ℕ) → v ≡ bitsValue i (drop at m) → i < 8 → v < 128
 byte-fits m at i v e h = omega (arith, high-lt i (drop at m), pow-le-pow-right {n = 2} (omega arith) (let u : i ≤ 7 = omega arith in u))
 
--- ---- a record
+-- a record
 packed-snoc : (j : ℕ) (m : Interpretation) → packed (suc j) m ≡ packed j m ++ (bitsValue 8 (drop (8 * j) m) ∷ [])
 unfolding packed
 packed-snoc zero m = refl

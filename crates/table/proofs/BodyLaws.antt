@@ -1,4 +1,4 @@
--- A literal of two bytes holds where its sign and its fact say. Assumes nothing.
+-- A literal of two bytes holds where its sign and its fact say. Used by literal_holds. Assumes nothing.
 use mathlib.Core.Path.{_≡_, sym, ap, _∙_}
 use mathlib.Core.Bool.{Bool, not}
 use Prim.Native.Nat.{ℕ, _+_, _*_, _%_, _<_, _≤_}

@@ -1,4 +1,5 @@
--- Names of literals: which literal a name stands for, the opposite's name, and the name of two bytes. Assumes nothing.
+-- Names of literals: which literal a name stands for, the opposite's name, and the name of two bytes. Used by
+-- opposite and name_of, and wherever marks or masks stand at a name. Assumes nothing.
 use mathlib.Core.Path.{_≡_, refl, sym, ap, _∙_}
 use mathlib.Core.Bool.{Bool, true, false, not, cond}
 use Prim.Native.Nat.{ℕ, _+_, _*_, _-_, _%_, _<_, _≤_}

@@ -1,4 +1,5 @@
--- Rows and the rules that they stand for: membership, and when two rows are the same. Assumes nothing.
+-- Rows and the rules that they stand for: which rules are there, a row's body as the code cuts it, and when two rows are the same.
+-- Used by every loop over rows. Assumes nothing.
 use mathlib.Core.Path.{_≡_, ap, _∙_}
 use mathlib.Core.List.{List, Memᴰ·map, Memᴰ·of-map}
 use Prim.Native.Nat.{ℕ, _+_, _*_, _-_, _<_}

@@ -19,7 +19,7 @@ use Rattle.models.specs.Program.{Program, relevant, programAt}
 use Rattle.models.specs.StableModels.{complement, sameLiteral, overrides}
 use Rattle.base.proofs.Members.{_∈_, and-left, and-right, and-both, or-cases, or-left, or-right, same-test}
 use Rattle.layers.proofs.BitLaws as bits
-use Rattle.models.proofs.LeastLaws.{lit-same, lit-refl}
+use Rattle.models.proofs.LeastLaws.{literal-same, literal-refl}
 use Rattle.table.specs.Names.{literalNamed}
 use Rattle.table.specs.Rows.{rowCount, headName, rowLayer, rowAt, rowsOf, inMask, RowsBounded, RowsFit}
 use Rattle.table.specs.Overriding.{OpposedAt, Overridden}
@@ -32,13 +32,13 @@ unfolding filter
 filter-same p q [] h = refl
 filter-same p q (x ∷ xs) h = ap₂ (λ (c : Bool) (l : List Rule). consIf c x l) (h x (List·Memᴰ·head refl)) (filter-same p q xs (λ y k. h y (List·Memᴰ·tail k)))
 
-pub overrides-below : (P : Program) (t r : Rule) → T (overrides P t r) → T (P .below (r .layer) (t .layer))
+overrides-below : (P : Program) (t r : Rule) → T (overrides P t r) → T (P .below (r .layer) (t .layer))
 unfolding overrides
 overrides-below P t r o = and-left (P .below (r .layer) (t .layer)) (sameLiteral (t .head) (complement (r .head))) o
 
 pub overrides-heads : (P : Program) (t r : Rule) → T (overrides P t r) → t .head ≡ complement (r .head)
 unfolding overrides
-overrides-heads P t r o = lit-same (t .head) (complement (r .head)) (and-right (P .below (r .layer) (t .layer)) (sameLiteral (t .head) (complement (r .head))) o)
+overrides-heads P t r o = literal-same (t .head) (complement (r .head)) (and-right (P .below (r .layer) (t .layer)) (sameLiteral (t .head) (complement (r .head))) o)
 
 -- the mask of the relevant layers: the driven layer, and those below it
 module _ (book : List ℕ) (first : ℕ) (lower : List ℕ) (w : Prepared book first lower) (layer : ℕ) (h : layer < 32) where
@@ -70,7 +70,7 @@ module _ (book : List ℕ) (first : ℕ) (lower : List ℕ) (w : Prepared book f
       own : r .layer ≡ layer → bitOf (1 * 2 ^ layer % 4294967296) (r .layer) ≡ 1
       own e = rw (bits.pow-fits layer h, e) (bits.bit-same layer)
 
-  pub rules-relevant : filter (inMask relevantMask) (map ruleOf (records (drop first book))) ≡ programOf book layer .rules
+  rules-relevant : filter (inMask relevantMask) (map ruleOf (records (drop first book))) ≡ programOf book layer .rules
   unfolding programAt
   rules-relevant =
       ap (filter (inMask relevantMask)) (sym (w .rules-are))
@@ -100,10 +100,10 @@ module _ (book : List ℕ) (first : ℕ) (lower : List ℕ) (w : Prepared book f
           o .head-at .layer-is,
           and-both (below (bookOf book .arrows) (rowLayer rows x) (rowLayer rows j)) (sameLiteral (literalNamed (headName rows j)) (complement (literalNamed (headName rows x))))
               (subst (λ (t : ℕ). T (below (bookOf book .arrows) t (rowLayer rows j))) (sym (o .head-at .layer-is)) (w .lower-sound i (rowLayer rows j) (fits .bounded .layer-low j b) (un .sound j b i z)))
-              (subst (λ (t : Literal). T (sameLiteral (literalNamed (headName rows j)) t)) e (lit-refl (literalNamed (headName rows j)))),
+              (subst (λ (t : Literal). T (sameLiteral (literalNamed (headName rows j)) t)) e (literal-refl (literalNamed (headName rows j)))),
         )
 
-    pub tabulates : Tabulates (programOf book layer) book rows masks
+    tabulates : Tabulates (programOf book layer) book rows masks
     unfolding rowAt programAt
     tabulates = record {
       fits = fits;
@@ -137,7 +137,7 @@ module _ (book : List ℕ) (first mask : ℕ) (rows : List ℕ) (k : ℕ) (w : R
   pub lent-bounded : RowsBounded (take (4 * k - 0) rows)
   lent-bounded = subst (λ (x : ℕ). RowsBounded (take x rows)) (sym (minus-zero (4 * k))) (w .fits .bounded)
 
-  pub taken-count : length (take (4 * k) rows) / 4 ≡ k
+  taken-count : length (take (4 * k) rows) / 4 ≡ k
   taken-count = subst (λ (x : ℕ). length (take x rows) / 4 ≡ k) (minus-zero (4 * k)) lent-count
 
   pub table-made : (lower : List ℕ) (p : Prepared book first lower) (layer : ℕ) (h : layer < 32) → mask ≡ relevantMask book first lower p layer h
