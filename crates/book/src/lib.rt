@@ -46,6 +46,7 @@ pub enum Verdict {
     Refused(Cause),
 }
 
+// Document 01's number of a cause.
 pub fn cause_number(c: Cause) -> u64
     ensures { λ r. ⌜ r ≡ numberOf c ⌝ }
 {
@@ -67,6 +68,7 @@ pub fn cause_number(c: Cause) -> u64
     }
 }
 
+// Whether an arrow's record has length 2 and layers below L.
 pub fn arrow_ok(rec: &[u8], layers: usize) -> bool
     ensures { λ r. ⌜ r ≡ arrowOk layers (now (rec .entry)) ⌝ }
 {
@@ -79,6 +81,8 @@ pub fn arrow_ok(rec: &[u8], layers: usize) -> bool
     wide(rec[1]) < layers
 }
 
+// Whether each record of the arrow section is an arrow's. It is cut where its length byte says, and where that passes the end, at the
+// end: no cause but 4 speaks of that, and 4 is ruled out before.
 pub fn arrows_ok(part: &[u8], layers: usize) -> bool
     ensures { λ r. ⌜ r ≡ all (arrowOk layers) (records (now (part .entry))) ⌝ }
 {
@@ -94,12 +98,14 @@ pub fn arrows_ok(part: &[u8], layers: usize) -> bool
     true
 }
 
+// Whether the fact of a literal of two bytes is below n.
 pub fn atom_ok(a: u8, b: u8, atoms: usize) -> bool
     ensures { λ r. ⌜ r ≡ atomBelow atoms (literalOf a b) ⌝ }
 {
     (wide(a) * 256 + wide(b)) % 32768 < atoms
 }
 
+// Whether the facts of all literals are.
 pub fn literals_ok(literals: &[u8], atoms: usize) -> bool
     ensures { λ r. ⌜ r ≡ all (atomBelow atoms) (literalsOf (now (literals .entry))) ⌝ }
 {
@@ -113,6 +119,7 @@ pub fn literals_ok(literals: &[u8], atoms: usize) -> bool
     true
 }
 
+// Whether a rule's record has length 3 + 2b with b up to 16, a layer below L and facts below n.
 pub fn rule_ok(rec: &[u8], layers: usize, atoms: usize) -> bool
     ensures { λ r. ⌜ r ≡ ruleOk layers atoms (now (rec .entry)) ⌝ }
 {
@@ -135,6 +142,7 @@ pub fn rule_ok(rec: &[u8], layers: usize, atoms: usize) -> bool
     literals_ok(&rec[3..len], atoms)
 }
 
+// Whether each record of the rule section is a rule's.
 pub fn rules_ok(part: &[u8], layers: usize, atoms: usize) -> bool
     ensures { λ r. ⌜ r ≡ all (ruleOk layers atoms) (records (now (part .entry))) ⌝ }
 {
@@ -150,6 +158,7 @@ pub fn rules_ok(part: &[u8], layers: usize, atoms: usize) -> bool
     true
 }
 
+// Whether a number is outside its range, both ends included in it.
 fn outside(low: usize, high: usize, x: usize) -> bool
     ensures { λ r. ⌜ r ≡ not (within low high x) ⌝ }
 {
@@ -255,6 +264,7 @@ pub struct Checked {
     pub lower: [u32; 32],
 }
 
+// A refusal: its masks are never read.
 fn refused(cause: Cause) -> Checked
     ensures { λ r. ⌜ r .verdict ≡ Refused cause ⌝ }
 {

@@ -8,6 +8,7 @@ ghost use Rattle.branching.specs.Marks.{BodyMarked, BranchingMarks, List
 use base::wide;
 use base::wide16;
 
+// The branching facts, in the first `count` places.
 pub struct Atoms {
     pub atoms: [u8; 256],
     pub count: usize,

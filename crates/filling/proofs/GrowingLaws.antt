@@ -1,5 +1,5 @@
--- Marks that grow by rows that add their heads, in whatever order the rows are tried: none is lost, all of them follow, and the
--- unmarked names fall. Used by the passes of fill and by the waiting lists. Assumes nothing.
+-- Marks that grow by rows that add their heads, in whatever order the rows are tried: none is lost, all of them follow, no
+-- fact comes to be marked both ways, and the unmarked names fall. Used by the passes of fill and by the waiting lists. Assumes nothing.
 use mathlib.Core.Path.{_≡_, refl, sym, ap, subst, _∙_}
 use mathlib.Core.Logic.{_⊎_, inl, inr, ⊎-elim}
 use mathlib.Core.Bool.{Bool, true, false, not, _&&_, cond, true≢false, false≢true}

@@ -1,4 +1,6 @@
--- Marks of names, of literals of two bytes and of rows, as the code reads them. Assumes nothing.
+-- Marks of names, of literals of two bytes and of rows, as the code reads them: a row adds its head where its three tests say so, and a
+-- literal of its body that is not marked, the watched one or another, keeps it from it. Used by name_marked, literal_marked,
+-- body_marked, row_alive and row_adds. Assumes nothing.
 use mathlib.Core.Path.{_≡_, refl, sym, ap, subst, _∙_}
 use mathlib.Core.Bool.{Bool, true, false, not, _&&_, cond}
 use mathlib.Core.Logic.{_⊎_, inl, inr}

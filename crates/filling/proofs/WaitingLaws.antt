@@ -4,10 +4,10 @@ use mathlib.Core.Path.{_≡_, sym, _∙_}
 use mathlib.Core.Bool.{Bool, true, false, not}
 use mathlib.Core.List.{List}
 use Prim.Native.Nat.{ℕ, _-_, _<_, _≤_}
-use Rattle.models.specs.StableModels.{complement}
-use Rattle.table.specs.Names.{literalNamed}
 use borrow.Author.Tests.{not-false}
 use lib.ListN.{length, set}
+use Rattle.models.specs.StableModels.{complement}
+use Rattle.table.specs.Names.{literalNamed}
 use Rattle.table.specs.Rows.{rowCount, headName, rowAt}
 use Rattle.filling.specs.Marks.{literalMarked, adds, Grown}
 use Rattle.filling.proofs.GrowingLaws.{grown-one, one-low, one-high, opposite-free}

@@ -69,8 +69,8 @@ pub fn row_alive(book: &[u8], rows: &[u16], rejects: &[u32], j: usize) -> bool
     (rejects[h] >> (layer as u32)) & 1 != 1
 }
 
-// The number of the literal that a row watches: the one that kept it from adding its head when it was last asked. Nothing rests on it
-// but speed.
+// The number of the literal that a row watches: the one that it last waited for. Nothing rests on it but speed: the whole body is
+// tested where this literal is marked.
 fn watch_of(watched: &[u16], j: usize) -> usize {
     if j < watched.len() {
         return wide16(watched[j]);
@@ -247,8 +247,8 @@ fn settle(
     add_head(book, rows, rejects, positive, negative, watched, j)
 }
 
-// Marks more of what follows, by waiting lists: a row waits for a literal of its body that is not marked, and is tried again when that one is.
-// Only the order of trying is new: what is added is tested on the spot, and the passes of fill still say when nothing is left.
+// Marks more of what follows, by waiting lists: a row waits for a literal of its body that is not marked, and is tried again when that
+// one is. Only the order of trying is new: what is added is tested on the spot, and the passes of fill still say when nothing is left.
 // `links` leads from a name (0 to 511) to the first row that waits for it and from a row (512 and its number) to the next; 0 ends a
 // list. On the stack `names` are those just marked, `fresh` is the first row not tried yet, `node` the next row of the list in hand.
 // A row waits once a literal, so no lawful book takes all the turns.

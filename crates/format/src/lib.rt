@@ -9,6 +9,7 @@ ghost use Rattle.format.specs.Book.{u16At, u32At, records, meetsEnd, rec
 ghost use Rattle.format.specs.Sections.{wholeSection, hasBrokenSection};
 use base::wide;
 
+// The two bytes at an offset as a big-endian number.
 pub fn be16(s: &[u8], at: usize) -> usize
     requires { ⌜ at + 2 ≤ length (now s) ⌝ }
     ensures { λ r. ⌜ r ≡ u16At (now (s .entry)) at ⌝ }
@@ -17,6 +18,7 @@ pub fn be16(s: &[u8], at: usize) -> usize
     wide(s[at]) * 256 + wide(s[at + 1])
 }
 
+// The four bytes at an offset as a big-endian number.
 pub fn be32(s: &[u8], at: usize) -> usize
     requires { ⌜ at + 4 ≤ length (now s) ⌝ }
     ensures { λ r. ⌜ r ≡ u32At (now (s .entry)) at ⌝ }

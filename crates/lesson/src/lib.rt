@@ -21,6 +21,7 @@ use place_call::fact_place;
 use test_call::TestReply;
 use test_call::test;
 
+// How a verdict is answered.
 fn verdict_number(v: Verdict) -> u64
     ensures { λ r. ⌜ r ≡ checkAnswer v ⌝ }
 {
@@ -38,6 +39,7 @@ pub extern "C" fn lesson_check(book: &[u8]) -> u64
     verdict_number(check(book))
 }
 
+// How the test's reply is answered: yes in bit 16.
 fn test_number(r: TestReply) -> u64
     ensures { λ n. ⌜ n ≡ testAnswer r ⌝ }
 {
@@ -84,6 +86,7 @@ pub extern "C" fn lesson_one(book: &[u8], layer: u32, buffer: &mut [u8]) -> u64
     }
 }
 
+// A fact's place in bits 16 and 17.
 fn place_bits(p: Place) -> u64
     ensures { λ r. ⌜ (r ≡ placeBits p) × (r ≤ 131072) ⌝ }
 {

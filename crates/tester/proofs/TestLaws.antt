@@ -15,7 +15,7 @@ use Rattle.models.specs.Program.{Program}
 use Rattle.models.specs.StableModels.{Interpretation, atomHolds, positive, negative, complement, sameLiteral, signed, holds, bodyHolds, overrides, rejected, default, stable, Derived, by-default, by-rule, StableModel, WellFormed}
 use Rattle.base.proofs.Members.{_∈_, and-left, and-right, and-both, all-at, all-of, any-at, any-of, same-test}
 use Rattle.base.proofs.UpTo.{failed, upTo-lt, upTo-has}
-use Rattle.models.proofs.LeastLaws.{lit-same, lit-refl, stable-sound, stable-complete}
+use Rattle.models.proofs.LeastLaws.{beq-refl, literal-same, literal-refl, stable-sound, stable-complete}
 use Rattle.table.specs.Names.{literalNamed, nameOf}
 use Rattle.table.specs.Rows.{rowCount, headName, rowAt, rowsOf}
 use Rattle.table.specs.Table.{Tabulates}
@@ -42,11 +42,7 @@ beq-same false true t = absurd t
 beq-same false false t = refl
 
 beq-of : (a b : Bool) → a ≡ b → T (Bool·beq a b)
-beq-of a b e = subst (λ (x : Bool). T (Bool·beq a x)) e (go a)
-  where
-    go : (c : Bool) → T (Bool·beq c c)
-    go true = tt
-    go false = tt
+beq-of a b e = subst (λ (x : Bool). T (Bool·beq a x)) e (beq-refl a)
 
 module _ (p q : List Bool) (m : Interpretation) where
   agree-sign : (f : ℕ) (c : Bool) → T (marksAgree p q m f) → literalMarked p q (record { atom = f; negated = c }) ≡ holds m (record { atom = f; negated = c })
@@ -91,7 +87,7 @@ module _ {P : Program} {book rows overridden : List ℕ} (w : Tabulates P book r
         let q : t .head ≡ complement (r .head) = sym (complement-twice (t .head)) ∙ ap complement (sym (x .facing) ∙ head-name r k .0) in
         any-of (λ t. (P .below (r .layer) (t .layer) && sameLiteral (t .head) (complement (r .head))) && bodyHolds m t) (row-rule (x .row) (x .before))
         (and-both (P .below (r .layer) (t .layer) && sameLiteral (t .head) (complement (r .head))) (bodyHolds m t)
-        (and-both (P .below (r .layer) (t .layer)) (sameLiteral (t .head) (complement (r .head))) (w .sound (x .row) (x .before) (r .layer) (x .bit)) (subst (λ (l : Literal). T (sameLiteral (t .head) l)) q (lit-refl (t .head))))
+        (and-both (P .below (r .layer) (t .layer)) (sameLiteral (t .head) (complement (r .head))) (w .sound (x .row) (x .before) (r .layer) (x .bit)) (subst (λ (l : Literal). T (sameLiteral (t .head) l)) q (literal-refl (t .head))))
         (x .holds-in))
 
     rejected-bit : (r : Rule) → r ∈ P .rules → T (rejected P m r) → bitOf (getD rejects (nameOf (r .head)) 0) (r .layer) ≡ 1
@@ -151,7 +147,7 @@ module _ {P : Program} {book rows overridden : List ℕ} (w : Tabulates P book r
           (record {
             row = u .0;
             before = u .1;
-            head-is = lit-same (r .head) (positive f) (and-left (sameLiteral (r .head) (positive f)) (bodyHolds m r) o);
+            head-is = literal-same (r .head) (positive f) (and-left (sameLiteral (r .head) (positive f)) (bodyHolds m r) o);
             holds-in = and-right (sameLiteral (r .head) (positive f)) (bodyHolds m r) o;
           })
           (omega (arith, d .sound f t .0))))
@@ -166,7 +162,7 @@ module _ {P : Program} {book rows overridden : List ℕ} (w : Tabulates P book r
           let r : Rule = rowAt book rows (x .row) in
           T-not (any (λ r. sameLiteral (r .head) (positive f) && bodyHolds m r) (P .rules)) u
           (any-of (λ r. sameLiteral (r .head) (positive f) && bodyHolds m r) (row-rule (x .row) (x .before))
-          (and-both (sameLiteral (r .head) (positive f)) (bodyHolds m r) (subst (λ (l : Literal). T (sameLiteral (r .head) l)) (x .head-is) (lit-refl (r .head))) (x .holds-in)))))
+          (and-both (sameLiteral (r .head) (positive f)) (bodyHolds m r) (subst (λ (l : Literal). T (sameLiteral (r .head) l)) (x .head-is) (literal-refl (r .head))) (x .holds-in)))))
 
       follows-derived : (l : Literal) → FollowsFrom book rows rejects start l → Derived P m l
       follows-derived l (from-start f t) = by-default f (let u : f < n = d .sound f t .0 in omega arith) (start-default f t)

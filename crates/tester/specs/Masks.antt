@@ -1,6 +1,5 @@
--- What an interpretation does to the rows: which are rejected, as masks of layers at each name, which are violated or contested, and
--- which atoms are supported.
--- Assumes nothing.
+-- What an interpretation does to the rows: which are rejected, as masks of layers at each name, which atoms are supported, and
+-- which rows are violated or contested. Assumes nothing.
 use mathlib.Core.Path.{_≡_}
 use mathlib.Core.Bool.{Bool, true, false, not}
 use mathlib.Core.List.{List}
@@ -55,6 +54,12 @@ pub record Supports (book rows rejects : List ℕ) (m : Interpretation) (atoms :
   pub support : violated ≡ false → Supported book rows m atoms n
   pub violation : violated ≡ true → Violation book rows rejects m n
 
+-- the atoms below n that are not among these
+pub record Others (atoms others : List Bool) (n : ℕ) : Type 0 where
+  pub size : length others ≡ maxAtoms
+  pub sound : (f : ℕ) → T (atomHolds others f) → (f < n) × T (not (atomHolds atoms f))
+  pub full : (f : ℕ) → f < n → T (not (atomHolds atoms f)) → T (atomHolds others f)
+
 -- a plain literal holds, or its negation is marked
 abbrev pub Decided : Interpretation → List Bool → Literal → Type 0
 Decided m q l = (f : ℕ) → l ≡ positive f → atomHolds q f ≡ false → T (atomHolds m f)
@@ -64,9 +69,3 @@ Decided m q l = (f : ℕ) → l ≡ positive f → atomHolds q f ≡ false → T
 pub record Uncontested (book rows rejects : List ℕ) (m : Interpretation) (q : List Bool) (n : ℕ) : Type 0 where
   pub each : (j : ℕ) → j < n → alive rejects (rowAt book rows j) ≡ false
       → T (bodyHolds m (rowAt book rows j)) → Decided m q (rowAt book rows j .head)
-
--- the atoms below n that are not among these
-pub record Others (atoms others : List Bool) (n : ℕ) : Type 0 where
-  pub size : length others ≡ maxAtoms
-  pub sound : (f : ℕ) → T (atomHolds others f) → (f < n) × T (not (atomHolds atoms f))
-  pub full : (f : ℕ) → f < n → T (not (atomHolds atoms f)) → T (atomHolds others f)

@@ -1,6 +1,6 @@
 // The candidate test: is this interpretation a stable model of the book at the driven layer? What depends on the candidate alone
 // (which rows are rejected, which atoms are supported) is worked out once; then the marks are filled from the defaults and compared
-// with the candidate.
+// with the candidate. At the end stands `contested`, by which the search does without the second filling.
 ghost use mathlib.Core.Path.{_≡_};
 ghost use mathlib.Core.Bool.{false, cond};
 ghost use Prim.Native.Nat.{_<_, _≤_};
@@ -106,41 +106,6 @@ fn supported(book: &[u8], rows: &[u16], rejects: &[u32], m: &[bool]) -> Support
     }
 }
 
-// Whether a name is a fact that does not hold and whose negation is not marked.
-fn undecided(m: &[bool], negative: &[bool], h: usize) -> bool
-    ensures { λ r. ⌜ (r ≡ false → Decided (now (m .entry)) (now (negative .entry)) (literalNamed h)) ⌝ }
-{
-    if 256 <= h {
-        return false;
-    }
-    if atom_holds(m, h) {
-        return false;
-    }
-    !atom_holds(negative, h)
-}
-
-// Whether a rejected row's body holds, but not its plain head, whose negation is not marked either. Where none is so, marks that were
-// filled from a setting need no second filling from the defaults.
-pub fn contested(book: &[u8], rows: &[u16], rejects: &[u32], m: &[bool], negative: &[bool]) -> bool
-    requires { ⌜ RowsFit (now book) (now rows) ⌝ }
-    requires { ⌜ length (now rejects) ≡ 512 ⌝ }
-    ensures { λ r. ⌜ (r ≡ false → Uncontested (now (book .entry)) (now (rows .entry)) (now (rejects .entry)) (now (m .entry)) (now (negative .entry)) (rowCount (now (rows .entry)))) ⌝ }
-{
-    let count = rows.len() / 4;
-    let mut j = 0;
-    while j < count {
-        if !row_alive(book, rows, rejects, j) {
-            if undecided(m, negative, row_head(rows, j)) {
-                if row_holds(book, rows, m, j) {
-                    return true;
-                }
-            }
-        }
-        j += 1;
-    }
-    false
-}
-
 // The defaults: the atoms below n that are not supported.
 fn defaults_of(atoms: [bool; 256], n: usize) -> [bool; 256]
     requires { ⌜ n ≤ 256 ⌝ }
@@ -208,4 +173,39 @@ pub fn is_stable(
         return false;
     }
     marks_agree(&marks.positive, &marks.negative, m, n)
+}
+
+// Whether a name is an atom that does not hold and whose negation is not marked.
+fn undecided(m: &[bool], negative: &[bool], h: usize) -> bool
+    ensures { λ r. ⌜ (r ≡ false → Decided (now (m .entry)) (now (negative .entry)) (literalNamed h)) ⌝ }
+{
+    if 256 <= h {
+        return false;
+    }
+    if atom_holds(m, h) {
+        return false;
+    }
+    !atom_holds(negative, h)
+}
+
+// Whether a rejected row's body holds, but not its plain head, whose negation is not marked either. Where none is so, marks that were
+// filled from a setting need no second filling from the defaults.
+pub fn contested(book: &[u8], rows: &[u16], rejects: &[u32], m: &[bool], negative: &[bool]) -> bool
+    requires { ⌜ RowsFit (now book) (now rows) ⌝ }
+    requires { ⌜ length (now rejects) ≡ 512 ⌝ }
+    ensures { λ r. ⌜ (r ≡ false → Uncontested (now (book .entry)) (now (rows .entry)) (now (rejects .entry)) (now (m .entry)) (now (negative .entry)) (rowCount (now (rows .entry)))) ⌝ }
+{
+    let count = rows.len() / 4;
+    let mut j = 0;
+    while j < count {
+        if !row_alive(book, rows, rejects, j) {
+            if undecided(m, negative, row_head(rows, j)) {
+                if row_holds(book, rows, m, j) {
+                    return true;
+                }
+            }
+        }
+        j += 1;
+    }
+    false
 }
