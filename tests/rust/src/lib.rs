@@ -25,5 +25,6 @@ pub mod plain;
 pub mod reader;
 pub mod rng;
 pub mod shapes;
+pub mod sweep;
 pub mod tally;
 pub mod truth;

@@ -248,26 +248,11 @@ pub fn state(bytes: &[u8], atoms: u16) -> Option<Vec<bool>> {
 #[cfg(test)]
 mod tests {
     use super::*;
-    use crate::book::{hex, not, plain};
+    use crate::book::hex;
+    use crate::examples::{starred, Example};
     use crate::reader;
     use crate::rng::{seed, Rng};
     use crate::shapes;
-
-    const P: u16 = 0;
-    const Q: u16 = 1;
-
-    /// One starred example: the records, one byte each, and g where document 01 gives it.
-    fn assert_example(book: &Book, layer: u8, records: &[u8], g: Option<usize>) {
-        assert_eq!(reader::read(&book.bytes()).as_ref(), Ok(book));
-        let driven = Driven::new(book, layer);
-        let mut listing = vec![1, 0, 0, 0, 11 + records.len() as u8, 0, book.atoms as u8];
-        listing.extend_from_slice(&(records.len() as u32).to_be_bytes());
-        listing.extend_from_slice(records);
-        assert_eq!(hex(&driven.listing()), hex(&listing));
-        if let Some(g) = g {
-            assert_eq!(driven.branching_count(), g);
-        }
-    }
 
     #[test]
     fn book_b_at_3_has_the_listing_of_document_01() {
@@ -277,75 +262,23 @@ mod tests {
     }
 
     #[test]
-    fn book_b_at_1_and_at_2() {
-        assert_example(&shapes::book_b(), 1, &[0xA0], Some(1));
-        assert_example(&shapes::book_b(), 2, &[0x80], Some(2));
-    }
-
-    #[test]
-    fn p_if_not_q_and_q_if_not_p() {
-        let book = Book::new(2, 1)
-            .rule(0, plain(P), &[not(Q)])
-            .rule(0, plain(Q), &[not(P)]);
-        assert_example(&book, 0, &[0x40, 0x80], Some(2));
-    }
-
-    #[test]
-    fn p_if_not_p() {
-        let book = Book::new(1, 1).rule(0, plain(P), &[not(P)]);
-        assert_example(&book, 0, &[], None);
-    }
-
-    #[test]
-    fn p_and_not_p_in_one_layer() {
-        let book = Book::new(1, 1).rule(0, plain(P), &[]).rule(0, not(P), &[]);
-        assert_example(&book, 0, &[], Some(0));
-    }
-
-    #[test]
-    fn p_if_p() {
-        let book = Book::new(1, 1).rule(0, plain(P), &[plain(P)]);
-        assert_example(&book, 0, &[0x00], Some(0));
-    }
-
-    #[test]
-    fn p_and_not_p_in_unrelated_layers() {
-        let book = Book::new(1, 3)
-            .arrow(0, 2)
-            .arrow(1, 2)
-            .rule(0, plain(P), &[])
-            .rule(1, not(P), &[]);
-        assert_example(&book, 2, &[], None);
-    }
-
-    #[test]
-    fn each_of_two_rules_displaces_what_the_other_leans_on() {
-        let book = Book::new(2, 2)
-            .arrow(0, 1)
-            .rule(0, plain(P), &[])
-            .rule(0, plain(Q), &[])
-            .rule(1, not(P), &[plain(Q)])
-            .rule(1, not(Q), &[plain(P)]);
-        assert_example(&book, 1, &[0x40, 0x80], Some(2));
-    }
-
-    #[test]
-    fn not_p_if_not_p_above_p() {
-        let book = Book::new(1, 2)
-            .arrow(0, 1)
-            .rule(0, plain(P), &[])
-            .rule(1, not(P), &[not(P)]);
-        assert_example(&book, 1, &[0x80], None);
-    }
-
-    #[test]
-    fn p_if_p_above_p_and_not_p() {
-        let book = Book::new(1, 2)
-            .arrow(0, 1)
-            .rule(0, plain(P), &[])
-            .rule(0, not(P), &[])
-            .rule(1, plain(P), &[plain(P)]);
-        assert_example(&book, 1, &[0x80], None);
+    fn starred_examples_have_the_listings_of_document_01() {
+        for Example {
+            book,
+            layer,
+            records,
+            branching,
+        } in starred()
+        {
+            assert_eq!(reader::read(&book.bytes()).as_ref(), Ok(&book));
+            let driven = Driven::new(&book, layer);
+            let mut listing = vec![1, 0, 0, 0, 11 + records.len() as u8, 0, book.atoms as u8];
+            listing.extend_from_slice(&(records.len() as u32).to_be_bytes());
+            listing.extend_from_slice(records);
+            let what = format!("layer {layer}, book {}", hex(&book.bytes()));
+            assert_eq!(hex(&driven.listing()), hex(&listing), "{what}");
+            assert_eq!(driven.branching_count(), branching, "{what}");
+        }
     }
 
     /// Document 01's remark on branching facts, the rise of the records and k <= 2^g, which hold

@@ -42,7 +42,14 @@ pub fn state_in_each_layer(atoms: u16, layers: u8) -> Book {
     book
 }
 
-/// Whether a fact stands in that state: the first five facts are the layer's number.
+/// That state of a layer, in a book of so many facts.
+pub fn state_of_layer(atoms: u16, layer: u8) -> Vec<bool> {
+    (0..atoms)
+        .map(|atom| stands_in_layer(layer, atom))
+        .collect()
+}
+
+/// Whether a fact stands in it: the first five facts are the layer's number.
 pub fn stands_in_layer(layer: u8, atom: u16) -> bool {
     atom < 5 && layer >> atom & 1 == 1
 }

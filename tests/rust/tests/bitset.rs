@@ -9,6 +9,7 @@ use lesson_tests::known::{self, Known, EVERY_FOLLOWING};
 use lesson_tests::oracle::{self, Driven};
 use lesson_tests::rng::{seed, Rng};
 use lesson_tests::shapes::{self, Layering, NO_LAYERS};
+use lesson_tests::sweep;
 
 const FILLER: u8 = 0xA5;
 
@@ -118,23 +119,16 @@ fn assert_layer(case: &Case, driven: &Driven) -> usize {
 
 /// Compares all calls at all layers of `number` books.
 fn sweep(shape: &str, number: usize, generate: impl Fn(&mut Rng) -> Book) {
-    let seed = seed();
-    let mut rng = Rng::named(seed, shape);
     let mut states = [0; 3];
-    for index in 0..number {
-        let book = generate(&mut rng);
-        let bytes = book.bytes();
-        let what = format!("seed {seed}, {shape}, book {index}");
-        for layer in 0..book.layers {
-            let case = Case {
-                what: &what,
-                book: &bytes,
-                layer: layer.into(),
-            };
-            states[assert_layer(&case, &Driven::new(&book, layer)).min(2)] += 1;
-        }
-    }
-    println!("seed {seed}, {shape}: {number} books, layers with 0, 1, more states: {states:?}");
+    let tried = sweep::layers(shape, number, generate, |swept, _| {
+        let case = Case {
+            what: swept.what,
+            book: swept.bytes,
+            layer: swept.layer.into(),
+        };
+        states[assert_layer(&case, &swept.driven).min(2)] += 1;
+    });
+    println!("{tried}, layers with 0, 1, more states: {states:?}");
     assert!(states.iter().all(|&times| times > 100), "{states:?}");
 }
 

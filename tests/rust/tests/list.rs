@@ -10,6 +10,7 @@ use lesson_tests::known::{self, Following, Known, EVERY_FOLLOWING};
 use lesson_tests::oracle::{self, Driven};
 use lesson_tests::rng::{seed, Rng};
 use lesson_tests::shapes::{self, Layering, B, NO_LAYERS};
+use lesson_tests::sweep;
 use lesson_tests::truth::Truth;
 use std::thread;
 
@@ -59,38 +60,32 @@ struct Tally {
 /// Compares engine and oracle at every layer of `number` books, each with buffers around the
 /// listing's length.
 fn sweep(shape: &str, number: usize, generate: impl Fn(&mut Rng) -> Book) -> Tally {
-    let seed = seed();
-    let mut rng = Rng::named(seed, shape);
     let mut tally = Tally::default();
-    for index in 0..number {
-        let book = generate(&mut rng);
-        let bytes = book.bytes();
-        for layer in 0..book.layers {
-            let driven = Driven::new(&book, layer);
-            let models = driven.stable_models();
-            let listing = driven.listing();
-            let answer = counts(driven.branching_count(), models.len());
-            let exact = listing.len();
-            let lengths: Vec<usize> = match index % 16 {
-                0 => (0..exact + 4).collect(),
-                _ => vec![
-                    exact,
-                    exact - 1,
-                    exact + rng.range(1, 20),
-                    rng.below(exact + 10),
-                ],
-            };
-            for &length in &lengths {
-                let buffer = rng.bytes(length);
-                let what = format!("seed {seed}, {shape}, book {index}");
-                let expected = outcome(&listing, answer, &buffer);
-                assert_outcome(&what, &bytes, layer.into(), &buffer, &expected);
-            }
-            tally.calls += lengths.len();
-            count(&mut tally, &driven, &models);
+    let tried = sweep::layers(shape, number, generate, |swept, rng| {
+        let driven = &swept.driven;
+        let models = driven.stable_models();
+        let listing = driven.listing();
+        let answer = counts(driven.branching_count(), models.len());
+        let exact = listing.len();
+        let lengths: Vec<usize> = match swept.index % 16 {
+            0 => (0..exact + 4).collect(),
+            _ => vec![
+                exact,
+                exact - 1,
+                exact + rng.range(1, 20),
+                rng.below(exact + 10),
+            ],
+        };
+        for &length in &lengths {
+            let buffer = rng.bytes(length);
+            let expected = outcome(&listing, answer, &buffer);
+            let layer = swept.layer.into();
+            assert_outcome(swept.what, swept.bytes, layer, &buffer, &expected);
         }
-    }
-    println!("seed {seed}, {shape}: {number} books, {tally:?}");
+        tally.calls += lengths.len();
+        count(&mut tally, driven, &models);
+    });
+    println!("{tried}, {tally:?}");
     tally
 }
 
@@ -562,9 +557,7 @@ fn layers_of_the_book_are_listed_and_all_others_are_refused_9() {
     for layers in [1, 2, 31, 32] {
         let bytes = shapes::state_in_each_layer(6, layers).bytes();
         for layer in 0..layers {
-            let state: Vec<bool> = (0..6)
-                .map(|atom| shapes::stands_in_layer(layer, atom))
-                .collect();
+            let state = shapes::state_of_layer(6, layer);
             let listing = oracle::listing(6, &[oracle::record(&state)]);
             let expected = outcome(&listing, counts(0, 1), &[7; 14]);
             assert_outcome("a layer", &bytes, layer.into(), &[7; 14], &expected);

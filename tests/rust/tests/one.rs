@@ -10,6 +10,7 @@ use lesson_tests::oracle::{self, Driven};
 use lesson_tests::reader;
 use lesson_tests::rng::{seed, Rng};
 use lesson_tests::shapes::{self, Layering, B, NO_LAYERS};
+use lesson_tests::sweep;
 use lesson_tests::truth::Truth;
 use std::thread;
 
@@ -59,31 +60,29 @@ fn agree(what: &str, book: &[u8], layer: u32, buffer: &[u8]) -> u64 {
 /// Compares engine and oracle at every layer of `number` books, with buffers from none to a record
 /// and some bytes more.
 fn sweep(shape: &str, number: usize, generate: impl Fn(&mut Rng) -> Book) {
-    let seed = seed();
-    let mut rng = Rng::named(seed, shape);
     let mut tally = [0; 15];
-    for index in 0..number {
-        let book = generate(&mut rng);
-        let bytes = book.bytes();
-        for layer in 0..book.layers {
-            let driven = Driven::new(&book, layer);
-            let models = driven.stable_models();
-            for length in 0..4 {
-                let expected = match models.is_empty() {
-                    _ if length == 0 => Err(BUFFER_TOO_SHORT),
-                    true => Err(NO_STABLE_STATE),
-                    false => Ok(branching(driven.branching_count())),
-                };
-                let what = format!("seed {seed}, {shape}, book {index}");
-                let buffer = rng.bytes(length);
-                assert_outcome(&what, &bytes, layer.into(), &buffer, expected, |record| {
-                    models.iter().any(|model| oracle::record(model) == record)
-                });
-                tally[expected.err().unwrap_or(0) as usize] += 1;
-            }
+    let tried = sweep::layers(shape, number, generate, |swept, rng| {
+        let models = swept.driven.stable_models();
+        let layer = swept.layer.into();
+        for length in 0..4 {
+            let expected = match models.is_empty() {
+                _ if length == 0 => Err(BUFFER_TOO_SHORT),
+                true => Err(NO_STABLE_STATE),
+                false => Ok(branching(swept.driven.branching_count())),
+            };
+            let buffer = rng.bytes(length);
+            assert_outcome(
+                swept.what,
+                swept.bytes,
+                layer,
+                &buffer,
+                expected,
+                |record| models.iter().any(|model| oracle::record(model) == record),
+            );
+            tally[expected.err().unwrap_or(0) as usize] += 1;
         }
-    }
-    println!("seed {seed}, {shape}: {number} books, answers 0 to 14: {tally:?}");
+    });
+    println!("{tried}, answers 0 to 14: {tally:?}");
     for answer in [0, 13, 14] {
         assert!(tally[answer] > 300, "{answer} is rare: {tally:?}");
     }
@@ -290,9 +289,7 @@ fn layers_of_the_book_are_driven_and_all_others_are_refused_9() {
     for layers in [1, 2, 31, 32] {
         let bytes = shapes::state_in_each_layer(6, layers).bytes();
         for layer in 0..layers {
-            let state: Vec<bool> = (0..6)
-                .map(|atom| shapes::stands_in_layer(layer, atom))
-                .collect();
+            let state = shapes::state_of_layer(6, layer);
             let granted = Ok(branching(0));
             assert_outcome(
                 "a layer",

@@ -6,9 +6,9 @@ use lesson_tests::causes::{every_set, fields, AnyBytes};
 use lesson_tests::expected::{place_of, NO_STABLE_STATE, NO_SUCH_FACT};
 use lesson_tests::ffi;
 use lesson_tests::known::{self, Known, EVERY_FOLLOWING};
-use lesson_tests::oracle::Driven;
 use lesson_tests::rng::{seed, Rng};
 use lesson_tests::shapes::{self, Layering, B, NO_LAYERS};
+use lesson_tests::sweep;
 use lesson_tests::truth::Truth;
 use std::thread;
 
@@ -27,36 +27,26 @@ fn assert_answer(what: &str, book: &[u8], layer: u32, fact: u32, expected: u64) 
 
 /// Compares engine and oracle for every fact at every layer of `number` books.
 fn sweep(shape: &str, number: usize, generate: impl Fn(&mut Rng) -> Book) {
-    let seed = seed();
-    let mut rng = Rng::named(seed, shape);
     let (mut places, mut without) = ([0; 3], 0);
-    for index in 0..number {
-        let book = generate(&mut rng);
-        let bytes = book.bytes();
-        let what = format!("seed {seed}, {shape}, book {index}");
-        let atoms = u32::from(book.atoms);
-        for layer in 0..book.layers {
-            let driven = Driven::new(&book, layer);
-            let (models, branching) = (driven.stable_models(), driven.branching_count());
-            for fact in 0..atoms {
-                let standing = models.iter().filter(|model| model[fact as usize]).count();
-                let expected = place_of(branching, standing, models.len());
-                assert_answer(&what, &bytes, layer.into(), fact, expected);
-                match expected {
-                    NO_STABLE_STATE => without += 1,
-                    granted => places[(granted >> 16) as usize] += 1,
-                }
-            }
-            let part = rng.pick(&PARTS) + rng.below(book.atoms.into()) as u32;
-            for fact in [atoms, part, u32::MAX] {
-                assert_answer(&what, &bytes, layer.into(), fact, NO_SUCH_FACT);
+    let tried = sweep::layers(shape, number, generate, |swept, rng| {
+        let (driven, layer) = (&swept.driven, swept.layer.into());
+        let atoms = u32::from(swept.book.atoms);
+        let (models, branching) = (driven.stable_models(), driven.branching_count());
+        for fact in 0..atoms {
+            let standing = models.iter().filter(|model| model[fact as usize]).count();
+            let expected = place_of(branching, standing, models.len());
+            assert_answer(swept.what, swept.bytes, layer, fact, expected);
+            match expected {
+                NO_STABLE_STATE => without += 1,
+                granted => places[(granted >> 16) as usize] += 1,
             }
         }
-    }
-    println!(
-        "seed {seed}, {shape}: {number} books, in none, some, every state: {places:?}, \
-         no state: {without}"
-    );
+        let part = rng.pick(&PARTS) + rng.below(atoms as usize) as u32;
+        for fact in [atoms, part, u32::MAX] {
+            assert_answer(swept.what, swept.bytes, layer, fact, NO_SUCH_FACT);
+        }
+    });
+    println!("{tried}, in none, some, every state: {places:?}, no state: {without}");
     assert!(places.iter().all(|&times| times > 300), "{places:?}");
     assert!(without > 300, "only {without} without a state");
 }

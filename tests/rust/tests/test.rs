@@ -11,6 +11,7 @@ use lesson_tests::plain as plain_rust;
 use lesson_tests::reader;
 use lesson_tests::rng::{seed, Rng};
 use lesson_tests::shapes::{self, Layering, NO_LAYERS};
+use lesson_tests::sweep;
 use std::thread;
 
 const P: u16 = 0;
@@ -56,41 +57,35 @@ struct Tally {
 
 /// Compares engine and oracle on every state of `number` books, at every layer.
 fn sweep(shape: &str, number: usize, generate: impl Fn(&mut Rng) -> Book) -> Tally {
-    let seed = seed();
-    let mut rng = Rng::named(seed, shape);
     let mut tally = Tally::default();
-    for index in 0..number {
-        let book = generate(&mut rng);
-        let bytes = book.bytes();
-        for layer in 0..book.layers {
-            let driven = Driven::new(&book, layer);
-            let chosen = rng.below(1 << book.atoms);
-            for (at, state) in states(book.atoms).enumerate() {
-                let record = oracle::record(&state);
-                let stable = driven.stable(&state);
-                let engine = match stable || at == chosen {
-                    true => ffi::test(&bytes, layer.into(), &record),
-                    false => ffi::test_in_place(&bytes, layer.into(), &record),
-                };
-                assert!(
-                    engine == yes_or_no(stable),
-                    "seed {seed}, {shape}, book {index}, layer {layer}, candidate {}: \
-                     engine {engine:#X}, oracle {stable}\n{}",
-                    hex(&record),
-                    hex(&bytes)
-                );
-                match stable {
-                    true => tally.yes += 1,
-                    false => tally.no += 1,
-                }
-            }
-            if index % 2 == 0 && book.atoms <= 4 {
-                count_told_apart(&mut tally, &book, layer);
+    let tried = sweep::layers(shape, number, generate, |swept, rng| {
+        let (book, bytes, layer) = (swept.book, swept.bytes, swept.layer);
+        let chosen = rng.below(1 << book.atoms);
+        for (at, state) in states(book.atoms).enumerate() {
+            let record = oracle::record(&state);
+            let stable = swept.driven.stable(&state);
+            let engine = match stable || at == chosen {
+                true => ffi::test(bytes, layer.into(), &record),
+                false => ffi::test_in_place(bytes, layer.into(), &record),
+            };
+            assert!(
+                engine == yes_or_no(stable),
+                "{}, layer {layer}, candidate {}: engine {engine:#X}, oracle {stable}\n{}",
+                swept.what,
+                hex(&record),
+                hex(bytes)
+            );
+            match stable {
+                true => tally.yes += 1,
+                false => tally.no += 1,
             }
         }
-    }
+        if swept.index % 2 == 0 && book.atoms <= 4 {
+            count_told_apart(&mut tally, book, layer);
+        }
+    });
     println!(
-        "seed {seed}, {shape}: {number} books, {} states stable, {} not; told apart: {:?}",
+        "{tried}, {} states stable, {} not; told apart: {:?}",
         tally.yes, tally.no, tally.told_apart
     );
     tally
@@ -380,9 +375,7 @@ fn layers_of_the_book_are_driven_and_all_others_are_refused_9() {
     for layers in [1, 2, 4, 31, 32] {
         let bytes = shapes::state_in_each_layer(5, layers).bytes();
         for layer in 0..layers {
-            let own: Vec<bool> = (0..5)
-                .map(|atom| shapes::stands_in_layer(layer, atom))
-                .collect();
+            let own = shapes::state_of_layer(5, layer);
             let other: Vec<bool> = own.iter().map(|stands| !stands).collect();
             for (state, answer) in [(own, yes_or_no(true)), (other, yes_or_no(false))] {
                 let record = oracle::record(&state);
