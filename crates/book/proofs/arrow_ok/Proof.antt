@@ -1,3 +1,4 @@
+-- `arrow_ok` meets its contract: the three tests of the definition, one after the other. Assumes nothing.
 use Rattle.book.proofs.RecordLaws.{arrow-length, arrow-earlier, arrow-later}
 use borrow.Author.Needs.{needs}
 use Rattle.book.proofs.arrow_ok.Statement.{statement}

@@ -1,3 +1,5 @@
+-- `arrows_ok` meets its contract. The invariant: all records are good exactly if those from the offset on are. Each turn takes one
+-- record, so the bytes left fall. Assumes nothing.
 use mathlib.Core.Path.{_≡_, refl, sym, _∙_}
 use Prim.Native.Nat.{_≤_, _-_}
 use lib.ListN.{length, drop}

@@ -1,3 +1,4 @@
+-- `atom_ok` meets its contract: the fact is the two bytes but for the sign, which is the top bit. Assumes nothing.
 use mathlib.Core.Path.{refl}
 use Rattle.format.specs.Book.{literalOf}
 use Rattle.book.specs.Causes.{atomBelow}

@@ -1,3 +1,4 @@
+-- `bad_record` meets its contract: where the sections are whole, the two parts that the code cuts are their records. Assumes nothing.
 use borrow.Author.Tests.{not-true, not-false}
 use Rattle.format.proofs.SectionLaws.{laid}
 use Rattle.book.proofs.RangeLaws.{six-arrows, six-rules}

@@ -1,3 +1,5 @@
+-- `literals_ok` meets its contract. The invariant: all literals are good exactly if the unread ones are. Two bytes a turn, so the
+-- unread bytes fall. Assumes nothing.
 use mathlib.Core.Path.{_≡_, refl, sym, _∙_}
 use Prim.Native.Nat.{_≤_, _-_}
 use lib.ListN.{length, drop}

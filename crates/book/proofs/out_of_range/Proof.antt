@@ -1,3 +1,5 @@
+-- `out_of_range` meets its contract: where the sections are whole, the fields are there, and each is compared with its range.
+-- Assumes nothing.
 use Rattle.format.proofs.SectionLaws.{laid}
 use Rattle.book.proofs.RangeLaws.{five-facts, five-layers, five-arrows, five-rules}
 use native.Mathlib.Omega.{arith}

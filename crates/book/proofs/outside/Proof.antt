@@ -1,3 +1,4 @@
+-- `outside` meets its contract: below the range, or else the comparison with its upper end. Assumes nothing.
 use Rattle.book.proofs.RangeLaws.{out-low, out-high}
 use Rattle.book.proofs.outside.Statement.{statement}
 use Rattle.book.proofs.outside.Tie as tie

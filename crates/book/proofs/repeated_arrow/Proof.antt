@@ -1,3 +1,5 @@
+-- `repeated_arrow` meets its contract: the part that the code cuts is the arrow section's records, which are good by causes 5 and 6.
+-- Assumes nothing.
 use Rattle.format.proofs.SectionLaws.{laid}
 use Rattle.book.proofs.CycleLaws.{part-good, seven-is}
 use native.Mathlib.Omega.{arith}

@@ -1,3 +1,5 @@
+-- `rule_ok` meets its contract: the length is odd and from 3 to 35, then the tests of the definition, one after the other.
+-- Assumes nothing.
 use Prim.Native.Nat.{_-_}
 use lib.ListN.{length, take, drop, length-drop}
 use lib.Seq.{take-all}

@@ -1,3 +1,4 @@
+-- `be16` meets its contract by the definition of `u16At`; two bytes do not wrap. Assumes nothing.
 use Rattle.format.specs.Book.{u16At}
 use borrow.Author.Needs.{needs}
 use Rattle.format.proofs.be16.Statement.{statement}

@@ -1,3 +1,4 @@
+-- `be32` meets its contract by the definition of `u32At`; four bytes do not wrap. Assumes nothing.
 use Rattle.format.specs.Book.{u32At}
 use borrow.Author.Needs.{needs}
 use Rattle.format.proofs.be32.Statement.{statement}

@@ -1,3 +1,4 @@
+-- `broken_section` meets its contract: the second section starts where the first ends, once the first is whole. Assumes nothing.
 use mathlib.Core.Path.{sym, _∙_}
 use borrow.Author.Tests.{not-true, not-false}
 use Rattle.format.proofs.SectionLaws.{section-inside, four-first, four-second, four-end}

@@ -1,3 +1,4 @@
+-- `record_end` meets its contract: the smaller of the two ends, found by a difference that does not wrap. Assumes nothing.
 use Rattle.format.specs.Book.{recordEnd}
 use borrow.Author.Needs.{needs}
 use Rattle.format.proofs.record_end.Statement.{statement}

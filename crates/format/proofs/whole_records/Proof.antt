@@ -1,3 +1,5 @@
+-- `whole_records` meets its contract. The invariant (`Passed`): the records passed fit and were counted, and the rest decides. Each
+-- turn takes one record, so the bytes left fall. Assumes nothing.
 use Prim.Native.Nat.{_-_}
 use lib.ListN.{length}
 use Rattle.format.proofs.Offsets.{Passed, passed-start, passed-fails, passed-more, passed-end}

@@ -1,3 +1,5 @@
+-- `whole_section` meets its contract: a section without room for its fields or its bytes is not whole, and else the walk over its
+-- records decides. Assumes nothing.
 use Rattle.format.proofs.SectionLaws.{section-short, section-over, section-walk}
 use borrow.Author.Needs.{needs}
 use Rattle.format.proofs.whole_section.Statement.{statement}
