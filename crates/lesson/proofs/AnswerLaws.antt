@@ -1,4 +1,5 @@
--- The numbers that an answer carries fit the 64 bits. Assumes nothing.
+-- The numbers that an answer carries fit the 64 bits: k is at most 2^20 and g at most 20, since the call was granted. Used by
+-- lesson_list, lesson_one and lesson_place. Assumes nothing.
 use mathlib.Core.Path.{_≡_, sym, ap, _∙_}
 use mathlib.Core.List.{List}
 use Prim.Native.Nat.{ℕ, _+_, _*_, _≤_}

@@ -8,7 +8,7 @@ use lib.Seq.{ext-getD}
 use Rattle.base.specs.Lists.{any}
 use Rattle.models.specs.Program.{Program}
 use Rattle.format.specs.Book.{Literal, Rule}
-use Rattle.models.specs.StableModels.{Interpretation, atomHolds, signed, holds, bodyHolds, overrides, rejected, Derived, by-default, by-rule, StableModel, WellFormed}
+use Rattle.models.specs.StableModels.{Interpretation, atomHolds, positive, signed, holds, bodyHolds, overrides, rejected, Derived, by-default, by-rule, StableModel, WellFormed}
 use Rattle.models.specs.Branching.{canReject, branching}
 use Rattle.models.specs.Condition3.{BranchingDecides}
 use Rattle.base.proofs.Members.{_∈_, and-left, and-right, and-both, or-right, all-at, all-of, any-at, any-of, same-test}
@@ -65,8 +65,7 @@ module _ (P : Program) (w : WellFormed P) where
     into : (f : ℕ) → f < P .atoms → T (atomHolds m f) → T (atomHolds o f)
     unfolding holds signed
     into f h t =
-        let l : Literal = record { atom = f; negated = false } in
-        so .exact l h .0 (carry l (sm .exact l h .1 t) refl)
+        so .exact (positive f) h .0 (carry (positive f) (sm .exact (positive f) h .1 t) refl)
 
   pub branching-decides : BranchingDecides P
   unfolding atomHolds

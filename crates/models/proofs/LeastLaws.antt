@@ -10,7 +10,7 @@ use Rattle.base.specs.Lists.{filter, upTo}
 use Rattle.base.specs.Closure.{Clause, Consequence, given, by-clause, member}
 use Rattle.models.specs.Program.{Program}
 use Rattle.format.specs.Book.{Literal, Rule}
-use Rattle.models.specs.StableModels.{Interpretation, atomHolds, signed, holds, sameLiteral, rejected, default, defaults, activeRules, clauseOf, least, agreesAt, stable, Derived, by-default, by-rule, StableModel}
+use Rattle.models.specs.StableModels.{Interpretation, atomHolds, positive, negative, signed, holds, sameLiteral, rejected, default, defaults, activeRules, clauseOf, least, agreesAt, stable, Derived, by-default, by-rule, StableModel}
 use Rattle.base.proofs.Members.{_∈_, and-left, and-right, and-both, filter-from, filter-into, all-at, all-of, same-test}
 use Rattle.base.proofs.UpTo.{upTo-lt, upTo-has}
 use Rattle.base.proofs.ClosureLaws.{member-sound, member-complete, closure-sound, closure-complete}
@@ -43,13 +43,10 @@ in-literal : {l : Literal} {ls : List Literal} → l ∈ ls → T (member sameLi
 in-literal k = member-complete sameLiteral literal-same literal-refl k
 
 module _ (P : Program) (m : Interpretation) where
-  named : ℕ → Literal
-  named f = record { atom = f; negated = true }
-
   of-derived : (l : Literal) → Consequence (map clauseOf (activeRules P m)) (defaults P m) l → Derived P m l
-  unfolding defaults activeRules named clauseOf
+  unfolding defaults activeRules clauseOf
   of-derived l (given k) =
-      let w : (f : ℕ) × f ∈ filter (default P m) (upTo (P .atoms)) × (named f ≡ l) = Memᴰ·of-map named (filter (default P m) (upTo (P .atoms))) k in
+      let w : (f : ℕ) × f ∈ filter (default P m) (upTo (P .atoms)) × (negative f ≡ l) = Memᴰ·of-map negative (filter (default P m) (upTo (P .atoms))) k in
       let v : w .0 ∈ upTo (P .atoms) × T (default P m (w .0)) = filter-from (default P m) (upTo (P .atoms)) (w .1) in
       subst (Derived P m) (w .2) (by-default (w .0) (upTo-lt (P .atoms) (w .0) (v .0)) (v .1))
   of-derived l (by-clause c k h) = go (Memᴰ·of-map clauseOf (activeRules P m) k) (λ x n. of-derived x (h x n))
@@ -61,8 +58,8 @@ module _ (P : Program) (m : Interpretation) where
           (by-rule (w .0) (v .0) (v .1) (λ x n. f x (subst (λ (d : Clause Literal). x ∈ d .premises) (w .2) n)))
 
   to-derived : (l : Literal) → Derived P m l → Consequence (map clauseOf (activeRules P m)) (defaults P m) l
-  unfolding defaults activeRules named clauseOf
-  to-derived l (by-default f h d) = given (Memᴰ·map named (filter-into (default P m) (upTo-has (P .atoms) f h) d))
+  unfolding defaults activeRules clauseOf
+  to-derived l (by-default f h d) = given (Memᴰ·map negative (filter-into (default P m) (upTo-has (P .atoms) f h) d))
   to-derived l (by-rule r k u below) =
       by-clause (clauseOf r) (Memᴰ·map clauseOf (filter-into (λ r. not (rejected P m r)) k u)) (λ x n. to-derived x (below x n))
 
@@ -74,23 +71,18 @@ module _ (P : Program) (m : Interpretation) where
   unfolding least
   least-complete l d = closure-complete sameLiteral literal-same literal-refl (map clauseOf (activeRules P m)) (defaults P m) l (to-derived l d)
 
-  plain : ℕ → Literal
-  plain f = record { atom = f; negated = false }
-
-  right : ℕ → Bool
-  right f = Bool·beq (member sameLiteral (plain f) (least P m)) (atomHolds m f) && Bool·beq (member sameLiteral (named f) (least P m)) (not (atomHolds m f))
-
-  told : (f : ℕ) → T (right f) → (c : Bool) → member sameLiteral (record { atom = f; negated = c }) (least P m) ≡ signed c (atomHolds m f)
-  unfolding right plain named signed
-  told f t true = beq-same (member sameLiteral (named f) (least P m)) (not (atomHolds m f)) (and-right (Bool·beq (member sameLiteral (plain f) (least P m)) (atomHolds m f)) (Bool·beq (member sameLiteral (named f) (least P m)) (not (atomHolds m f))) t)
-  told f t false = beq-same (member sameLiteral (plain f) (least P m)) (atomHolds m f) (and-left (Bool·beq (member sameLiteral (plain f) (least P m)) (atomHolds m f)) (Bool·beq (member sameLiteral (named f) (least P m)) (not (atomHolds m f))) t)
+  -- what agreement says of either sign
+  told : (f : ℕ) → T (agreesAt (least P m) m f) → (c : Bool) → member sameLiteral (record { atom = f; negated = c }) (least P m) ≡ signed c (atomHolds m f)
+  unfolding agreesAt signed
+  told f t true = beq-same (member sameLiteral (negative f) (least P m)) (not (atomHolds m f)) (and-right (Bool·beq (member sameLiteral (positive f) (least P m)) (atomHolds m f)) (Bool·beq (member sameLiteral (negative f) (least P m)) (not (atomHolds m f))) t)
+  told f t false = beq-same (member sameLiteral (positive f) (least P m)) (atomHolds m f) (and-left (Bool·beq (member sameLiteral (positive f) (least P m)) (atomHolds m f)) (Bool·beq (member sameLiteral (negative f) (least P m)) (not (atomHolds m f))) t)
 
   pub stable-sound : length m ≡ P .atoms → T (stable P m) → StableModel P m
-  unfolding stable agreesAt holds right plain named
+  unfolding stable holds
   stable-sound e t = record {
     size = e;
     exact = λ l h.
-        let q : member sameLiteral l (least P m) ≡ signed (l .negated) (atomHolds m (l .atom)) = told (l .atom) (all-at right t (upTo-has (P .atoms) (l .atom) h)) (l .negated) in
+        let q : member sameLiteral l (least P m) ≡ signed (l .negated) (atomHolds m (l .atom)) = told (l .atom) (all-at (agreesAt (least P m) m) t (upTo-has (P .atoms) (l .atom) h)) (l .negated) in
         (λ r. subst T q (in-literal (least-complete l r)), λ u. least-sound l (literal-in l (least P m) (subst T (sym q) u)));
   }
 
@@ -98,15 +90,15 @@ module _ (P : Program) (m : Interpretation) where
   same-beq a c f g = subst (λ (x : Bool). T (Bool·beq a x)) (same-test a c f g) (beq-refl a)
 
   pub stable-complete : StableModel P m → T (stable P m)
-  unfolding stable agreesAt holds right plain named signed
+  unfolding stable agreesAt holds signed
   stable-complete w =
-      all-of right (upTo (P .atoms))
+      all-of (agreesAt (least P m) m) (upTo (P .atoms))
       (λ f k.
       let h : f < P .atoms = upTo-lt (P .atoms) f k in
-      and-both (Bool·beq (member sameLiteral (plain f) (least P m)) (atomHolds m f)) (Bool·beq (member sameLiteral (named f) (least P m)) (not (atomHolds m f)))
-      (same-beq (member sameLiteral (plain f) (least P m)) (atomHolds m f)
-      (λ t. w .exact (plain f) h .0 (least-sound (plain f) (literal-in (plain f) (least P m) t)))
-      (λ t. in-literal (least-complete (plain f) (w .exact (plain f) h .1 t))))
-      (same-beq (member sameLiteral (named f) (least P m)) (not (atomHolds m f))
-      (λ t. w .exact (named f) h .0 (least-sound (named f) (literal-in (named f) (least P m) t)))
-      (λ t. in-literal (least-complete (named f) (w .exact (named f) h .1 t)))))
+      and-both (Bool·beq (member sameLiteral (positive f) (least P m)) (atomHolds m f)) (Bool·beq (member sameLiteral (negative f) (least P m)) (not (atomHolds m f)))
+      (same-beq (member sameLiteral (positive f) (least P m)) (atomHolds m f)
+      (λ t. w .exact (positive f) h .0 (least-sound (positive f) (literal-in (positive f) (least P m) t)))
+      (λ t. in-literal (least-complete (positive f) (w .exact (positive f) h .1 t))))
+      (same-beq (member sameLiteral (negative f) (least P m)) (not (atomHolds m f))
+      (λ t. w .exact (negative f) h .0 (least-sound (negative f) (literal-in (negative f) (least P m) t)))
+      (λ t. in-literal (least-complete (negative f) (w .exact (negative f) h .1 t)))))

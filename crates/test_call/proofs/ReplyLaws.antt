@@ -1,5 +1,5 @@
--- The answer from the tests made so far, and what "yes" says: no cause applies, and the candidate's state is a stable model by the
--- inductive definition. Used by `test` and `candidate_stable`. Assumes nothing.
+-- The answer from the tests made so far, and what "yes" and "no" say: no cause applies, and the candidate's state is a stable model by
+-- the inductive definition, or is none. Used by `test` and `candidate_stable`. Assumes nothing.
 use mathlib.Core.Path.{_≡_, refl, sym, ap, ap₂, subst, _∙_}
 use mathlib.Core.Bool.{Bool, true, false}
 use mathlib.Core.List.{List, [], _∷_}
