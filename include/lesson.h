@@ -69,9 +69,9 @@ enum lesson_cause_number {
 enum lesson_stack_bytes {
     LESSON_CHECK_STACK = 1024,
     LESSON_TEST_STACK = 28672,
-    LESSON_LIST_STACK = 57344,
-    LESSON_ONE_STACK = 57344,
-    LESSON_PLACE_STACK = 57344
+    LESSON_LIST_STACK = 61440,
+    LESSON_ONE_STACK = 61440,
+    LESSON_PLACE_STACK = 61440
 };
 
 /* The cause that an answer names; LESSON_GRANTED where there is none. */

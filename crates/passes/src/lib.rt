@@ -12,6 +12,7 @@ ghost use Rattle.setting.specs.RuleMasks.{RuleMasks};
 ghost use Rattle.search.specs.Searchable.{Searchable};
 ghost use Rattle.passes.specs.First.{FirstWritten};
 ghost use Rattle.passes.specs.Tallied.{Passed, Tallied};
+use nogoods::nogood_masks;
 use search::Goal;
 use search::Visit;
 use search::search;
@@ -41,6 +42,8 @@ fn pass(
 {
     let room = part.len();
     let mut watched: [u16; 1024] = [0; 1024];
+    let mut nogoods: [u32; 1024] = [0; 1024];
+    let made = nogood_masks(book, rows, overridden, atoms, &mut nogoods);
     let v = Visit {
         goal,
         atom,
@@ -55,6 +58,7 @@ fn pass(
         rows,
         overridden,
         masks,
+        &nogoods[0..2 * made],
         atoms,
         atoms,
         n,

@@ -1,30 +1,35 @@
--- The quick test passes wherever there is a stable model: each branching atom that stands in it is the head of a rule whose body
--- holds in it, so nothing that is decided denies a literal of that body. Used by search. Assumes nothing.
+-- The quick tests pass wherever there is a stable model: each branching atom that stands in it is the head of a rule whose body holds in
+-- it, so nothing that is decided denies a literal of that body; and it has no nogood. Used by search. Assumes nothing.
 use mathlib.Core.Path.{_≡_, refl, sym, ap, subst, _∙_}
 use mathlib.Core.Logic.{⊎-elim}
-use mathlib.Core.Bool.{Bool, true, false, not, false≢true}
+use mathlib.Core.Bool.{Bool, true, false, not, _&&_, cond, false≢true}
 use mathlib.Core.List.{List, [], _∷_, List·Memᴰ·head, List·Memᴰ·tail}
-use Prim.Native.Nat.{ℕ, zero, suc, _-_, _/_, _<_, _≤_}
+use Prim.Native.Nat.{ℕ, zero, suc, _+_, _*_, _-_, _/_, _<_, _≤_}
 use native.Mathlib.Decide.{ℕ-discrete}
 use native.Mathlib.Omega.{arith}
 use lib.Bits.{bitAnd, bitOr}
-use lib.Dec.{T, T-not}
+use lib.Dec.{T, T-not, not-T, eqb}
 use lib.ListN.{length, getD, set, take, drop, length-set}
 use lib.Seq.{drop-cons, take-all, set-set, getD-set-same, getD-set-other}
-use Rattle.base.proofs.Members.{_∈_}
+use Rattle.base.proofs.Members.{_∈_, and-left, any-at}
 use Rattle.layers.specs.Masks.{bitOf}
 use Rattle.layers.proofs.BitLaws.{no-bit, or-cases, and-first, and-second, some-bit}
 use Rattle.format.specs.Book.{Literal, Rule}
 use Rattle.models.specs.Program.{Program}
-use Rattle.models.specs.StableModels.{Interpretation, atomHolds, positive, negative, signed, holds, Derived, by-default, by-rule, StableModel}
+use Rattle.models.specs.StableModels.{Interpretation, atomHolds, positive, negative, complement, signed, holds, bodyHolds, overrides, rejected, Derived, by-default, by-rule, StableModel}
 use Rattle.models.specs.Branching.{branchingAtoms}
-use Rattle.table.specs.Rows.{rowCount, rowAt, rowsOf}
+use Rattle.table.specs.Names.{literalNamed, nameOf}
+use Rattle.table.specs.Rows.{rowCount, headName, rowAt}
 use Rattle.table.specs.Table.{programOf}
-use Rattle.table.proofs.RowLaws.{row-of}
+use Rattle.table.proofs.NameLaws.{name-back, complement-twice}
+use Rattle.table.proofs.RowLaws.{row-in, row-of}
+use Rattle.table.proofs.TableLaws.{overrides-heads}
+use Rattle.filling.specs.Marks.{alive}
 use Rattle.setting.specs.Setting.{settingOf}
-use Rattle.setting.specs.RuleMasks.{RuleMask, plainMask, negatedMask, headMask, MaskOf, RuleMasks, Open, Headed}
+use Rattle.setting.specs.RuleMasks.{AtomBits, RuleMask, plainMask, negatedMask, headMask, MaskOf, RuleMasks, Open, Headed}
 use Rattle.setting.proofs.BitMaskLaws.{single, single-only}
 use Rattle.setting.proofs.SettingLaws.{setting-size, setting-false, setting-true}
+use Rattle.nogoods.specs.Nogoods.{Rejectable, Within, NogoodOf, Nogoods, Met}
 use Rattle.insertion.proofs.Once.{Once}
 use Rattle.insertion.proofs.SortedLaws.{getD-member}
 use Rattle.search.specs.Found.{atSetting, foundBy}
@@ -109,16 +114,80 @@ module _ {book rows overridden atoms : List ℕ} {layer n : ℕ} (w : Searchable
           e .mask .head-in i (d .0 .0) h,
         )
 
-  -- the test failed: there is nothing to find
-  pub none-found : (r : Bool) → (Headed masks (length masks / 3) standing denied → r ≡ true) → not r ≡ true → foundBy (atSetting P atoms) undecided o ≡ []
-  none-found r told e =
+    -- what the masks of a nogood have, decided so, holds in the model
+    module _ {bits : List ℕ} (ab : AtomBits atoms bits (length atoms)) (stand deny : ℕ) (es : bitAnd stand standing ≡ stand) (ed : bitAnd deny denied ≡ deny) where
+      within-holds : (l : Literal) → Within bits stand deny l → T (holds m l)
+      unfolding holds signed
+      within-holds l x = subst (λ (f : ℕ). T (signed (l .negated) (atomHolds m f))) (ab .sound (l .atom) (x .place) (x .atom-bit) .1) (go (l .negated) (x .bit))
+        where
+          i : ℕ
+          i = x .place
+
+          go : (c : Bool) → bitOf (cond c deny stand) i ≡ 1 → T (signed c (atomHolds m (getD atoms i 0)))
+          go true z = let d = s .denied-in i (and-second deny denied i (subst (λ (y : ℕ). bitOf y i ≡ 1) (sym ed) z)) in subst (λ (y : Bool). T (not y)) (sym (agrees-at i (d .0))) (d .1)
+          go false z = let d = s .standing-in i (and-second stand standing i (subst (λ (y : ℕ). bitOf y i ≡ 1) (sym es) z)) in subst T (sym (agrees-at i (d .0))) (d .1)
+
+    -- a rule that nothing can reject is not rejected
+    never-rejected : {rejectable : List ℕ} → Rejectable rows overridden rejectable (rowCount rows) → (r : Rule) → r ∈ P .rules → (h : ℕ) → h < 512 → literalNamed h ≡ r .head → T (alive rejectable r) → T (not (rejected P m r))
+    unfolding alive rejected rowAt
+    never-rejected {rejectable} q r i h b e live =
+        not-T (rejected P m r)
+        (λ d.
+        let v : (t : Rule) × t ∈ P .rules × T (overrides P t r && bodyHolds m t) = any-at (λ t. overrides P t r && bodyHolds m t) (P .rules) d in
+        let u : (j : ℕ) × (j < rowCount rows) × (rowAt book rows j ≡ v .0) = row-of book rows (v .0) (subst (λ (rs : List Rule). v .0 ∈ rs) (sym (w .table .rules)) (v .1)) in
+        let t : Rule = rowAt book rows (u .0) in
+        let over : T (overrides P t r) = subst (λ (y : Rule). T (overrides P y r)) (sym (u .2)) (and-left (overrides P (v .0) r) (bodyHolds m (v .0)) (v .2)) in
+        let z : bitOf (getD overridden (u .0) 0) (r .layer) ≡ 1 = w .table .full (u .0) (u .1) r (subst (λ (rs : List Rule). r ∈ rs) (sym (w .table .rules)) i) over in
+        let y : bitOf (getD rejectable h 0) (r .layer) ≡ 1 = q .full (u .0) (u .1) h (e ∙ facing t (u .0) refl (overrides-heads P t r over)) b (r .layer) z in
+        T-not (eqb (bitOf (getD rejectable (nameOf (r .head)) 0) (r .layer)) 1) live
+        (subst (λ (x : ℕ). T (eqb (bitOf (getD rejectable x 0) (r .layer)) 1)) (sym (name-back h) ∙ ap nameOf e) (subst (λ (x : ℕ). T (eqb x 1)) (sym y) tt)))
+      where
+        row-head-is : (j : ℕ) → rowAt book rows j .head ≡ literalNamed (headName rows j)
+        row-head-is j = refl
+
+        facing : (t : Rule) (j : ℕ) → t ≡ rowAt book rows j → t .head ≡ complement (r .head) → r .head ≡ complement (literalNamed (headName rows j))
+        facing t j et eh = sym (complement-twice (r .head)) ∙ ap complement (sym eh ∙ ap (λ (x : Rule). x .head) et ∙ row-head-is j)
+
+    -- so no nogood is decided
+    no-nogood : {nogoods : List ℕ} {n : ℕ} → Nogoods book rows overridden atoms nogoods n → Met nogoods n standing denied → ⊥
+    unfolding rowAt holds signed complement
+    no-nogood {nogoods} g x =
+        let v = g .each (x .place) (x .before) in
+        let j : ℕ = v .0 in
+        let r : Rule = rowAt book rows j in
+        let y : NogoodOf book rows (g .rejectable) (g .bits) j (getD nogoods (2 * x .place) 0) (getD nogoods (2 * x .place + 1) 0) = v .1 in
+        let i : r ∈ P .rules = subst (λ (rs : List Rule). r ∈ rs) (w .table .rules) (row-in book rows j (y .before)) in
+        let inside = within-holds (g .bits-of) (getD nogoods (2 * x .place) 0) (getD nogoods (2 * x .place + 1) 0) (x .stand) (x .deny) in
+        let derived : Derived P m (r .head) =
+        by-rule r i (never-rejected (g .rejects-all) r i (headName rows j) (w .table .fits .bounded .name j (y .before)) refl (y .lives))
+        (λ l q. sm .exact l (w .formed .bodies r i l q) .1 (inside l (y .body-in l q)))
+        in
+        apart (r .head) (sm .exact (r .head) (w .formed .heads r i) .0 derived) (inside (complement (r .head)) (y .head-in))
+      where
+        go : (c b : Bool) → T (signed c b) → T (signed (not c) b) → ⊥
+        go true b t u = T-not b t u
+        go false b t u = T-not b u t
+
+        apart : (l : Literal) → T (holds m l) → T (holds m (complement l)) → ⊥
+        apart l = go (l .negated) (atomHolds m (l .atom))
+
+  -- where no model agrees with what is decided there is nothing to find
+  nothing-found : ((m : Interpretation) → StableModel P m → ((f : ℕ) → f ∈ branchingAtoms P → (f ∈ undecided → ⊥) → atomHolds m f ≡ atomHolds o f) → ⊥) → foundBy (atSetting P atoms) undecided o ≡ []
+  nothing-found none =
       ap (λ (l : List ℕ). foundBy (atSetting P l) undecided o) (w .listed)
       ∙ empty (foundBy (atSetting P (branchingAtoms P)) undecided o)
-      (λ m q. let v = found-decided P (w .formed) undecided o m q in false≢true (subst (λ (c : Bool). not c ≡ true) (told (all-headed m (v .0) (v .1))) e))
+      (λ m q. let v = found-decided P (w .formed) undecided o m q in none m (v .0) (v .1))
     where
       empty : (ms : List Interpretation) → ((m : Interpretation) → m ∈ ms → ⊥) → ms ≡ []
       empty [] h = refl
       empty (m ∷ ms) h = absurd (h m (List·Memᴰ·head refl))
+
+  -- a test failed: there is nothing to find
+  pub none-headed : (r : Bool) → (Headed masks (length masks / 3) standing denied → r ≡ true) → not r ≡ true → foundBy (atSetting P atoms) undecided o ≡ []
+  none-headed r told e = nothing-found (λ m sm same. false≢true (subst (λ (c : Bool). not c ≡ true) (told (all-headed m sm same)) e))
+
+  pub none-allowed : {nogoods : List ℕ} → Nogoods book rows overridden atoms nogoods (length nogoods / 2) → (r : Bool) → (r ≡ true → Met nogoods (length nogoods / 2) standing denied) → r ≡ true → foundBy (atSetting P atoms) undecided o ≡ []
+  none-allowed g r told e = nothing-found (λ m sm same. no-nogood m sm same g (told e))
 
 -- ---- what is decided, from call to call
 pub listed-once : {book rows overridden atoms : List ℕ} {layer n : ℕ} → Searchable book rows overridden atoms layer n → Once atoms

@@ -2,7 +2,7 @@
 ghost use mathlib.Core.Path.{_≡_};
 ghost use mathlib.Core.Bool.{true, false};
 ghost use mathlib.Core.List.{[]};
-ghost use Prim.Native.Nat.{_+_, _^_, _<_, _≤_};
+ghost use Prim.Native.Nat.{_+_, _/_, _^_, _<_, _≤_};
 ghost use lib.ListN.{length, take};
 ghost use Rattle.base.specs.Lists.{consIf};
 ghost use Rattle.search.specs.Found.{agreeOn, atSetting, foundBy};
@@ -12,11 +12,13 @@ ghost use Rattle.table.specs.Table.{programOf};
 ghost use Rattle.tester.specs.Masks.{RejectedMasks};
 ghost use Rattle.setting.specs.Setting.{settingOf};
 ghost use Rattle.setting.specs.RuleMasks.{RuleMasks};
+ghost use Rattle.nogoods.specs.Nogoods.{Nogoods};
 ghost use Rattle.search.specs.Searchable.{Searchable, Denied, Undisputed, Covered};
 ghost use Rattle.search.specs.Decided.{Decided};
 use base::wide;
 use filling::fill;
 use insertion::Gap;
+use nogoods::has_nogood;
 use records::atom_bit;
 use records::insert_state;
 use setting::headed;
@@ -275,13 +277,15 @@ pub fn visit_setting(
 // Goes through the settings of the undecided branching facts, each at most once, and visits the stable model of each setting, if
 // there is one. `atoms` has all branching facts; of those decided so far, `standing` has the bits of those that stand and `denied`
 // the bits of the others; `watched` keeps the literals that the rules watch from one filling to the next.
-// Where no rule can reach a fact that stands, no setting of the others has a stable model, and none is gone through.
+// Where no rule can reach a fact that stands, or a nogood is decided, no setting of the others has a stable model, and none is gone
+// through.
 pub fn search(
     book: &[u8],
     layer: usize,
     rows: &[u16],
     overridden: &[u32],
     masks: &[u32],
+    nogoods: &[u32],
     atoms: &[u8],
     undecided: &[u8],
     n: usize,
@@ -292,6 +296,7 @@ pub fn search(
     v: Visit,
 ) -> Visit
     requires { ⌜ Searchable (now book) (now rows) (now overridden) (now atoms) layer n × Kept n v (now part) × (v .count + 2 ^ length (now undecided) ≤ 4294967296) × RuleMasks (now book) (now rows) (now atoms) (now masks) × Decided (now atoms) (now undecided) (settingOf (now atoms) standing) standing denied ⌝ }
+    requires { ⌜ Nogoods (now book) (now rows) (now overridden) (now atoms) (now nogoods) (length (now nogoods) / 2) ⌝ }
     requires { ⌜ length (now watched) ≡ 1024 ⌝ }
     ensures { λ r. ⌜ Searched n (foundBy (atSetting (programOf (now (book .entry)) layer) (now (atoms .entry))) (now (undecided .entry)) (settingOf (now (atoms .entry)) standing)) v (now (part .entry)) r (now (part .exit)) ⌝ }
 {
@@ -299,6 +304,9 @@ pub fn search(
         return v;
     }
     if !headed(masks, standing, denied) {
+        return v;
+    }
+    if has_nogood(nogoods, standing, denied) {
         return v;
     }
     if undecided.len() == 0 {
@@ -323,6 +331,7 @@ pub fn search(
         rows,
         overridden,
         masks,
+        nogoods,
         atoms,
         &undecided[1..rest],
         n,
@@ -338,6 +347,7 @@ pub fn search(
         rows,
         overridden,
         masks,
+        nogoods,
         atoms,
         &undecided[1..rest],
         n,

@@ -13,7 +13,7 @@ use base::wide16;
 use table::row_head;
 
 // Bit i at the i-th atom; none at the others.
-fn atom_bits(atoms: &[u8]) -> [u32; 256]
+pub fn atom_bits(atoms: &[u8]) -> [u32; 256]
     requires { ⌜ length (now atoms) ≤ maxBranching ⌝ }
     ensures { λ r. ⌜ AtomBits (now (atoms .entry)) r (length (now (atoms .entry))) ⌝ }
 {
@@ -28,7 +28,7 @@ fn atom_bits(atoms: &[u8]) -> [u32; 256]
 }
 
 // An atom's bits: none past the end.
-fn bits_of(bits: &[u32], f: usize) -> u32
+pub fn bits_of(bits: &[u32], f: usize) -> u32
     ensures { λ r. ⌜ r ≡ getD (now (bits .entry)) f 0 ⌝ }
 {
     if f < bits.len() {

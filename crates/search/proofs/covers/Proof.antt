@@ -1,5 +1,5 @@
 -- The invariant: of the atoms passed, those of the start are marked. The atoms left fall.
-use mathlib.Core.Path.{_≡_, sym, subst, _∙_}
+use mathlib.Core.Path.{sym, subst, _∙_}
 use mathlib.Core.Logic.{⊎-elim}
 use mathlib.Core.Bool.{false≢true}
 use Prim.Native.Nat.{_-_, _≤_}

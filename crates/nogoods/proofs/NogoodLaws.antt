@@ -1,0 +1,184 @@
+-- What the loops keep: the masks of what can be rejected, the masks of a body and of a row, and the entries made. Assumes nothing.
+use mathlib.Core.Path.{_≡_, refl, sym, ap, subst, _∙_}
+use mathlib.Core.Logic.{_⊎_, inl, inr, ⊎-elim}
+use mathlib.Core.Bool.{Bool, true, false, not, cond}
+use mathlib.Core.List.{List, List·Memᴰ·cases-cons, List·Memᴰ·not-nil}
+use Prim.Native.Nat.{ℕ, suc, _+_, _*_, _-_, _/_, _%_, _<_, _≤_}
+use native.Mathlib.Decide.{decLt}
+use native.Mathlib.Omega.{arith}
+use borrow.Author.Tests.{le-leb, lt-leb, not-false}
+use lib.Bits.{bitOr}
+use lib.Dec.{T, leb}
+use lib.ListN.{length, getD, set, take, drop, length-set, replicate, length-replicate}
+use lib.Seq.{getD-set-same, getD-set-other, getD-take, length-take-le}
+use Rattle.base.proofs.Members.{_∈_}
+use Rattle.layers.specs.Masks.{bitOf}
+use Rattle.layers.proofs.BitLaws.{or-left, or-right, some-bit}
+use Rattle.format.specs.Book.{Literal, literalOf, literalsOf}
+use Rattle.format.proofs.LiteralLaws.{literals-next, literals-none}
+use Rattle.models.specs.StableModels.{positive, negative, complement}
+use Rattle.table.specs.Names.{literalNamed}
+use Rattle.table.specs.Rows.{rowCount, bodyStart, bodyBytes, headName, rowAt}
+use Rattle.table.proofs.NameLaws.{name-low, name-high, one-name}
+use Rattle.table.proofs.RowLaws.{body-part}
+use Rattle.filling.specs.Marks.{alive}
+use Rattle.setting.specs.RuleMasks.{AtomBits}
+use Rattle.setting.proofs.BitMaskLaws.{joined-keeps, joined-has}
+use Rattle.nogoods.specs.Nogoods.{Rejectable, Within, AllWithin, NogoodOf, Nogoods, NogoodsMade}
+
+-- ---- what can be rejected
+pub rejectable-start : (rows overridden : List ℕ) → Rejectable rows overridden (replicate {A = ℕ} 512 0) 0
+rejectable-start rows overridden = record { size = length-replicate {A = ℕ} 512 0; full = λ j h. absurd (omega arith) }
+
+module _ {rows overridden rejectable : List ℕ} {j : ℕ} (w : Rejectable rows overridden rejectable j) (h o : ℕ) (eh : h ≡ headName rows j) (eo : literalNamed o ≡ complement (literalNamed h)) (bo : o < 512) where
+  pub rejectable-more : Rejectable rows overridden (set rejectable o (bitOr (getD rejectable o 0) (getD overridden j 0))) (j + 1)
+  rejectable-more = record {
+    size = length-set rejectable o (bitOr (getD rejectable o 0) (getD overridden j 0)) ∙ w .size;
+    full = λ k b x e l i z. go k b x e l i z (decLt k j);
+  }
+    where
+      inside : o < length rejectable
+      inside = omega (arith, w .size)
+
+      go : (k : ℕ) → k < j + 1 → (x : ℕ) → literalNamed x ≡ complement (literalNamed (headName rows k)) → x < 512 → (i : ℕ) → bitOf (getD overridden k 0) i ≡ 1 → Dec (k < j)
+          → bitOf (getD (set rejectable o (bitOr (getD rejectable o 0) (getD overridden j 0))) x 0) i ≡ 1
+      go k b x e l i z (yes y) = joined-keeps rejectable o (getD overridden j 0) inside x i (w .full k y x e l i z)
+      go k b x e l i z (no y) =
+          let q : k ≡ j = omega arith in
+          joined-has rejectable o (getD overridden j 0) inside x i
+          (one-name x o (e ∙ ap (λ (y : ℕ). complement (literalNamed (headName rows y))) q ∙ ap (λ (y : ℕ). complement (literalNamed y)) (sym eh) ∙ sym eo))
+          (subst (λ (y : ℕ). bitOf (getD overridden y 0) i ≡ 1) q z)
+
+-- ---- literals within two masks
+within-wider : (bits : List ℕ) (s d s′ d′ : ℕ) → ((i : ℕ) → bitOf s i ≡ 1 → bitOf s′ i ≡ 1) → ((i : ℕ) → bitOf d i ≡ 1 → bitOf d′ i ≡ 1) → (l : Literal) → Within bits s d l → Within bits s′ d′ l
+within-wider bits s d s′ d′ f g l w = record { place = w .place; atom-bit = w .atom-bit; bit = go (l .negated) (w .bit) }
+  where
+    go : (c : Bool) → bitOf (cond c d s) (w .place) ≡ 1 → bitOf (cond c d′ s′) (w .place) ≡ 1
+    go true z = g (w .place) z
+    go false z = f (w .place) z
+
+within-bit : (bits : List ℕ) (s d : ℕ) (l : Literal) (c : Bool) → l .negated ≡ c → (x : ℕ) → x ≡ getD bits (l .atom) 0 → (x ≡ 0 → ⊥) → ((i : ℕ) → bitOf x i ≡ 1 → bitOf (cond c d s) i ≡ 1) → Within bits s d l
+within-bit bits s d l c ec x ex n f =
+    let b : (i : ℕ) × (bitOf x i ≡ 1) = some-bit (suc x) x (omega arith) (omega arith) in
+    record { place = b .0; atom-bit = subst (λ (y : ℕ). bitOf y (b .0) ≡ 1) ex (b .1); bit = subst (λ (y : Bool). bitOf (cond y d s) (b .0) ≡ 1) (sym ec) (f (b .0) (b .1)) }
+
+-- ---- a body: each literal is within the masks or not read yet
+pub record BodyTo (bits body : List ℕ) (i s d : ℕ) : Type 0 where
+  pub inside : i ≤ length body
+  pub read : (l : Literal) → l ∈ literalsOf body → Within bits s d l ⊎ l ∈ literalsOf (drop i body)
+
+pub body-start : (bits body : List ℕ) → BodyTo bits body 0 0 0
+body-start bits body = record { inside = omega arith; read = λ l k. inr k }
+
+module _ {bits body : List ℕ} {i s d : ℕ} (w : BodyTo bits body i s d) (h : 2 ≤ length body - i) (v : ℕ) (ev : v ≡ getD body i 0 * 256 + getD body (i + 1) 0)
+    (x : ℕ) (ex : x ≡ getD bits (v % 32768) 0) (n : x ≡ 0 → ⊥) where
+  abbrev here : Literal
+  here = literalOf (getD body i 0) (getD body (i + 1) 0)
+
+  here-bit : x ≡ getD bits (here .atom) 0
+  unfolding literalOf
+  here-bit = ex ∙ ap (λ (y : ℕ). getD bits (y % 32768) 0) ev
+
+  module _ (s′ d′ : ℕ) (f : (k : ℕ) → bitOf s k ≡ 1 → bitOf s′ k ≡ 1) (g : (k : ℕ) → bitOf d k ≡ 1 → bitOf d′ k ≡ 1) (new : Within bits s′ d′ here) where
+    body-more : BodyTo bits body (i + 2) s′ d′
+    body-more = record { inside = omega (arith, w .inside); read = λ l k. ⊎-elim (λ a. inl (within-wider bits s d s′ d′ f g l a)) (λ a. next l (List·Memᴰ·cases-cons (subst (λ (ls : List Literal). l ∈ ls) (literals-next body i h) a))) (w .read l k) }
+      where
+        next : (l : Literal) → (l ≡ here) ⊎ l ∈ literalsOf (drop (i + 2) body) → Within bits s′ d′ l ⊎ l ∈ literalsOf (drop (i + 2) body)
+        next l (inl e) = inl (subst (Within bits s′ d′) (sym e) new)
+        next l (inr k) = inr k
+
+  pub body-negated : 32768 ≤ v → BodyTo bits body (i + 2) s (bitOr d x)
+  unfolding literalOf
+  body-negated b =
+      body-more s (bitOr d x) (λ k z. z) (λ k z. or-left d x k z)
+      (within-bit bits s (bitOr d x) here true (ap (λ (y : ℕ). leb 32768 y) (sym ev) ∙ le-leb 32768 v b) x here-bit n (λ k z. or-right d x k z))
+
+  pub body-plain : v < 32768 → BodyTo bits body (i + 2) (bitOr s x) d
+  unfolding literalOf
+  body-plain b =
+      body-more (bitOr s x) d (λ k z. or-left s x k z) (λ k z. z)
+      (within-bit bits (bitOr s x) d here false (ap (λ (y : ℕ). leb 32768 y) (sym ev) ∙ lt-leb 32768 v b) x here-bit n (λ k z. or-right s x k z))
+
+pub body-end : {bits body : List ℕ} {i s d : ℕ} → BodyTo bits body i s d → length body - i < 2 → AllWithin bits s d (literalsOf body)
+body-end {bits} {body} {i} {s} {d} w h l k = ⊎-elim (λ a. a) (λ a. absurd (List·Memᴰ·not-nil (subst (λ (ls : List Literal). l ∈ ls) (literals-none body i h) a))) (w .read l k)
+
+-- ---- a row
+module _ (book rows rejectable bits : List ℕ) (j : ℕ) (bj : j < rowCount rows) (from to : ℕ) (ef : from ≡ bodyStart rows j) (et : to ≡ bodyBytes rows j) (s d : ℕ) (whole : Bool)
+    (eb : whole ≡ true → AllWithin bits s d (literalsOf (take (from + to - from) (drop from book)))) (a : Bool) (ea : a ≡ alive rejectable (rowAt book rows j)) (ta : not a ≡ false)
+    (h : ℕ) (eh : h ≡ headName rows j) where
+  lives : T (alive rejectable (rowAt book rows j))
+  lives = subst T (sym (sym ea ∙ not-false a ta)) tt
+
+  body-within : whole ≡ true → AllWithin bits s d (rowAt book rows j .body)
+  unfolding rowAt
+  body-within t = subst (λ (p : List ℕ). AllWithin bits s d (literalsOf p)) (body-part book rows j from to ef et) (eb t)
+
+  pub nogood-plain : h < 256 → (x : ℕ) → x ≡ getD bits h 0 → (x ≡ 0 → ⊥) → whole ≡ true → NogoodOf book rows rejectable bits j s (bitOr d x)
+  unfolding rowAt complement
+  nogood-plain b x ex n t = record {
+    before = bj;
+    lives = lives;
+    body-in = λ l k. within-wider bits s d s (bitOr d x) (λ i z. z) (λ i z. or-left d x i z) l (body-within t l k);
+    head-in = subst (Within bits s (bitOr d x)) (ap complement (sym (name-low h b) ∙ ap literalNamed eh)) (within-bit bits s (bitOr d x) (negative h) true refl x ex n (λ i z. or-right d x i z));
+  }
+
+  pub nogood-negated : 256 ≤ h → (x : ℕ) → x ≡ getD bits (h - 256) 0 → (x ≡ 0 → ⊥) → whole ≡ true → NogoodOf book rows rejectable bits j (bitOr s x) d
+  unfolding rowAt complement
+  nogood-negated b x ex n t = record {
+    before = bj;
+    lives = lives;
+    body-in = λ l k. within-wider bits s d (bitOr s x) d (λ i z. or-left s x i z) (λ i z. z) l (body-within t l k);
+    head-in = subst (Within bits (bitOr s x) d) (ap complement (sym (name-high h b) ∙ ap literalNamed eh)) (within-bit bits (bitOr s x) d (positive (h - 256)) false refl x ex n (λ i z. or-right s x i z));
+  }
+
+-- ---- the entries
+pub record EntriesTo (book rows rejectable bits masks : List ℕ) (n : ℕ) : Type 0 where
+  pub size : length masks ≡ 1024
+  pub room : n ≤ 512
+  pub each : (k : ℕ) → k < n → (j : ℕ) × NogoodOf book rows rejectable bits j (getD masks (2 * k) 0) (getD masks (2 * k + 1) 0)
+
+pub entries-start : (book rows rejectable bits masks : List ℕ) → length masks ≡ 1024 → EntriesTo book rows rejectable bits masks 0
+entries-start book rows rejectable bits masks e = record { size = e; room = omega arith; each = λ k h. absurd (omega arith) }
+
+module _ {book rows rejectable bits masks : List ℕ} {n : ℕ} (w : EntriesTo book rows rejectable bits masks n) (b : n < 512) (j s d : ℕ) (x : NogoodOf book rows rejectable bits j s d) where
+  abbrev twoMore : List ℕ
+  twoMore = set (set masks (2 * n) s) (2 * n + 1) d
+
+  pub entries-more : EntriesTo book rows rejectable bits (set (set masks (2 * n) s) (2 * n + 1) d) (n + 1)
+  entries-more = record { size = sized ∙ length-set masks (2 * n) s ∙ w .size; room = omega arith; each = λ k h. go k h (decLt k n) }
+    where
+      sized : length twoMore ≡ length (set masks (2 * n) s)
+      sized = length-set (set masks (2 * n) s) (2 * n + 1) d
+
+      first : getD twoMore (2 * n) 0 ≡ s
+      first = getD-set-other (set masks (2 * n) s) (2 * n + 1) (2 * n) d 0 (λ e. omega arith) ∙ getD-set-same masks (2 * n) s 0 (omega (arith, w .size))
+
+      second : getD twoMore (2 * n + 1) 0 ≡ d
+      second = getD-set-same (set masks (2 * n) s) (2 * n + 1) d 0 (omega (arith, length-set masks (2 * n) s, w .size))
+
+      before : (y : ℕ) → y < 2 * n → getD twoMore y 0 ≡ getD masks y 0
+      before y h = getD-set-other (set masks (2 * n) s) (2 * n + 1) y d 0 (λ e. omega arith) ∙ getD-set-other masks (2 * n) y s 0 (λ e. omega arith)
+
+      go : (k : ℕ) → k < n + 1 → Dec (k < n) → (i : ℕ) × NogoodOf book rows rejectable bits i (getD twoMore (2 * k) 0) (getD twoMore (2 * k + 1) 0)
+      go k h (yes y) = let v = w .each k y in (v .0, rw (before (2 * k) (omega arith), before (2 * k + 1) (omega arith)) (v .1))
+      go k h (no y) =
+          let e : n ≡ k = omega arith in
+          subst (λ (z : ℕ). (i : ℕ) × NogoodOf book rows rejectable bits i (getD twoMore (2 * z) 0) (getD twoMore (2 * z + 1) 0)) e (j, rw (first, second) x)
+
+pub entries-end : {book rows overridden atoms rejectable bits masks : List ℕ} {n : ℕ} → EntriesTo book rows rejectable bits masks n → Rejectable rows overridden rejectable (rowCount rows) → AtomBits atoms bits (length atoms) → NogoodsMade book rows overridden atoms masks n
+entries-end {rejectable = rejectable} {bits = bits} w r b = record { size = w .size; room = w .room; entries = record { rejectable = rejectable; rejects-all = r; bits = bits; bits-of = b; each = w .each } }
+
+pub nogoods-lent : {book rows overridden atoms masks : List ℕ} {n : ℕ} → NogoodsMade book rows overridden atoms masks n → Nogoods book rows overridden atoms (take (2 * n - 0) masks) (length (take (2 * n - 0) masks) / 2)
+nogoods-lent {book} {rows} {overridden} {atoms} {masks} {n} w =
+    let e = w .entries in
+    let l : length (take (2 * n - 0) masks) ≡ 2 * n - 0 = length-take-le (2 * n - 0) masks (omega (arith, w .size, w .room)) in
+    record {
+      rejectable = e .rejectable;
+      rejects-all = e .rejects-all;
+      bits = e .bits;
+      bits-of = e .bits-of;
+      each = λ k h.
+          let b : k < n = omega arith in
+          let x = e .each k b in
+          (x .0, rw (getD-take (2 * n - 0) masks (2 * k) 0 (omega arith), getD-take (2 * n - 0) masks (2 * k + 1) 0 (omega arith)) (x .1));
+    }

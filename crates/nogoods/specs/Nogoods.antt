@@ -1,0 +1,60 @@
+-- A nogood: what no stable model has together. A rule that nothing can reject gives one, its body and the opposite of its head. Where
+-- all these are branching atoms it is two masks over them, bit i for the i-th: those that stand in it and those that do not.
+-- Assumes nothing.
+use mathlib.Core.Path.{_≡_}
+use mathlib.Core.Bool.{cond}
+use mathlib.Core.List.{List, List·Memᴰ}
+use Prim.Native.Nat.{ℕ, _+_, _*_, _<_, _≤_}
+use lib.Bits.{bitAnd}
+use lib.Dec.{T}
+use lib.ListN.{length, getD}
+use Rattle.layers.specs.Masks.{bitOf}
+use Rattle.format.specs.Book.{Literal}
+use Rattle.models.specs.StableModels.{complement}
+use Rattle.table.specs.Names.{literalNamed}
+use Rattle.table.specs.Rows.{rowCount, headName, rowAt}
+use Rattle.filling.specs.Marks.{alive}
+use Rattle.setting.specs.RuleMasks.{AtomBits}
+
+-- bit i at name h: one of the first n rows can reject the rules of layer i with that head, whatever its body says
+pub record Rejectable (rows overridden rejectable : List ℕ) (n : ℕ) : Type 0 where
+  pub size : length rejectable ≡ 512
+  pub full : (j : ℕ) → j < n → (h : ℕ) → literalNamed h ≡ complement (literalNamed (headName rows j)) → h < 512
+      → (i : ℕ) → bitOf (getD overridden j 0) i ≡ 1 → bitOf (getD rejectable h 0) i ≡ 1
+
+-- a literal is of one of the branching atoms, and its bit is set in the mask of its sign
+pub record Within (bits : List ℕ) (standing denied : ℕ) (l : Literal) : Type 0 where
+  pub place : ℕ
+  pub atom-bit : bitOf (getD bits (l .atom) 0) place ≡ 1
+  pub bit : bitOf (cond (l .negated) denied standing) place ≡ 1
+
+abbrev pub AllWithin : List ℕ → ℕ → ℕ → List Literal → Type 0
+AllWithin bits standing denied ls = (l : Literal) → List·Memᴰ l ls → Within bits standing denied l
+
+-- the nogood of row j, as masks
+pub record NogoodOf (book rows rejectable bits : List ℕ) (j standing denied : ℕ) : Type 0 where
+  pub before : j < rowCount rows
+  pub lives : T (alive rejectable (rowAt book rows j))
+  pub body-in : AllWithin bits standing denied (rowAt book rows j .body)
+  pub head-in : Within bits standing denied (complement (rowAt book rows j .head))
+
+-- the first n entries, two masks each, are nogoods
+pub record Nogoods (book rows overridden atoms masks : List ℕ) (n : ℕ) : Type 0 where
+  pub rejectable : List ℕ
+  pub rejects-all : Rejectable rows overridden rejectable (rowCount rows)
+  pub bits : List ℕ
+  pub bits-of : AtomBits atoms bits (length atoms)
+  pub each : (k : ℕ) → k < n → (j : ℕ) × NogoodOf book rows rejectable bits j (getD masks (2 * k) 0) (getD masks (2 * k + 1) 0)
+
+-- as the code makes them: there is room for 512
+pub record NogoodsMade (book rows overridden atoms masks : List ℕ) (n : ℕ) : Type 0 where
+  pub size : length masks ≡ 1024
+  pub room : n ≤ 512
+  pub entries : Nogoods book rows overridden atoms masks n
+
+-- all that an entry has is decided so
+pub record Met (masks : List ℕ) (n standing denied : ℕ) : Type 0 where
+  pub place : ℕ
+  pub before : place < n
+  pub stand : bitAnd (getD masks (2 * place) 0) standing ≡ getD masks (2 * place) 0
+  pub deny : bitAnd (getD masks (2 * place + 1) 0) denied ≡ getD masks (2 * place + 1) 0
