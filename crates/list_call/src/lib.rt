@@ -11,16 +11,15 @@ ghost use Rattle.search.specs.Searchable.{Searchable};
 ghost use Rattle.list_call.specs.Reply.{roomTests, searchTests, listReply, listBuffer, Answers};
 use accepted::atom_count;
 use accepted::check_layer;
-use accepted::prepare;
+use base::MAX_BRANCHING;
 use book::Cause;
 use book::Verdict;
-use branching::branching_atoms;
+use passes::set_up;
 use passes::tally;
 use passes::write_all;
 use records::put_head;
 use records::record_size;
 use search::Goal;
-use setting::rule_masks;
 
 pub enum ListReply {
     // k and g
@@ -41,19 +40,7 @@ fn list_models(
     requires { ⌜ Searchable (now book) (now rows) (now overridden) (now atoms) layer n ⌝ }
     ensures { λ r. ⌜ Answers (firstOf (roomTests (programOf (now (book .entry)) layer) (length (now (buffer .entry))))) (programOf (now (book .entry)) layer) (now (buffer .entry)) r (now (buffer .exit)) ⌝ }
 {
-    let mut masks: [u32; 3072] = [0; 3072];
-    let made = rule_masks(book, rows, atoms, &mut masks);
-    let counts = tally(
-        book,
-        layer,
-        rows,
-        overridden,
-        &masks[0..3 * made],
-        atoms,
-        n,
-        Goal::All,
-        0,
-    );
+    let counts = tally(book, layer, rows, overridden, atoms, n, Goal::All, 0);
     let k = counts.count;
     let size = 11 + k * record_size(n);
     if buffer.len() < size {
@@ -64,7 +51,6 @@ fn list_models(
         layer,
         rows,
         overridden,
-        &masks[0..3 * made],
         atoms,
         n,
         &mut buffer[11..size],
@@ -83,11 +69,11 @@ fn list_at(book: &[u8], layer: usize, lower: [u32; 32], buffer: &mut [u8]) -> Li
     let n = atom_count(book);
     let mut rows: [u16; 4096] = [0; 4096];
     let mut overridden: [u32; 1024] = [0; 1024];
-    let count = prepare(book, layer, lower, &mut rows, &mut overridden);
-    let listed = branching_atoms(book, layer, &rows[0..4 * count], &overridden[0..count], n);
-    let atoms = listed.atoms;
-    let g = listed.count;
-    if 20 < g {
+    let driven = set_up(book, layer, lower, &mut rows, &mut overridden);
+    let count = driven.rules;
+    let atoms = driven.atoms;
+    let g = driven.branching;
+    if MAX_BRANCHING < g {
         return ListReply::Refused(Cause::TooManyBranching);
     }
     list_models(

@@ -11,13 +11,12 @@ ghost use Rattle.search.specs.Searchable.{Searchable};
 ghost use Rattle.one_call.specs.Reply.{roomTests, searchTests, oneReply, OneBuffer, Answers};
 use accepted::atom_count;
 use accepted::check_layer;
-use accepted::prepare;
+use base::MAX_BRANCHING;
 use book::Cause;
 use book::Verdict;
-use branching::branching_atoms;
+use passes::set_up;
 use passes::write_first;
 use records::record_size;
-use setting::rule_masks;
 
 pub enum OneReply {
     // g
@@ -42,14 +41,11 @@ fn one_found(
     if buffer.len() < size {
         return OneReply::Refused(Cause::BufferTooShort);
     }
-    let mut masks: [u32; 3072] = [0; 3072];
-    let made = rule_masks(book, rows, atoms, &mut masks);
     let found = write_first(
         book,
         layer,
         rows,
         overridden,
-        &masks[0..3 * made],
         atoms,
         n,
         &mut buffer[0..size],
@@ -70,11 +66,11 @@ fn one_at(book: &[u8], layer: usize, lower: [u32; 32], buffer: &mut [u8]) -> One
     let n = atom_count(book);
     let mut rows: [u16; 4096] = [0; 4096];
     let mut overridden: [u32; 1024] = [0; 1024];
-    let count = prepare(book, layer, lower, &mut rows, &mut overridden);
-    let listed = branching_atoms(book, layer, &rows[0..4 * count], &overridden[0..count], n);
-    let atoms = listed.atoms;
-    let g = listed.count;
-    if 20 < g {
+    let driven = set_up(book, layer, lower, &mut rows, &mut overridden);
+    let count = driven.rules;
+    let atoms = driven.atoms;
+    let g = driven.branching;
+    if MAX_BRANCHING < g {
         return OneReply::Refused(Cause::TooManyBranching);
     }
     one_found(

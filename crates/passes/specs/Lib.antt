@@ -1,3 +1,4 @@
+pub mod SetUp
 pub mod Tallied
 pub mod Limit
 pub mod First

@@ -12,13 +12,12 @@ ghost use Rattle.search.specs.Searchable.{Searchable};
 ghost use Rattle.place_call.specs.Reply.{stateTests, factTests, replyOf, placeReply};
 use accepted::atom_count;
 use accepted::check_layer;
-use accepted::prepare;
+use base::MAX_BRANCHING;
 use book::Cause;
 use book::Verdict;
-use branching::branching_atoms;
+use passes::set_up;
 use passes::tally;
 use search::Goal;
-use setting::rule_masks;
 
 pub enum Place {
     Every,
@@ -45,19 +44,7 @@ fn place_found(
     requires { ⌜ Searchable (now book) (now rows) (now overridden) (now atoms) layer n ⌝ }
     ensures { λ r. ⌜ r ≡ replyOf (firstOf (stateTests (programOf (now (book .entry)) layer))) (programOf (now (book .entry)) layer) fact ⌝ }
 {
-    let mut masks: [u32; 3072] = [0; 3072];
-    let made = rule_masks(book, rows, atoms, &mut masks);
-    let counts = tally(
-        book,
-        layer,
-        rows,
-        overridden,
-        &masks[0..3 * made],
-        atoms,
-        n,
-        Goal::Settle,
-        fact,
-    );
+    let counts = tally(book, layer, rows, overridden, atoms, n, Goal::Settle, fact);
     let count = counts.count;
     let standing = counts.standing;
     if count == 0 {
@@ -85,11 +72,11 @@ fn place_at(book: &[u8], layer: usize, lower: [u32; 32], fact: usize) -> PlaceRe
     }
     let mut rows: [u16; 4096] = [0; 4096];
     let mut overridden: [u32; 1024] = [0; 1024];
-    let count = prepare(book, layer, lower, &mut rows, &mut overridden);
-    let listed = branching_atoms(book, layer, &rows[0..4 * count], &overridden[0..count], n);
-    let atoms = listed.atoms;
-    let g = listed.count;
-    if 20 < g {
+    let driven = set_up(book, layer, lower, &mut rows, &mut overridden);
+    let count = driven.rules;
+    let atoms = driven.atoms;
+    let g = driven.branching;
+    if MAX_BRANCHING < g {
         return PlaceReply::Refused(Cause::TooManyBranching);
     }
     place_found(

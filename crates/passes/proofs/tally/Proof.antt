@@ -9,10 +9,10 @@ slice-aggregate-pass : tie.Need-slice-aggregate-pass
 slice-aggregate-pass c = search needs
 
 pass-requires : tie.Need-pass-requires
-pass-requires c κs = let s = c .before .before .before .before .before .before in (s .pre .0, (s .pre .1, record { times = 0; eq = omega arith }))
+pass-requires c κs = let s = c .before .before .before .before .before in (s .pre, record { times = 0; eq = omega arith })
 
 returns : tie.Need-returns
-returns c = let s = c .before .before .before .before .before .before .before .before in tallied (s .pre .0) (s .args .goal) (s .args .atom) _ _ _ _ (c .before .pass .ensures)
+returns c = let s = c .before .before .before .before .before .before .before in tallied (s .pre) (s .args .goal) (s .args .atom) _ _ _ _ (c .before .pass .ensures)
 
 pub tally-spec : {M : Type 1} → statement M
 tally-spec = tie.close (tie.spec slice-aggregate-pass pass-requires returns)

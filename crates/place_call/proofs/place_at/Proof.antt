@@ -1,7 +1,5 @@
 -- `place_at` meets its contract: cause 11, then cause 12, and where neither applies the table and the branching facts make the
 -- search possible. Assumes nothing.
-use Rattle.models.specs.Program.{programAt}
-use Rattle.table.proofs.TableLaws.{lent-table}
 use Rattle.passes.proofs.SetUpLaws.{searchable, too-many, not-too-many}
 use Rattle.place_call.proofs.PlaceLaws.{fact-refused, branching-refused, branching-passes}
 use borrow.Author.Needs.{needs}
@@ -14,42 +12,17 @@ atom-count-requires c κs = search needs
 returns : tie.Need-returns
 returns c = let a = c .before .before .before .args in fact-refused (a .book .now) (a .layer) (a .fact) (c .before .atom-count .result) (c .before .atom-count .ensures .0) (c .if1 .taken)
 
-slice-aggregate-prepare : tie.Need-slice-aggregate-prepare
-slice-aggregate-prepare c = search needs
+slice-aggregate-set-up : tie.Need-slice-aggregate-set-up
+slice-aggregate-set-up c = search needs
 
-slice-aggregate-prepare-2 : tie.Need-slice-aggregate-prepare-2
-slice-aggregate-prepare-2 c = search needs
+slice-aggregate-set-up-2 : tie.Need-slice-aggregate-set-up-2
+slice-aggregate-set-up-2 c = search needs
 
-prepare-requires : tie.Need-prepare-requires
-prepare-requires c κs = let s = c .before .before .before .before .before .pre in (s .0, (s .1 .0, (s .1 .1, search needs)))
-
-mul-branching-atoms : tie.Need-mul-branching-atoms
-mul-branching-atoms c = search needs
-
-sub-branching-atoms : tie.Need-sub-branching-atoms
-sub-branching-atoms c = search needs
-
-part-branching-atoms-start : tie.Need-part-branching-atoms-start
-part-branching-atoms-start c = search needs
-
-part-branching-atoms-end : tie.Need-part-branching-atoms-end
-part-branching-atoms-end c = search needs
-
-sub-branching-atoms-2 : tie.Need-sub-branching-atoms-2
-sub-branching-atoms-2 c = search needs
-
-part-branching-atoms-start-2 : tie.Need-part-branching-atoms-start-2
-part-branching-atoms-start-2 c = search needs
-
-part-branching-atoms-end-2 : tie.Need-part-branching-atoms-end-2
-part-branching-atoms-end-2 c = search needs
-
-branching-atoms-requires : tie.Need-branching-atoms-requires
-unfolding programAt
-branching-atoms-requires c κs = (lent-table (c .before .before .before .before .before .before .prepare .ensures), (c .before .before .before .before .before .before .before .before .before .before .atom-count .ensures .0, c .before .before .before .before .before .before .before .before .before .before .atom-count .ensures .2))
+set-up-requires : tie.Need-set-up-requires
+set-up-requires c κs = let s = c .before .before .before .before .before .pre in (s .0, (s .1 .0, (s .1 .1, search needs)))
 
 returns-2 : tie.Need-returns-2
-returns-2 c = let a = c .before .before .before .before .before .before .before .before .before .before .before .before .before .before .before .args in branching-refused (a .book .now) (a .layer) (a .fact) (c .before .before .before .before .before .before .before .before .before .before .before .before .before .atom-count .result) (c .before .before .before .before .before .before .before .before .before .before .before .before .before .atom-count .ensures .0) (c .before .before .before .before .before .before .before .before .before .before .before .before .if1 .left) (too-many (a .book .now) (a .layer) (c .before .before .before .before .before .before .before .before .before .before .before .before .before .before .before .pre .0) (c .before .before .before .before .before .before .before .before .before .prepare .ensures) (c .before .before .branching-atoms .ensures) (c .if2 .taken))
+returns-2 c = let a = c .before .before .before .before .before .before .before .before .before .before .args in branching-refused (a .book .now) (a .layer) (a .fact) (c .before .before .before .before .before .before .before .before .atom-count .result) (c .before .before .before .before .before .before .before .before .atom-count .ensures .0) (c .before .before .before .before .before .before .before .if1 .left) (too-many (a .book .now) (a .layer) (c .before .before .before .before .before .before .before .before .before .before .pre .0) (c .before .before .before .before .set-up .ensures .table) (c .before .before .before .before .set-up .ensures .listed) (c .if2 .taken))
 
 mul-place-found : tie.Need-mul-place-found
 mul-place-found c = search needs
@@ -82,10 +55,10 @@ part-place-found-end-3 : tie.Need-part-place-found-end-3
 part-place-found-end-3 c = search needs
 
 place-found-requires : tie.Need-place-found-requires
-place-found-requires c κs = let a = c .before .before .before .before .before .before .before .before .before .before .before .before .before .before .before .before .before .before .before .before .before .args in searchable (a .book .now) (a .layer) (c .before .before .before .before .before .before .before .before .before .before .before .before .before .before .before .before .before .before .before .before .before .pre .0) (c .before .before .before .before .before .before .before .before .before .before .before .before .before .before .before .prepare .ensures) (c .before .before .before .before .before .before .before .before .branching-atoms .ensures) (c .before .before .before .before .before .before .if2 .left) (c .before .before .before .before .before .before .before .before .before .before .before .before .before .before .before .before .before .before .before .atom-count .result) (c .before .before .before .before .before .before .before .before .before .before .before .before .before .before .before .before .before .before .before .atom-count .ensures .0) (c .before .before .before .before .before .before .before .before .before .before .before .before .before .before .before .before .before .before .before .atom-count .ensures .1) (c .before .before .before .before .before .before .before .before .before .before .before .before .before .before .before .before .before .before .before .atom-count .ensures .2)
+place-found-requires c κs = let a = c .before .before .before .before .before .before .before .before .before .before .before .before .before .before .before .before .args in searchable (a .book .now) (a .layer) (c .before .before .before .before .before .before .before .before .before .before .before .before .before .before .before .before .pre .0) (c .before .before .before .before .before .before .before .before .before .before .set-up .ensures .table) (c .before .before .before .before .before .before .before .before .before .before .set-up .ensures .listed) (c .before .before .before .before .before .before .if2 .left) (c .before .before .before .before .before .before .before .before .before .before .before .before .before .before .atom-count .result) (c .before .before .before .before .before .before .before .before .before .before .before .before .before .before .atom-count .ensures .0) (c .before .before .before .before .before .before .before .before .before .before .before .before .before .before .atom-count .ensures .1) (c .before .before .before .before .before .before .before .before .before .before .before .before .before .before .atom-count .ensures .2)
 
 returns-3 : tie.Need-returns-3
-returns-3 c = let a = c .before .before .before .before .before .before .before .before .before .before .before .before .before .before .before .before .before .before .before .before .before .before .args in branching-passes (a .book .now) (a .layer) (a .fact) (c .before .before .before .before .before .before .before .before .before .before .before .before .before .before .before .before .before .before .before .before .atom-count .result) (c .before .before .before .before .before .before .before .before .before .before .before .before .before .before .before .before .before .before .before .before .atom-count .ensures .0) (c .before .before .before .before .before .before .before .before .before .before .before .before .before .before .before .before .before .before .before .if1 .left) (not-too-many (a .book .now) (a .layer) (c .before .before .before .before .before .before .before .before .before .before .before .before .before .before .before .before .before .before .before .before .before .before .pre .0) (c .before .before .before .before .before .before .before .before .before .before .before .before .before .before .before .before .prepare .ensures) (c .before .before .before .before .before .before .before .before .before .branching-atoms .ensures) (c .before .before .before .before .before .before .before .if2 .left)) _ (c .place-found .ensures)
+returns-3 c = let a = c .before .before .before .before .before .before .before .before .before .before .before .before .before .before .before .before .before .args in branching-passes (a .book .now) (a .layer) (a .fact) (c .before .before .before .before .before .before .before .before .before .before .before .before .before .before .before .atom-count .result) (c .before .before .before .before .before .before .before .before .before .before .before .before .before .before .before .atom-count .ensures .0) (c .before .before .before .before .before .before .before .before .before .before .before .before .before .before .if1 .left) (not-too-many (a .book .now) (a .layer) (c .before .before .before .before .before .before .before .before .before .before .before .before .before .before .before .before .before .pre .0) (c .before .before .before .before .before .before .before .before .before .before .before .set-up .ensures .table) (c .before .before .before .before .before .before .before .before .before .before .before .set-up .ensures .listed) (c .before .before .before .before .before .before .before .if2 .left)) _ (c .place-found .ensures)
 
 pub place-at-spec : {M : Type 1} → statement M
 place-at-spec =
@@ -93,17 +66,9 @@ place-at-spec =
     (tie.spec
     atom-count-requires
     returns
-    slice-aggregate-prepare
-    slice-aggregate-prepare-2
-    prepare-requires
-    mul-branching-atoms
-    sub-branching-atoms
-    part-branching-atoms-start
-    part-branching-atoms-end
-    sub-branching-atoms-2
-    part-branching-atoms-start-2
-    part-branching-atoms-end-2
-    branching-atoms-requires
+    slice-aggregate-set-up
+    slice-aggregate-set-up-2
+    set-up-requires
     returns-2
     mul-place-found
     sub-place-found
