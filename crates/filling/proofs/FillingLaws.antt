@@ -1,5 +1,5 @@
 -- Two arrays of marks, filled by passes over the rows until nothing is added: what a pass keeps, and that all that follows is
--- marked at the end. Used by fill. Assumes nothing.
+-- marked at the end. Used by pass and fill. Assumes nothing.
 use mathlib.Core.Path.{_≡_, refl, sym, subst, _∙_}
 use mathlib.Core.Bool.{Bool, true, false, not, _&&_, cond, true≢false}
 use mathlib.Core.List.{List}
@@ -17,26 +17,22 @@ use Rattle.table.specs.Rows.{rowCount, headName, rowAt}
 use Rattle.table.proofs.NameLaws.{name-low, name-high}
 use Rattle.table.proofs.RowLaws.{row-of}
 use Rattle.filling.proofs.MarkLaws.{blank}
-use Rattle.filling.proofs.GrowingLaws.{falses, OneMore, one-low, one-high, opposite-free, grown-none, grown-both, grown-one, SoundMarks, grown-sound, head-follows}
-use Rattle.filling.specs.Marks.{literalMarked, alive, adds, FollowsFrom, from-start, by-row, Apart, Conflict, Grown, Fills}
+use Rattle.filling.proofs.GrowingLaws.{OneMore, one-low, one-high, opposite-free, grown-none, grown-both, grown-one, SoundMarks, grown-sound, head-follows}
+use Rattle.filling.specs.Marks.{literalMarked, alive, adds, FollowsFrom, from-start, by-row, Apart, Conflict, Grown, falses, Closed, PassEnd, Fills}
 
 module _ (book rows rejects : List ℕ) where
-  -- no row before j adds its head
-  abbrev pub Closed : List Bool → List Bool → ℕ → Type 0
-  Closed p q j = (i : ℕ) → i < j → adds p q rejects (rowAt book rows i) ≡ false
-
   -- a pass that began with p₀ and q₀ has come to row j
-  pub record Pass (p₀ q₀ p q : List Bool) (added : Bool) (j : ℕ) : Type 0 where
+  pub record Passing (p₀ q₀ p q : List Bool) (added : Bool) (j : ℕ) : Type 0 where
     pub within : j ≤ rowCount rows
     pub size : (length p ≡ 256) × (length q ≡ 256)
     pub grown : Grown book rows rejects p₀ q₀ p q
     pub fewer : falses p + falses q + cond added 1 0 ≤ falses p₀ + falses q₀
-    pub closed : added ≡ false → Closed p q j
+    pub closed : added ≡ false → Closed book rows rejects p q j
 
   -- between passes, the first of which began with p₀ and q₀
   pub record Filling (p₀ q₀ p q : List Bool) (added : Bool) : Type 0 where
     pub grown : Grown book rows rejects p₀ q₀ p q
-    pub closed : added ≡ false → Closed p q (rowCount rows)
+    pub closed : added ≡ false → Closed book rows rejects p q (rowCount rows)
 
 at-most-one : (x : Bool) → cond x 1 0 ≤ 1
 at-most-one true = omega arith
@@ -56,11 +52,11 @@ start-apart start l t u = one (l .atom) (l .negated) t u
     one f false t u = subst T (blank 256 f) t
 
 module _ {book rows rejects : List ℕ} where
-  pub pass-start : (p q : List Bool) → (length p ≡ 256) × (length q ≡ 256) → Pass book rows rejects p q p q false 0
+  pub pass-start : (p q : List Bool) → (length p ≡ 256) × (length q ≡ 256) → Passing book rows rejects p q p q false 0
   pass-start p q w = record { within = omega arith; size = w; grown = grown-none p q; fewer = omega arith; closed = λ e i h. absurd (omega arith) }
 
-  pub pass-skip : {p₀ q₀ p q : List Bool} {ad : Bool} {j : ℕ} → Pass book rows rejects p₀ q₀ p q ad j → j < rowCount rows
-      → (r : Bool) → r ≡ adds p q rejects (rowAt book rows j) → r ≡ false → Pass book rows rejects p₀ q₀ p q ad (j + 1)
+  pub pass-skip : {p₀ q₀ p q : List Bool} {ad : Bool} {j : ℕ} → Passing book rows rejects p₀ q₀ p q ad j → j < rowCount rows
+      → (r : Bool) → r ≡ adds p q rejects (rowAt book rows j) → r ≡ false → Passing book rows rejects p₀ q₀ p q ad (j + 1)
   pass-skip {p₀} {q₀} {p} {q} {ad} {j} w h r er n = record {
     within = omega arith;
     size = w .size;
@@ -73,9 +69,9 @@ module _ {book rows rejects : List ℕ} where
       go e i b (yes a) = w .closed e i a
       go e i b (no a) = subst (λ (x : ℕ). adds p q rejects (rowAt book rows x) ≡ false) {x = j} {y = i} (omega arith) (sym er ∙ n)
 
-  pass-add : {p₀ q₀ p q p′ q′ : List Bool} {ad : Bool} {j : ℕ} → Pass book rows rejects p₀ q₀ p q ad j → j < rowCount rows
+  pass-add : {p₀ q₀ p q p′ q′ : List Bool} {ad : Bool} {j : ℕ} → Passing book rows rejects p₀ q₀ p q ad j → j < rowCount rows
       → adds p q rejects (rowAt book rows j) ≡ true → OneMore p q p′ q′ (rowAt book rows j .head)
-      → literalMarked p q (complement (rowAt book rows j .head)) ≡ false → Pass book rows rejects p₀ q₀ p′ q′ true (j + 1)
+      → literalMarked p q (complement (rowAt book rows j .head)) ≡ false → Passing book rows rejects p₀ q₀ p′ q′ true (j + 1)
   pass-add {p = p} {q = q} {ad = ad} {j = j} w h a m free = record {
     within = omega arith;
     size = (m .size .0 ∙ w .size .0, m .size .1 ∙ w .size .1);
@@ -84,11 +80,19 @@ module _ {book rows rejects : List ℕ} where
     closed = λ e. absurd (true≢false e);
   }
 
+  -- the pass has come to the end
+  pub pass-done : {p₀ q₀ p q : List Bool} {ad : Bool} {j : ℕ} → Passing book rows rejects p₀ q₀ p q ad j → rowCount rows ≤ j → PassEnd book rows rejects p₀ q₀ p q ad false
+  pass-done w h = record { grown = w .grown; fewer = w .fewer; closed = λ c e i b. w .closed e i (omega arith); clash = λ e. absurd (true≢false (sym e)) }
+
   pub filling-start : (p q : List Bool) → Filling book rows rejects p q p q true
   filling-start p q = record { grown = grown-none p q; closed = λ n. absurd (true≢false n) }
 
-  pub filling-more : {p₀ q₀ p₁ q₁ p q : List Bool} {a ad : Bool} {j : ℕ} → Filling book rows rejects p₀ q₀ p₁ q₁ a → Pass book rows rejects p₁ q₁ p q ad j → rowCount rows ≤ j → Filling book rows rejects p₀ q₀ p q ad
-  filling-more v w h = record { grown = grown-both (v .grown) (w .grown); closed = λ e i b. w .closed e i (omega arith) }
+  -- what had grown before the first pass
+  pub filling-since : {p₀ q₀ p₁ q₁ p q : List Bool} {ad : Bool} → Grown book rows rejects p₀ q₀ p₁ q₁ → Filling book rows rejects p₁ q₁ p q ad → Filling book rows rejects p₀ q₀ p q ad
+  filling-since g w = record { grown = grown-both g (w .grown); closed = w .closed }
+
+  pub filling-more : {p₀ q₀ p₁ q₁ p q : List Bool} {a ad c : Bool} → Filling book rows rejects p₀ q₀ p₁ q₁ a → PassEnd book rows rejects p₁ q₁ p q ad c → c ≡ false → Filling book rows rejects p₀ q₀ p q ad
+  filling-more v w e = record { grown = grown-both (v .grown) (w .grown); closed = w .closed e }
 
   -- the waiting lists go on where a pass has added, so that another pass follows
   pub filling-grown : {p₀ q₀ p₁ q₁ p q : List Bool} {ad : Bool} → Filling book rows rejects p₀ q₀ p₁ q₁ ad → ad ≡ true → Grown book rows rejects p₁ q₁ p q → Filling book rows rejects p₀ q₀ p q ad
@@ -126,6 +130,15 @@ module _ {book rows rejects : List ℕ} where
     clash = λ e. absurd (true≢false (sym e));
   }
 
+  -- a pass has met a fact both ways
+  pub clashed : {start p₁ q₁ p q : List Bool} {a ad c : Bool} → Filling book rows rejects (replicate 256 false) start p₁ q₁ a → PassEnd book rows rejects p₁ q₁ p q ad c → c ≡ true → Fills book rows rejects start p q true
+  clashed {start} v w e = record {
+    sound = from-the-start (grown-both (v .grown) (w .grown)) .sound;
+    full = λ y. absurd (true≢false y);
+    apart = λ y. absurd (true≢false y);
+    clash = λ y. w .clash e start (from-the-start (v .grown) .sound);
+  }
+
   -- a fact both ways
   pub conflict : {start : List Bool} (h : ℕ) → h < 512 → FollowsFrom book rows rejects start (literalNamed h) → FollowsFrom book rows rejects start (complement (literalNamed h)) → Conflict book rows rejects start
   unfolding complement
@@ -146,21 +159,27 @@ module _ {book rows rejects : List ℕ} where
       }
 
   -- as the code has it: the head's name is in a local
-  module _ {start p q : List Bool} where
-    pub head-at : (j : ℕ) → SoundMarks book rows rejects start p q → j < rowCount rows → (r : Bool) → r ≡ adds p q rejects (rowAt book rows j) → r ≡ true → (h : ℕ) → h ≡ headName rows j → FollowsFrom book rows rejects start (literalNamed h)
+  module _ {p₀ q₀ p q : List Bool} {ad : Bool} {j : ℕ} (w : Passing book rows rejects p₀ q₀ p q ad j) (b : j < rowCount rows) (r : Bool) (er : r ≡ adds p q rejects (rowAt book rows j)) (t : r ≡ true) (h : ℕ) (e : h ≡ headName rows j)
+      (o : ℕ) (eo : literalNamed o ≡ complement (literalNamed h)) (c : Bool) (ec : c ≡ literalMarked p q (literalNamed o)) where
+    pub pass-clash : h < 512 → c ≡ true → PassEnd book rows rejects p₀ q₀ p q ad true
     unfolding rowAt
-    head-at j w b r er t h e = subst (λ (x : ℕ). FollowsFrom book rows rejects start (literalNamed x)) (sym e) (head-follows p q j (w .sound) b (sym er ∙ t))
+    pass-clash k f = record { grown = w .grown; fewer = w .fewer; closed = λ y. absurd (true≢false y); clash = λ y start v. conflict h k (head-is start v) (opposite-is start v) }
+      where
+        marks : (start : List Bool) → ((l : Literal) → T (literalMarked p₀ q₀ l) → FollowsFrom book rows rejects start l) → (l : Literal) → T (literalMarked p q l) → FollowsFrom book rows rejects start l
+        marks start v = w .grown .sound start v
 
-    pub opposite-at : SoundMarks book rows rejects start p q → (h o : ℕ) → literalNamed o ≡ complement (literalNamed h) → (c : Bool) → c ≡ literalMarked p q (literalNamed o) → c ≡ true → FollowsFrom book rows rejects start (complement (literalNamed h))
-    opposite-at w h o e c m t = subst (FollowsFrom book rows rejects start) e (w .sound (literalNamed o) (subst T (sym (sym m ∙ t)) tt))
+        head-is : (start : List Bool) → ((l : Literal) → T (literalMarked p₀ q₀ l) → FollowsFrom book rows rejects start l) → FollowsFrom book rows rejects start (literalNamed h)
+        head-is start v = subst (λ (x : ℕ). FollowsFrom book rows rejects start (literalNamed x)) (sym e) (head-follows p q j (marks start v) b (sym er ∙ t))
 
-  module _ {p₀ q₀ p q : List Bool} {ad : Bool} {j : ℕ} (w : Pass book rows rejects p₀ q₀ p q ad j) (b : j < rowCount rows) (r : Bool) (er : r ≡ adds p q rejects (rowAt book rows j)) (t : r ≡ true) (h : ℕ) (e : h ≡ headName rows j)
-      (o : ℕ) (eo : literalNamed o ≡ complement (literalNamed h)) (c : Bool) (ec : c ≡ literalMarked p q (literalNamed o)) (f : c ≡ false) where
-    free : literalMarked p q (complement (rowAt book rows j .head)) ≡ false
-    free = opposite-free book rows rejects p q (w .size) j (sym er ∙ t) h e o eo c ec f
+        opposite-is : (start : List Bool) → ((l : Literal) → T (literalMarked p₀ q₀ l) → FollowsFrom book rows rejects start l) → FollowsFrom book rows rejects start (complement (literalNamed h))
+        opposite-is start v = subst (FollowsFrom book rows rejects start) eo (marks start v (literalNamed o) (subst T (sym (sym ec ∙ f)) tt))
 
-    pub pass-low : h < 256 → Pass book rows rejects p₀ q₀ (set p h true) q true (j + 1)
-    pass-low k = pass-add w b (sym er ∙ t) (one-low book rows rejects p q (w .size) j (sym er ∙ t) h e k) free
+    module _ (f : c ≡ false) where
+      free : literalMarked p q (complement (rowAt book rows j .head)) ≡ false
+      free = opposite-free book rows rejects p q (w .size) j (sym er ∙ t) h e o eo c ec f
 
-    pub pass-high : 256 ≤ h → h < 512 → Pass book rows rejects p₀ q₀ p (set q (h - 256) true) true (j + 1)
-    pass-high k i = pass-add w b (sym er ∙ t) (one-high book rows rejects p q (w .size) j (sym er ∙ t) h e k i) free
+      pub pass-low : h < 256 → Passing book rows rejects p₀ q₀ (set p h true) q true (j + 1)
+      pass-low k = pass-add w b (sym er ∙ t) (one-low book rows rejects p q (w .size) j (sym er ∙ t) h e k) free
+
+      pub pass-high : 256 ≤ h → h < 512 → Passing book rows rejects p₀ q₀ p (set q (h - 256) true) true (j + 1)
+      pass-high k i = pass-add w b (sym er ∙ t) (one-high book rows rejects p q (w .size) j (sym er ∙ t) h e k i) free

@@ -17,12 +17,7 @@ use Rattle.table.specs.Rows.{rowCount, headName, rowAt}
 use Rattle.table.proofs.NameLaws.{name-low, name-high, complement-twice}
 use Rattle.table.proofs.RowLaws.{row-in}
 use Rattle.filling.proofs.MarkLaws.{set-only, set-keeps}
-use Rattle.filling.specs.Marks.{literalMarked, alive, adds, FollowsFrom, by-row, Apart, Grown}
-
--- how many are false
-pub falses : List Bool → ℕ
-falses [] = 0
-falses (b ∷ bs) = cond b 0 1 + falses bs
+use Rattle.filling.specs.Marks.{literalMarked, alive, adds, FollowsFrom, by-row, Apart, Grown, falses}
 
 falses-set : (l : List Bool) (i : ℕ) → i < length l → getD l i false ≡ false → falses (set l i true) + 1 ≡ falses l
 unfolding falses

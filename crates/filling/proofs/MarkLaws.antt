@@ -10,8 +10,8 @@ use native.Mathlib.Decide.{ℕ-discrete}
 use native.Mathlib.Omega.{arith}
 use borrow.Author.Tests.{le-leb, lt-leb, not-true, not-false}
 use lib.Bits.{bitAnd}
-use lib.Dec.{T, eqb}
-use lib.ListN.{length, getD, set, replicate}
+use lib.Dec.{T, eqb, leb}
+use lib.ListN.{length, getD, set, replicate, List·getD-eq-default}
 use lib.Seq.{getD-set-same, getD-set-other}
 use Rattle.base.specs.Lists.{all}
 use Rattle.layers.specs.Masks.{bitOf}
@@ -55,14 +55,28 @@ module _ (p q : List Bool) where
   unfolding literalMarked
   marked-high h k = ap (literalMarked p q) (sym (name-high h k))
 
-  module _ (a b : ℕ) where
-    pub negated-marked : 32768 ≤ a * 256 + b → atomHolds q ((a * 256 + b) % 32768) ≡ literalMarked p q (literalOf a b)
-    unfolding literalMarked literalOf
-    negated-marked h = ap (λ (c : Bool). atomHolds (cond c q p) ((a * 256 + b) % 32768)) (sym (le-leb 32768 (a * 256 + b) h))
+  -- the two bytes of a literal: its fact is the second where the first has no bit but the sign, and else past the arrays
+  module _ (size : (length p ≡ 256) × (length q ≡ 256)) (a b : ℕ) (k : b < 256) where
+    past : (c : Bool) (f : ℕ) → 256 ≤ f → false ≡ atomHolds (cond c q p) f
+    unfolding atomHolds
+    past true f h = sym (List·getD-eq-default q false (omega (arith, size .1)))
+    past false f h = sym (List·getD-eq-default p false (omega (arith, size .0)))
 
-    pub plain-marked : a * 256 + b < 32768 → atomHolds p ((a * 256 + b) % 32768) ≡ literalMarked p q (literalOf a b)
+    pub marked-past : (a % 128 ≡ 0 → ⊥) → false ≡ literalMarked p q (literalOf a b)
     unfolding literalMarked literalOf
-    plain-marked h = ap (λ (c : Bool). atomHolds (cond c q p) ((a * 256 + b) % 32768)) (sym (lt-leb 32768 (a * 256 + b) h))
+    marked-past n = past (leb 32768 (a * 256 + b)) ((a * 256 + b) % 32768) (far (ℕ-discrete (a % 128) 0))
+      where
+        far : Dec (a % 128 ≡ 0) → 256 ≤ (a * 256 + b) % 32768
+        far (yes e) = absurd (n e)
+        far (no m) = omega arith
+
+    pub negated-marked : a % 128 ≡ 0 → 128 ≤ a → a < 256 → getD q b false ≡ literalMarked p q (literalOf a b)
+    unfolding literalMarked literalOf atomHolds
+    negated-marked e h l = let z : b ≡ (a * 256 + b) % 32768 = omega arith in ap (λ (x : ℕ). getD q x false) z ∙ ap (λ (c : Bool). getD (cond c q p) ((a * 256 + b) % 32768) false) (sym (le-leb 32768 (a * 256 + b) (omega arith)))
+
+    pub plain-marked : a % 128 ≡ 0 → a < 128 → getD p b false ≡ literalMarked p q (literalOf a b)
+    unfolding literalMarked literalOf atomHolds
+    plain-marked e h = let z : b ≡ (a * 256 + b) % 32768 = omega arith in ap (λ (x : ℕ). getD p x false) z ∙ ap (λ (c : Bool). getD (cond c q p) ((a * 256 + b) % 32768) false) (sym (lt-leb 32768 (a * 256 + b) (omega arith)))
 
 module _ (book rows rejects : List ℕ) (j h i : ℕ) (p : h ≡ headName rows j) (q : i ≡ rowLayer rows j) where
   pub alive-bit : alive rejects (rowAt book rows j) ≡ not (eqb (bitAnd (getD rejects h 0 / 2 ^ i) 1) 1)

@@ -25,8 +25,8 @@ module _ (book rows rejects : List ℕ) (p q : List Bool) (size : (length p ≡ 
   grown-high k i = grown-one p q j b a (one-high book rows rejects p q size j a h e k i) (opposite-free book rows rejects p q size j a h e o eo c ec f)
 
 -- the marks have grown, and no array has another length
-pub record Turn (book rows rejects : List ℕ) (p₀ q₀ p q : List Bool) (links watched names : List ℕ) (top : ℕ) : Type 0 where
+pub record Turn (book rows rejects : List ℕ) (p₀ q₀ p q : List Bool) (links hints names : List ℕ) (top : ℕ) : Type 0 where
   pub grown : Grown book rows rejects p₀ q₀ p q
   pub size : (length p ≡ 256) × (length q ≡ 256)
-  pub lists : (length links ≡ 1536) × (length watched ≡ 1024) × (length names ≡ 512)
+  pub lists : (length links ≡ 1536) × (length hints ≡ 2048) × (length names ≡ 512)
   pub room : top ≤ 512

@@ -2,8 +2,8 @@
 -- masks that it is handed, not over a book, so that the test and the search share it. Assumes nothing.
 use mathlib.Core.Path.{_≡_}
 use mathlib.Core.Bool.{Bool, true, false, not, _&&_, cond}
-use mathlib.Core.List.{List, List·Memᴰ}
-use Prim.Native.Nat.{ℕ, _<_}
+use mathlib.Core.List.{List, [], _∷_, List·Memᴰ}
+use Prim.Native.Nat.{ℕ, _+_, _<_, _≤_}
 use lib.Dec.{T, eqb}
 use lib.ListN.{getD}
 use Rattle.base.specs.Bounds.{maxAtoms}
@@ -12,7 +12,7 @@ use Rattle.layers.specs.Masks.{bitOf}
 use Rattle.format.specs.Book.{Literal, Rule}
 use Rattle.models.specs.StableModels.{atomHolds, positive, negative, complement}
 use Rattle.table.specs.Names.{nameOf}
-use Rattle.table.specs.Rows.{rowsOf}
+use Rattle.table.specs.Rows.{rowCount, rowAt, rowsOf}
 
 -- the mark of a literal: the first array is for facts, the second for negations
 unfoldable pub literalMarked : List Bool → List Bool → Literal → Bool
@@ -43,12 +43,30 @@ pub record Grown (book rows rejects : List ℕ) (p₀ q₀ p q : List Bool) : Ty
       → (l : Literal) → T (literalMarked p q l) → FollowsFrom book rows rejects start l
   pub apart : Apart p₀ q₀ → Apart p q
 
+-- how many are false
+unfoldable pub falses : List Bool → ℕ
+falses [] = 0
+falses (b ∷ bs) = cond b 0 1 + falses bs
+
+-- no row before n adds its head
+abbrev pub Closed : List ℕ → List ℕ → List ℕ → List Bool → List Bool → ℕ → Type 0
+Closed book rows rejects p q n = (j : ℕ) → j < n → adds p q rejects (rowAt book rows j) ≡ false
+
 -- a fact that follows both ways
 pub record Conflict (book rows rejects : List ℕ) (start : List Bool) : Type 0 where
   pub atom : ℕ
   pub bound : atom < maxAtoms
   pub as-positive : FollowsFrom book rows rejects start (positive atom)
   pub as-negative : FollowsFrom book rows rejects start (negative atom)
+
+-- One pass over the rows: each mark that is added falls out of the unmarked ones; where none is added no row adds its head; and what
+-- ends it early is a fact that follows both ways from every start from which the marks at entry follow.
+pub record PassEnd (book rows rejects : List ℕ) (p₀ q₀ p q : List Bool) (added conflict : Bool) : Type 0 where
+  pub grown : Grown book rows rejects p₀ q₀ p q
+  pub fewer : falses p + falses q + cond added 1 0 ≤ falses p₀ + falses q₀
+  pub closed : conflict ≡ false → added ≡ false → Closed book rows rejects p q (rowCount rows)
+  pub clash : conflict ≡ true → (start : List Bool) → ((l : Literal) → T (literalMarked p₀ q₀ l) → FollowsFrom book rows rejects start l)
+      → Conflict book rows rejects start
 
 -- the marks are what follows, and no fact is marked both ways; or a conflict was met, and they are part of it
 pub record Fills (book rows rejects : List ℕ) (start p q : List Bool) (conflict : Bool) : Type 0 where

@@ -1,5 +1,7 @@
 // Filling: two arrays of marks, reached facts and reached negations, from the negations of a start until nothing is added. It works on
 // the rows of the table and the masks of the rejected ones, so that the test of a candidate and the search share it.
+// `hints` is what one filling leaves for the next: the literal that each row watches, then the trail. Nothing rests on it but speed, so
+// contracts say of it only how long it is.
 ghost use mathlib.Core.Path.{_≡_};
 ghost use Prim.Native.Nat.{_<_, _≤_};
 ghost use lib.ListN.{length};
@@ -7,32 +9,37 @@ ghost use Rattle.base.specs.Lists.{all};
 ghost use Rattle.format.specs.Book.{literalOf, literalsOf};
 ghost use Rattle.table.specs.Names.{literalNamed};
 ghost use Rattle.table.specs.Rows.{rowCount, rowAt, RowsFit};
-ghost use Rattle.filling.specs.Marks.{literalMarked, alive, adds, Grown, Fills};
+ghost use Rattle.filling.specs.Marks.{literalMarked, alive, adds, Grown, PassEnd, Fills};
 use base::wide;
 use base::wide16;
-use table::atom_holds;
 use table::opposite;
 use table::row_head;
 use table::row_layer;
 
 // The mark of a name.
 fn name_marked(positive: &[bool], negative: &[bool], h: usize) -> bool
+    requires { ⌜ (length (now positive) ≡ 256) × (length (now negative) ≡ 256) × (h < 512) ⌝ }
     ensures { λ r. ⌜ r ≡ literalMarked (now (positive .entry)) (now (negative .entry)) (literalNamed h) ⌝ }
 {
     if h < 256 {
-        return atom_holds(positive, h);
+        return positive[h];
     }
-    atom_holds(negative, h - 256)
+    negative[h - 256]
 }
 
-// The mark of the literal of two bytes. Both arrays are read, so that the sign is no branch: bodies mix signs as they like.
+// The mark of the literal of two bytes. Both arrays are read, so that the sign is no branch: bodies mix signs as they like. No fact
+// is 256 or more.
 fn literal_marked(positive: &[bool], negative: &[bool], a: u8, b: u8) -> bool
+    requires { ⌜ (length (now positive) ≡ 256) × (length (now negative) ≡ 256) ⌝ }
     ensures { λ r. ⌜ r ≡ literalMarked (now (positive .entry)) (now (negative .entry)) (literalOf a b) ⌝ }
 {
-    let v = wide(a) * 256 + wide(b);
-    let fact = atom_holds(positive, v % 32768);
-    let negation = atom_holds(negative, v % 32768);
-    if 32768 <= v {
+    if a % 128 != 0 {
+        return false;
+    }
+    let f = wide(b);
+    let fact = positive[f];
+    let negation = negative[f];
+    if 128 <= a {
         return negation;
     }
     fact
@@ -40,6 +47,7 @@ fn literal_marked(positive: &[bool], negative: &[bool], a: u8, b: u8) -> bool
 
 // Whether every literal of a body's bytes is marked. The one numbered `watch` is tried first.
 fn body_marked(positive: &[bool], negative: &[bool], body: &[u8], watch: usize) -> bool
+    requires { ⌜ (length (now positive) ≡ 256) × (length (now negative) ≡ 256) ⌝ }
     ensures { λ r. ⌜ r ≡ all (literalMarked (now (positive .entry)) (now (negative .entry))) (literalsOf (now (body .entry))) ⌝ }
 {
     if watch < body.len() / 2 {
@@ -69,11 +77,10 @@ pub fn row_alive(book: &[u8], rows: &[u16], rejects: &[u32], j: usize) -> bool
     (rejects[h] >> (layer as u32)) & 1 != 1
 }
 
-// The number of the literal that a row watches: the one that it last waited for. Nothing rests on it but speed: the whole body is
-// tested where this literal is marked.
-fn watch_of(watched: &[u16], j: usize) -> usize {
-    if j < watched.len() {
-        return wide16(watched[j]);
+// The number of the literal that a row watches: the one that it last waited for. The whole body is tested where it is marked.
+fn watch_of(hints: &[u16], j: usize) -> usize {
+    if j < hints.len() {
+        return wide16(hints[j]);
     }
     0
 }
@@ -84,16 +91,17 @@ fn row_marked(
     rows: &[u16],
     positive: &[bool],
     negative: &[bool],
-    watched: &[u16],
+    hints: &[u16],
     j: usize,
 ) -> bool
     requires { ⌜ RowsFit (now book) (now rows) ⌝ }
+    requires { ⌜ (length (now positive) ≡ 256) × (length (now negative) ≡ 256) ⌝ }
     requires { ⌜ j < rowCount (now rows) ⌝ }
     ensures { λ r. ⌜ r ≡ all (literalMarked (now (positive .entry)) (now (negative .entry))) (rowAt (now (book .entry)) (now (rows .entry)) j .body) ⌝ }
 {
     let from = wide16(rows[4 * j]);
     let to = from + wide16(rows[4 * j + 1]);
-    body_marked(positive, negative, &book[from..to], watch_of(watched, j))
+    body_marked(positive, negative, &book[from..to], watch_of(hints, j))
 }
 
 // Whether a row adds its head: the head is not marked, the row is alive and its body is marked.
@@ -103,11 +111,12 @@ fn row_adds(
     rejects: &[u32],
     positive: &[bool],
     negative: &[bool],
-    watched: &[u16],
+    hints: &[u16],
     j: usize,
 ) -> bool
     requires { ⌜ RowsFit (now book) (now rows) ⌝ }
     requires { ⌜ length (now rejects) ≡ 512 ⌝ }
+    requires { ⌜ (length (now positive) ≡ 256) × (length (now negative) ≡ 256) ⌝ }
     requires { ⌜ j < rowCount (now rows) ⌝ }
     ensures { λ r. ⌜ r ≡ adds (now (positive .entry)) (now (negative .entry)) (now (rejects .entry)) (rowAt (now (book .entry)) (now (rows .entry)) j) ⌝ }
 {
@@ -117,7 +126,7 @@ fn row_adds(
     if !row_alive(book, rows, rejects, j) {
         return false;
     }
-    row_marked(book, rows, positive, negative, watched, j)
+    row_marked(book, rows, positive, negative, hints, j)
 }
 
 // Marks a row's head if the row adds it and the opposite is not marked, and says whether it did.
@@ -127,7 +136,7 @@ fn add_head(
     rejects: &[u32],
     positive: &mut [bool],
     negative: &mut [bool],
-    watched: &[u16],
+    hints: &[u16],
     j: usize,
 ) -> bool
     requires { ⌜ RowsFit (now book) (now rows) ⌝ }
@@ -136,7 +145,7 @@ fn add_head(
     requires { ⌜ j < rowCount (now rows) ⌝ }
     ensures { λ _. ⌜ Grown (now (book .entry)) (now (rows .entry)) (now (rejects .entry)) (now (positive .entry)) (now (negative .entry)) (now (positive .exit)) (now (negative .exit)) ⌝ }
 {
-    if !row_adds(book, rows, rejects, positive, negative, watched, j) {
+    if !row_adds(book, rows, rejects, positive, negative, hints, j) {
         return false;
     }
     let h = row_head(rows, j);
@@ -149,6 +158,51 @@ fn add_head(
     }
     negative[h - 256] = true;
     true
+}
+
+// Puts a row that has added its head on the trail, the rows in the order in which they did so, where one is kept. Entry 1,024 of the
+// hints is one more than the number of rows on it, or 0 as long as no filling has needed the waiting lists. A full trail is begun anew.
+fn remember(hints: &mut [u16], j: usize)
+    requires { ⌜ length (now hints) ≡ 2048 ⌝ }
+{
+    let end = wide16(hints[1024]);
+    if end == 0 {
+        return;
+    }
+    if end < 1024 {
+        hints[1024 + end] = (j % 65536) as u16;
+        hints[1024] = (end + 1) as u16;
+        return;
+    }
+    hints[1024] = 1;
+}
+
+// Tries the rows of the trail in their order: what was reached one after the other at the last setting is often reached so at the
+// next.
+fn replay(
+    book: &[u8],
+    rows: &[u16],
+    rejects: &[u32],
+    positive: &mut [bool],
+    negative: &mut [bool],
+    hints: &[u16],
+)
+    requires { ⌜ RowsFit (now book) (now rows) ⌝ }
+    requires { ⌜ length (now rejects) ≡ 512 ⌝ }
+    requires { ⌜ (length (now positive) ≡ 256) × (length (now negative) ≡ 256) ⌝ }
+    requires { ⌜ length (now hints) ≡ 2048 ⌝ }
+    ensures { λ _. ⌜ Grown (now (book .entry)) (now (rows .entry)) (now (rejects .entry)) (now (positive .entry)) (now (negative .entry)) (now (positive .exit)) (now (negative .exit)) ⌝ }
+{
+    let count = rows.len() / 4;
+    let end = wide16(hints[1024]) % 1025;
+    let mut i = 1;
+    while i < end {
+        let j = wide16(hints[1024 + i]);
+        if j < count {
+            add_head(book, rows, rejects, positive, negative, hints, j);
+        }
+        i += 1;
+    }
 }
 
 // A number below the count, 0 for what is past it.
@@ -164,7 +218,9 @@ fn in_turn(i: usize, count: usize) -> usize
 
 // The number of a literal of a body's bytes that is not marked, looked for from the one numbered `from` on and then from the first
 // on; past them all, if there is none.
-fn unmarked_from(positive: &[bool], negative: &[bool], body: &[u8], from: usize) -> usize {
+fn unmarked_from(positive: &[bool], negative: &[bool], body: &[u8], from: usize) -> usize
+    requires { ⌜ (length (now positive) ≡ 256) × (length (now negative) ≡ 256) ⌝ }
+{
     let count = body.len() / 2;
     let mut next = from;
     let mut left = count;
@@ -197,21 +253,22 @@ fn wait(
     positive: &[bool],
     negative: &[bool],
     links: &mut [u16],
-    watched: &mut [u16],
+    hints: &mut [u16],
     j: usize,
 ) -> bool
     requires { ⌜ RowsFit (now book) (now rows) ⌝ }
-    requires { ⌜ (length (now links) ≡ 1536) × (length (now watched) ≡ 1024) ⌝ }
+    requires { ⌜ (length (now positive) ≡ 256) × (length (now negative) ≡ 256) ⌝ }
+    requires { ⌜ (length (now links) ≡ 1536) × (length (now hints) ≡ 2048) ⌝ }
     requires { ⌜ (j < rowCount (now rows)) × (j < 1024) ⌝ }
 {
     let from = wide16(rows[4 * j]);
     let to = from + wide16(rows[4 * j + 1]);
-    let i = unmarked_from(positive, negative, &book[from..to], wide16(watched[j]));
+    let i = unmarked_from(positive, negative, &book[from..to], wide16(hints[j]));
     if (to - from) / 2 <= i {
         return false;
     }
     let h = waiting_name(book[from + 2 * i], book[from + 2 * i + 1]);
-    watched[j] = i as u16;
+    hints[j] = i as u16;
     links[512 + j] = links[h];
     links[h] = (512 + j) as u16;
     true
@@ -225,13 +282,13 @@ fn settle(
     positive: &mut [bool],
     negative: &mut [bool],
     links: &mut [u16],
-    watched: &mut [u16],
+    hints: &mut [u16],
     j: usize,
 ) -> bool
     requires { ⌜ RowsFit (now book) (now rows) ⌝ }
     requires { ⌜ length (now rejects) ≡ 512 ⌝ }
     requires { ⌜ (length (now positive) ≡ 256) × (length (now negative) ≡ 256) ⌝ }
-    requires { ⌜ (length (now links) ≡ 1536) × (length (now watched) ≡ 1024) ⌝ }
+    requires { ⌜ (length (now links) ≡ 1536) × (length (now hints) ≡ 2048) ⌝ }
     requires { ⌜ (j < rowCount (now rows)) × (j < 1024) ⌝ }
     ensures { λ _. ⌜ Grown (now (book .entry)) (now (rows .entry)) (now (rejects .entry)) (now (positive .entry)) (now (negative .entry)) (now (positive .exit)) (now (negative .exit)) ⌝ }
 {
@@ -241,10 +298,14 @@ fn settle(
     if !row_alive(book, rows, rejects, j) {
         return false;
     }
-    if wait(book, rows, positive, negative, links, watched, j) {
+    if wait(book, rows, positive, negative, links, hints, j) {
         return false;
     }
-    add_head(book, rows, rejects, positive, negative, watched, j)
+    let added = add_head(book, rows, rejects, positive, negative, hints, j);
+    if added {
+        remember(hints, j);
+    }
+    added
 }
 
 // Marks more of what follows, by waiting lists: a row waits for a literal of its body that is not marked, and is tried again when that
@@ -258,17 +319,20 @@ fn propagate(
     rejects: &[u32],
     positive: &mut [bool],
     negative: &mut [bool],
-    watched: &mut [u16],
+    hints: &mut [u16],
 )
     requires { ⌜ RowsFit (now book) (now rows) ⌝ }
     requires { ⌜ length (now rejects) ≡ 512 ⌝ }
     requires { ⌜ (length (now positive) ≡ 256) × (length (now negative) ≡ 256) ⌝ }
-    requires { ⌜ length (now watched) ≡ 1024 ⌝ }
+    requires { ⌜ length (now hints) ≡ 2048 ⌝ }
     ensures { λ _. ⌜ Grown (now (book .entry)) (now (rows .entry)) (now (rejects .entry)) (now (positive .entry)) (now (negative .entry)) (now (positive .exit)) (now (negative .exit)) ⌝ }
 {
     let count = rows.len() / 4;
     if 1024 < count {
         return;
+    }
+    if hints[1024] == 0 {
+        hints[1024] = 1;
     }
     let mut links: [u16; 1536] = [0; 1536];
     let mut names: [u16; 512] = [0; 512];
@@ -291,7 +355,7 @@ fn propagate(
                 positive,
                 negative,
                 &mut links,
-                watched,
+                hints,
                 j,
             ) {
                 if top < 512 {
@@ -311,6 +375,55 @@ fn propagate(
     }
 }
 
+// What a pass came to: whether it added a mark, and whether it met a fact that is reached both ways.
+pub struct PassResult {
+    pub added: bool,
+    pub conflict: bool,
+}
+
+// One pass over the rows: marks the head of each that adds it, until a fact is reached both ways.
+fn pass(
+    book: &[u8],
+    rows: &[u16],
+    rejects: &[u32],
+    positive: &mut [bool],
+    negative: &mut [bool],
+    hints: &mut [u16],
+) -> PassResult
+    requires { ⌜ RowsFit (now book) (now rows) ⌝ }
+    requires { ⌜ length (now rejects) ≡ 512 ⌝ }
+    requires { ⌜ (length (now positive) ≡ 256) × (length (now negative) ≡ 256) ⌝ }
+    requires { ⌜ length (now hints) ≡ 2048 ⌝ }
+    ensures { λ r. ⌜ PassEnd (now (book .entry)) (now (rows .entry)) (now (rejects .entry)) (now (positive .entry)) (now (negative .entry)) (now (positive .exit)) (now (negative .exit)) (r .added) (r .conflict) ⌝ }
+{
+    let count = rows.len() / 4;
+    let mut added = false;
+    let mut j = 0;
+    while j < count {
+        if row_adds(book, rows, rejects, positive, negative, hints, j) {
+            let h = row_head(rows, j);
+            if name_marked(positive, negative, opposite(h)) {
+                return PassResult {
+                    added,
+                    conflict: true,
+                };
+            }
+            if h < 256 {
+                positive[h] = true;
+            } else {
+                negative[h - 256] = true;
+            }
+            remember(hints, j);
+            added = true;
+        }
+        j += 1;
+    }
+    PassResult {
+        added,
+        conflict: false,
+    }
+}
+
 // Reached facts, reached negations, and whether a fact was reached both ways.
 pub struct Marks {
     pub positive: [bool; 256],
@@ -319,50 +432,39 @@ pub struct Marks {
 }
 
 // The two arrays, filled from the negations of the start until nothing is added, or until a fact is reached both ways. Passes over
-// the rows say when nothing is added. Few books need more than two; where the second still adds, waiting lists go on from there.
+// the rows say when nothing is added. Few books need more than two; where the second still adds, waiting lists go on from there, and
+// the next filling begins with the trail.
 pub fn fill(
     book: &[u8],
     rows: &[u16],
     rejects: &[u32],
     start: [bool; 256],
-    watched: &mut [u16],
+    hints: &mut [u16],
 ) -> Marks
     requires { ⌜ RowsFit (now book) (now rows) ⌝ }
     requires { ⌜ length (now rejects) ≡ 512 ⌝ }
-    requires { ⌜ length (now watched) ≡ 1024 ⌝ }
+    requires { ⌜ length (now hints) ≡ 2048 ⌝ }
     ensures { λ r. ⌜ Fills (now (book .entry)) (now (rows .entry)) (now (rejects .entry)) start (r .positive) (r .negative) (r .conflict) ⌝ }
 {
-    let count = rows.len() / 4;
     let mut positive = [false; 256];
     let mut negative = start;
+    replay(book, rows, rejects, &mut positive, &mut negative, hints);
     let mut added = true;
     let mut first = true;
     while added {
-        added = false;
-        let mut j = 0;
-        while j < count {
-            if row_adds(book, rows, rejects, &positive, &negative, watched, j) {
-                let h = row_head(rows, j);
-                if name_marked(&positive, &negative, opposite(h)) {
-                    return Marks {
-                        positive,
-                        negative,
-                        conflict: true,
-                    };
-                }
-                if h < 256 {
-                    positive[h] = true;
-                } else {
-                    negative[h - 256] = true;
-                }
-                added = true;
-            }
-            j += 1;
+        let end = pass(book, rows, rejects, &mut positive, &mut negative, hints);
+        if end.conflict {
+            return Marks {
+                positive,
+                negative,
+                conflict: true,
+            };
         }
+        added = end.added;
         if first {
             first = false;
         } else if added {
-            propagate(book, rows, rejects, &mut positive, &mut negative, watched);
+            propagate(book, rows, rejects, &mut positive, &mut negative, hints);
         }
     }
     Marks {

@@ -80,7 +80,7 @@ fn pass(
     ensures { λ r. ⌜ Passed (programOf (now (book .entry)) layer) (now (atoms .entry)) n goal atom (now (part .entry)) r (now (part .exit)) ⌝ }
 {
     let room = part.len();
-    let mut watched: [u16; 1024] = [0; 1024];
+    let mut hints: [u16; 2048] = [0; 2048];
     let mut masks: [u32; 3072] = [0; 3072];
     let heads = rule_masks(book, rows, atoms, &mut masks);
     let mut nogoods: [u32; 1024] = [0; 1024];
@@ -105,7 +105,7 @@ fn pass(
         n,
         0,
         0,
-        &mut watched,
+        &mut hints,
         part,
         v,
     )

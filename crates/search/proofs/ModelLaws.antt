@@ -1,6 +1,6 @@
 -- The stable model of a setting, as the code finds it: the start that the setting gives, agreement with it, and that what is
--- filled is the only state that can be stable there. Used by denied, undisputed, covers, agrees, model_from and model_at. Assumes
--- nothing.
+-- filled is the only state that can be stable there. Used by denied, undisputed, covers, agrees, decide, model_from and model_at.
+-- Assumes nothing.
 use mathlib.Core.Path.{_≡_, refl, sym, ap, subst, _∙_}
 use mathlib.Core.Logic.{_⊎_, inl, inr}
 use mathlib.Core.Bool.{Bool, true, false, not, _&&_, Bool·beq, true≢false, false≢true}
@@ -17,18 +17,18 @@ use Rattle.base.specs.Lists.{consIf, all, upTo}
 use Rattle.base.proofs.Members.{_∈_, all-at, filter-from}
 use Rattle.base.proofs.UpTo.{passed, upTo-lt}
 use Rattle.models.specs.Program.{Program}
-use Rattle.models.specs.StableModels.{Interpretation, atomHolds, stable, StableModel}
+use Rattle.models.specs.StableModels.{Interpretation, atomHolds, negative, stable, StableModel}
 use Rattle.models.specs.Branching.{branching, branchingAtoms}
 use Rattle.table.specs.Rows.{rowCount}
 use Rattle.table.specs.Table.{programOf}
-use Rattle.filling.specs.Marks.{Fills}
+use Rattle.filling.specs.Marks.{literalMarked, Fills}
 use Rattle.tester.specs.Masks.{RejectedMasks, Uncontested}
 use Rattle.tester.proofs.TestLaws.{beq-same}
 use Rattle.tester.proofs.UncontestedLaws.{fills-wider, uncontested-stable}
 use Rattle.tester.proofs.SettingMarks.{SettingStart, no-conflict, marks-found}
 use Rattle.insertion.proofs.SortedLaws.{getD-member}
 use Rattle.search.specs.Found.{agreeOn, fits, atSetting}
-use Rattle.search.specs.Searchable.{Searchable, Denied, Undisputed, Covered}
+use Rattle.search.specs.Searchable.{Searchable, Denied, Undisputed, Covered, Early, Candidate}
 use Rattle.search.proofs.FoundLaws.{branching-listed, setting-is, setting-none}
 
 -- ---- the start
@@ -159,36 +159,26 @@ module _ (atoms : List ℕ) (m o : Interpretation) where
     opened = rw (add-one i, drop-cons atoms i 0 h, ← e, ← ea, ← eb) refl
 
     pub agree-fails : AgreeFrom i → not (Bool·beq a b) ≡ true → false ≡ agreeOn atoms m o
-    agree-fails w q = sym (w ∙ opened ∙ ap (λ (c : Bool). c && agreeOn (drop (i + 1) atoms) m o) (off (Bool·beq a b) q))
-      where
-        off : (c : Bool) → not c ≡ true → c ≡ false
-        off true p = absurd (false≢true p)
-        off false p = refl
+    agree-fails w q = sym (w ∙ opened ∙ ap (λ (c : Bool). c && agreeOn (drop (i + 1) atoms) m o) (not-true (Bool·beq a b) q))
 
     pub agree-more : AgreeFrom i → not (Bool·beq a b) ≡ false → AgreeFrom (i + 1)
-    agree-more w q = w ∙ opened ∙ ap (λ (c : Bool). c && agreeOn (drop (i + 1) atoms) m o) (on (Bool·beq a b) q)
-      where
-        on : (c : Bool) → not c ≡ false → c ≡ true
-        on true p = refl
-        on false p = absurd (false≢true (sym p))
+    agree-more w q = w ∙ opened ∙ ap (λ (c : Bool). c && agreeOn (drop (i + 1) atoms) m o) (not-false (Bool·beq a b) q)
 
   pub agree-end : (i : ℕ) → length atoms ≤ i → AgreeFrom i → true ≡ agreeOn atoms m o
   unfolding agreeOn all
   agree-end i h w = sym (w ∙ ap (λ (l : List ℕ). agreeOn l m o) (drop-of-length-le atoms {i = i} h))
 
 -- ---- the model
-module _ {book rows overridden atoms : List ℕ} {layer n : ℕ} (w : Searchable book rows overridden atoms layer n) (o : Interpretation)
-    (rejects : List ℕ) (g : RejectedMasks book rows overridden o rejects (rowCount rows)) (start : List Bool) (d : Denied atoms o start)
-    (p q : List Bool) (c : Bool) (filled : Fills book rows rejects start p q c) where
+module _ {book rows overridden atoms : List ℕ} {layer n : ℕ} (w : Searchable book rows overridden atoms layer n) (o : Interpretation) where
   abbrev P : Program
   P = programOf book layer
 
   at-listed : atSetting P atoms o ≡ atSetting P (branchingAtoms P) o
   at-listed = ap (λ (l : List ℕ). atSetting P l o) (w .listed)
 
-  setting-start : SettingStart P o start
+  setting-start : {start : List Bool} → Denied atoms o start → SettingStart P o start
   unfolding branchingAtoms
-  setting-start = record {
+  setting-start d = record {
     sound = λ f t.
         let r = d .sound f t in
         let k = filter-from (branching P) (upTo (P .atoms)) (subst (λ (l : List ℕ). f ∈ l) (w .listed) (r .0)) in
@@ -196,14 +186,19 @@ module _ {book rows overridden atoms : List ℕ} {layer n : ℕ} (w : Searchable
     full = λ f h t u. d .full f (subst (λ (l : List ℕ). f ∈ l) (sym (w .listed)) (branching-listed P (w .formed) f t)) u;
   }
 
-  pub model-conflict : (state : List Bool) → c ≡ true → atSetting P atoms o ≡ consIf false (take n state) []
+  -- a conflict, from the start or from a part of it
+  pub model-conflict : {rejects : List ℕ} → RejectedMasks book rows overridden o rejects (rowCount rows) → {start : List Bool} → Denied atoms o start → {p q : List Bool} {c : Bool} → Fills book rows rejects start p q c
+      → c ≡ true → (state : List Bool) → atSetting P atoms o ≡ consIf false (take n state) []
   unfolding consIf
-  model-conflict state e =
-      at-listed ∙ setting-none P (w .formed) o (λ m sm same. no-conflict (w .formed) (w .table) g setting-start sm same (filled .clash e))
+  model-conflict g d filled e state =
+      at-listed ∙ setting-none P (w .formed) o (λ m sm same. no-conflict (w .formed) (w .table) g (setting-start d) sm same (filled .clash e))
 
-  module _ (l : length p ≡ 256) (e : c ≡ false) where
+  module _ {rejects : List ℕ} {p early : List Bool} (k : Candidate book rows overridden rejects atoms o p early) (l : length p ≡ 256) where
     size : length (take n p) ≡ P .atoms
     size = length-take-le n p (omega (arith, w .few)) ∙ w .size
+
+    kept : (f : ℕ) → f < P .atoms → getD (take n p) f false ≡ getD p f false
+    kept f h = getD-take n p f false (subst (λ (k : ℕ). f < k) (sym (w .size)) h)
 
     only : (m : Interpretation) → StableModel P m → ((f : ℕ) → T (branching P f) → atomHolds m f ≡ atomHolds o f) → m ≡ take n p
     unfolding atomHolds
@@ -211,7 +206,7 @@ module _ {book rows overridden atoms : List ℕ} {layer n : ℕ} (w : Searchable
         ext-getD false m (take n p) (sm .size ∙ sym size)
         (λ f h.
         let b : f < P .atoms = subst (λ (k : ℕ). f < k) (sm .size) h in
-        sym (getD-take n p f false (subst (λ (k : ℕ). f < k) (sym (w .size)) b) ∙ marks-found (w .formed) (w .table) g setting-start sm same filled e f b))
+        sym (kept f b ∙ marks-found (w .formed) (w .table) (k .masks) (setting-start (k .denied)) sm same (k .filled) refl f b))
 
     model-is : atSetting P atoms o ≡ consIf (stable P (take n p) && agreeOn atoms (take n p) o) (take n p) []
     unfolding fits
@@ -227,8 +222,12 @@ module _ {book rows overridden atoms : List ℕ} {layer n : ℕ} (w : Searchable
     and-true true = refl
     and-true false = refl
 
+    -- the state as it is lent
     cut : take (n - 0) (drop 0 p) ≡ take n p
     cut = let z : n - 0 ≡ n = omega arith in ap (λ (k : ℕ). take k p) z
+
+    pub state-size : length (take (n - 0) (drop 0 p)) ≡ n
+    state-size = ap length cut ∙ length-take-le n p (omega (arith, w .few))
 
     module _ (a : Bool) (ea : a ≡ agreeOn atoms (take (n - 0) (drop 0 p)) o) where
       agreed : agreeOn atoms (take n p) o ≡ a
@@ -236,66 +235,61 @@ module _ {book rows overridden atoms : List ℕ} {layer n : ℕ} (w : Searchable
 
       pub model-apart : not a ≡ true → atSetting P atoms o ≡ consIf false (take n p) []
       model-apart t =
-          model-is ∙ ap (λ (x : Bool). consIf (stable P (take n p) && x) (take n p) []) (agreed ∙ off a t)
+          model-is ∙ ap (λ (x : Bool). consIf (stable P (take n p) && x) (take n p) []) (agreed ∙ not-true a t)
           ∙ ap (λ (x : Bool). consIf x (take n p) []) (and-false (stable P (take n p)))
-        where
-          off : (x : Bool) → not x ≡ true → x ≡ false
-          off true u = absurd (false≢true u)
-          off false u = refl
 
       pub model-tested : not a ≡ false → (s : Bool) → s ≡ stable P (take (n - 0) (drop 0 p)) → atSetting P atoms o ≡ consIf s (take n p) []
       model-tested t s es =
-          model-is ∙ ap (λ (x : Bool). consIf (stable P (take n p) && x) (take n p) []) (agreed ∙ on a t)
+          model-is ∙ ap (λ (x : Bool). consIf (stable P (take n p) && x) (take n p) []) (agreed ∙ not-false a t)
           ∙ ap (λ (x : Bool). consIf x (take n p) []) (and-true (stable P (take n p)) ∙ ap (stable P) (sym cut) ∙ sym es)
+
+      -- it is stable where no rejected rule is contested
+      pub model-uncontested : not a ≡ false → (r : Bool) → (r ≡ false → Uncontested book rows rejects (take (n - 0) (drop 0 p)) early (rowCount rows)) → not r ≡ true → atSetting P atoms o ≡ consIf true (take n p) []
+      unfolding agreeOn atomHolds
+      model-uncontested t r er tr = model-tested t true (sym (passed (stable P (take (n - 0) (drop 0 p))) (subst (λ (x : Interpretation). T (stable P x)) (sym cut) found)))
         where
-          on : (x : Bool) → not x ≡ false → x ≡ true
-          on true u = refl
-          on false u = absurd (false≢true (sym u))
+          agrees-all : T (agreeOn atoms (take n p) o)
+          agrees-all = subst T (sym (agreed ∙ not-false a t)) tt
 
-    pub state-size : length (take (n - 0) (drop 0 p)) ≡ n
-    state-size = ap length cut ∙ length-take-le n p (omega (arith, w .few))
+          same-on : (f : ℕ) → T (branching P f) → atomHolds (take n p) f ≡ atomHolds o f
+          same-on f b =
+              beq-same (atomHolds (take n p) f) (atomHolds o f)
+              (all-at (λ g. Bool·beq (atomHolds (take n p) g) (atomHolds o g)) agrees-all (subst (λ (l : List ℕ). f ∈ l) (sym (w .listed)) (branching-listed P (w .formed) f b)))
 
--- ---- the model, from the undisputed part of the start
-module _ {book rows overridden atoms : List ℕ} {layer n : ℕ} (w : Searchable book rows overridden atoms layer n) (o : Interpretation)
-    (rejects : List ℕ) (g : RejectedMasks book rows overridden o rejects (rowCount rows)) (start : List Bool) (d : Denied atoms o start)
-    (assumed : List Bool) (u : Undisputed rejects start assumed) (p q : List Bool) (c : Bool) (filled : Fills book rows rejects assumed p q c) where
+          found : T (stable P (take n p))
+          found =
+              uncontested-stable (w .formed) (w .table) (k .masks) (setting-start (k .denied)) (k .before .undisputed .among) (k .before .undisputed .clear) (k .before .follows) (k .filled) refl (take n p) size kept same-on
+              (subst (λ (x : Interpretation). Uncontested book rows rejects x early (rowCount rows)) cut (er (not-true r tr)))
+
+-- ---- the filling from the undisputed part of the start
+module _ {book rows rejects : List ℕ} {start assumed : List Bool} (u : Undisputed rejects start assumed) {p q : List Bool} {c : Bool} (filled : Fills book rows rejects assumed p q c) where
   pub conflict-fills : c ≡ true → Fills book rows rejects start p q c
   conflict-fills e = fills-wider (u .among) filled (λ f. absurd (true≢false (sym e ∙ f)))
 
-  module _ (k : Bool) (ek : k ≡ true → Covered atoms start q (length atoms)) (tk : not k ≡ false) where
-    over : (f : ℕ) → T (atomHolds start f) → T (atomHolds q f)
-    over = covered-start atoms start q d (ek (not-false k tk))
+  pub early-marks : Early book rows rejects start q
+  unfolding literalMarked
+  early-marks = record { assumed = assumed; undisputed = u; follows = λ f t. filled .sound (negative f) t }
 
-    pub covered-fills : Fills book rows rejects start p q c
-    covered-fills = fills-wider (u .among) filled (λ e. over)
+  -- where it comes to mark the rest of the start it is the filling from all of it
+  pub covered-candidate : {overridden atoms : List ℕ} {o : Interpretation} → RejectedMasks book rows overridden o rejects (rowCount rows) → Denied atoms o start → (k : Bool) → (k ≡ true → Covered atoms start q (length atoms)) → k ≡ true → c ≡ false
+      → Candidate book rows overridden rejects atoms o p q
+  covered-candidate {overridden} {atoms} g d k ek tk e = record {
+    masks = g;
+    start = start;
+    denied = d;
+    before = early-marks;
+    negations = q;
+    filled = subst (λ (x : Bool). Fills book rows rejects start p q x) e (fills-wider (u .among) filled (λ z. covered-start atoms start q d (ek tk)));
+  }
 
-    pub model-uncontested : (l : length p ≡ 256) (e : c ≡ false) (a : Bool) → a ≡ agreeOn atoms (take (n - 0) (drop 0 p)) o → not a ≡ false
-        → (r : Bool) → (r ≡ false → Uncontested book rows rejects (take (n - 0) (drop 0 p)) q (rowCount rows)) → not r ≡ true → atSetting (programOf book layer) atoms o ≡ consIf true (take n p) []
-    unfolding agreeOn atomHolds
-    model-uncontested l e a ea t r er tr =
-        model-tested w o rejects g start d p q c covered-fills l e a ea t true (sym (passed (stable P (take (n - 0) (drop 0 p))) (subst (λ (x : Interpretation). T (stable P x)) (sym cut) found)))
-      where
-        P : Program
-        P = programOf book layer
-
-        cut : take (n - 0) (drop 0 p) ≡ take n p
-        cut = let z : n - 0 ≡ n = omega arith in ap (λ (k : ℕ). take k p) z
-
-        size : length (take n p) ≡ P .atoms
-        size = length-take-le n p (omega (arith, w .few)) ∙ w .size
-
-        agrees-all : T (agreeOn atoms (take n p) o)
-        agrees-all = subst T (sym (ap (λ (s : List Bool). agreeOn atoms s o) (sym cut) ∙ sym ea ∙ not-false a t)) tt
-
-        same-on : (f : ℕ) → T (branching P f) → atomHolds (take n p) f ≡ atomHolds o f
-        same-on f b =
-            beq-same (atomHolds (take n p) f) (atomHolds o f)
-            (all-at (λ g. Bool·beq (atomHolds (take n p) g) (atomHolds o g)) agrees-all (subst (λ (l : List ℕ). f ∈ l) (sym (w .listed)) (branching-listed P (w .formed) f b)))
-
-        kept : (f : ℕ) → f < P .atoms → atomHolds (take n p) f ≡ atomHolds p f
-        kept f h = getD-take n p f false (subst (λ (k : ℕ). f < k) (sym (w .size)) h)
-
-        found : T (stable P (take n p))
-        found =
-            uncontested-stable (w .formed) (w .table) g (setting-start w o rejects g start d p q c covered-fills) (u .among) (u .clear) filled e over (take n p) size kept same-on
-            (subst (λ (x : Interpretation). Uncontested book rows rejects x q (rowCount rows)) cut (er (not-true r tr)))
+-- the filling from all of the start
+pub filled-candidate : {book rows overridden rejects atoms : List ℕ} {o : Interpretation} {start early p q : List Bool} {c : Bool} → RejectedMasks book rows overridden o rejects (rowCount rows) → Denied atoms o start → Early book rows rejects start early
+    → Fills book rows rejects start p q c → c ≡ false → Candidate book rows overridden rejects atoms o p early
+filled-candidate {book} {rows} {overridden} {rejects} {atoms} {o} {start} {early} {p} {q} {c} g d b filled e = record {
+  masks = g;
+  start = start;
+  denied = d;
+  before = b;
+  negations = q;
+  filled = subst (λ (x : Bool). Fills book rows rejects start p q x) e filled;
+}

@@ -1,16 +1,18 @@
 -- What is worked out once a call, before the search: the table of the rules and the branching facts; and what a setting of these
 -- assumes. Assumes nothing.
 use mathlib.Core.Path.{_≡_}
-use mathlib.Core.Bool.{Bool, not}
+use mathlib.Core.Bool.{Bool, false, not}
 use mathlib.Core.List.{List, List·Memᴰ}
 use Prim.Native.Nat.{ℕ, _<_, _≤_}
 use lib.Dec.{T}
 use lib.ListN.{length, getD}
 use Rattle.base.specs.Bounds.{maxAtoms, maxRules, maxBranching}
-use Rattle.models.specs.StableModels.{Interpretation, atomHolds, WellFormed}
+use Rattle.models.specs.StableModels.{Interpretation, atomHolds, negative, WellFormed}
 use Rattle.models.specs.Branching.{branchingAtoms}
 use Rattle.table.specs.Rows.{rowCount}
 use Rattle.table.specs.Table.{programOf, Tabulates}
+use Rattle.filling.specs.Marks.{FollowsFrom, Fills}
+use Rattle.tester.specs.Masks.{RejectedMasks}
 
 pub record Searchable (book rows overridden atoms : List ℕ) (layer n : ℕ) : Type 0 where
   pub formed : WellFormed (programOf book layer)
@@ -35,3 +37,19 @@ pub record Undisputed (rejects : List ℕ) (start assumed : List Bool) : Type 0 
 -- of the first n atoms, those that the start has are marked
 abbrev pub Covered : List ℕ → List Bool → List Bool → ℕ → Type 0
 Covered atoms start q n = (i : ℕ) → i < n → T (atomHolds start (getD atoms i 0)) → T (atomHolds q (getD atoms i 0))
+
+-- Negations that are reached before anything disputed is assumed: they follow from a part of the start of whose facts no rule is
+-- rejected.
+pub record Early (book rows rejects : List ℕ) (start early : List Bool) : Type 0 where
+  pub assumed : List Bool
+  pub undisputed : Undisputed rejects start assumed
+  pub follows : (f : ℕ) → T (atomHolds early f) → FollowsFrom book rows rejects assumed (negative f)
+
+-- The only state that can be stable at a setting: the facts that are reached from all that the setting denies, without a conflict.
+pub record Candidate (book rows overridden rejects atoms : List ℕ) (setting : Interpretation) (state early : List Bool) : Type 0 where
+  pub masks : RejectedMasks book rows overridden setting rejects (rowCount rows)
+  pub start : List Bool
+  pub denied : Denied atoms setting start
+  pub before : Early book rows rejects start early
+  pub negations : List Bool
+  pub filled : Fills book rows rejects start state negations false

@@ -13,7 +13,7 @@ ghost use Rattle.tester.specs.Masks.{RejectedMasks};
 ghost use Rattle.setting.specs.Setting.{settingOf};
 ghost use Rattle.setting.specs.RuleMasks.{RuleMasks};
 ghost use Rattle.nogoods.specs.Nogoods.{Nogoods};
-ghost use Rattle.search.specs.Searchable.{Searchable, Denied, Undisputed, Covered};
+ghost use Rattle.search.specs.Searchable.{Searchable, Denied, Undisputed, Covered, Early, Candidate};
 ghost use Rattle.search.specs.Decided.{Decided};
 use base::wide;
 use filling::fill;
@@ -132,8 +132,40 @@ fn agrees(atoms: &[u8], state: &[bool], setting: &[bool]) -> bool
     true
 }
 
-// The stable model of a setting, if there is one, from all that the setting denies. What follows is the only state that can be; it
-// has to agree with the setting, or it would be found under two settings, and to pass the test.
+// The stable model of a setting, if the only state that can be one is. It has to agree with the setting, or it would be found under two
+// settings. Then it needs no further test where no rejected rule is contested.
+fn decide(
+    book: &[u8],
+    layer: usize,
+    rows: &[u16],
+    overridden: &[u32],
+    rejects: &[u32],
+    atoms: &[u8],
+    n: usize,
+    setting: [bool; 256],
+    state: [bool; 256],
+    early: &[bool],
+    hints: &mut [u16],
+) -> Found
+    requires { ⌜ Searchable (now book) (now rows) (now overridden) (now atoms) layer n ⌝ }
+    requires { ⌜ Candidate (now book) (now rows) (now overridden) (now rejects) (now atoms) setting state (now early) ⌝ }
+    requires { ⌜ length (now hints) ≡ 2048 ⌝ }
+    ensures { λ r. ⌜ atSetting (programOf (now (book .entry)) layer) (now (atoms .entry)) setting ≡ consIf (r .ok) (take n (r .state)) [] ⌝ }
+{
+    if !agrees(atoms, &state[0..n], &setting) {
+        return Found { ok: false, state };
+    }
+    if !contested(book, rows, rejects, &state[0..n], early) {
+        return Found { ok: true, state };
+    }
+    Found {
+        ok: is_stable(book, rows, overridden, layer, &state[0..n], n, hints),
+        state,
+    }
+}
+
+// The stable model of a setting, if there is one, from all that the setting denies: where filling meets no conflict, the facts that
+// are reached are the only state that can be one.
 fn model_from(
     book: &[u8],
     layer: usize,
@@ -144,87 +176,100 @@ fn model_from(
     n: usize,
     setting: [bool; 256],
     start: [bool; 256],
-    watched: &mut [u16],
+    early: &[bool],
+    hints: &mut [u16],
 ) -> Found
     requires { ⌜ Searchable (now book) (now rows) (now overridden) (now atoms) layer n ⌝ }
     requires { ⌜ RejectedMasks (now book) (now rows) (now overridden) setting (now rejects) (rowCount (now rows)) ⌝ }
     requires { ⌜ Denied (now atoms) setting start ⌝ }
-    requires { ⌜ length (now watched) ≡ 1024 ⌝ }
+    requires { ⌜ Early (now book) (now rows) (now rejects) start (now early) ⌝ }
+    requires { ⌜ length (now hints) ≡ 2048 ⌝ }
     ensures { λ r. ⌜ atSetting (programOf (now (book .entry)) layer) (now (atoms .entry)) setting ≡ consIf (r .ok) (take n (r .state)) [] ⌝ }
 {
-    let marks = fill(book, rows, rejects, start, watched);
+    let marks = fill(book, rows, rejects, start, hints);
     let state = marks.positive;
     if marks.conflict {
         return Found { ok: false, state };
     }
-    if !agrees(atoms, &state[0..n], &setting) {
-        return Found { ok: false, state };
-    }
-    Found {
-        ok: is_stable(book, rows, overridden, layer, &state[0..n], n),
+    decide(
+        book,
+        layer,
+        rows,
+        overridden,
+        rejects,
+        atoms,
+        n,
+        setting,
         state,
-    }
+        early,
+        hints,
+    )
 }
 
-// The stable model of a setting, if there is one. Filling starts from the undisputed part of what the setting denies. Where that
-// comes to mark the rest, what follows is the only state that can be, and where no rejected rule is contested it needs no further
-// test.
+// The stable model of a setting, if there is one. Filling starts from the undisputed part of what the setting denies: the negations
+// that are reached early, before anything disputed is assumed. Where they come to be all that the setting denies, it need not be
+// filled again.
 pub fn model_at(
     book: &[u8],
     layer: usize,
     rows: &[u16],
     overridden: &[u32],
+    rejects: &[u32],
     atoms: &[u8],
     n: usize,
     setting: [bool; 256],
-    watched: &mut [u16],
+    hints: &mut [u16],
 ) -> Found
     requires { ⌜ Searchable (now book) (now rows) (now overridden) (now atoms) layer n ⌝ }
-    requires { ⌜ length (now watched) ≡ 1024 ⌝ }
+    requires { ⌜ RejectedMasks (now book) (now rows) (now overridden) setting (now rejects) (rowCount (now rows)) ⌝ }
+    requires { ⌜ length (now hints) ≡ 2048 ⌝ }
     ensures { λ r. ⌜ atSetting (programOf (now (book .entry)) layer) (now (atoms .entry)) setting ≡ consIf (r .ok) (take n (r .state)) [] ⌝ }
 {
-    let rejects = rejected_masks(book, rows, overridden, &setting);
     let start = denied(atoms, setting);
     let marks = fill(
         book,
         rows,
-        &rejects,
-        undisputed(atoms, start, &rejects),
-        watched,
+        rejects,
+        undisputed(atoms, start, rejects),
+        hints,
     );
     let state = marks.positive;
     if marks.conflict {
         return Found { ok: false, state };
     }
-    if !covers(atoms, &start, &marks.negative) {
-        return model_from(
+    if covers(atoms, &start, &marks.negative) {
+        return decide(
             book,
             layer,
             rows,
             overridden,
-            &rejects,
+            rejects,
             atoms,
             n,
             setting,
-            start,
-            watched,
+            state,
+            &marks.negative,
+            hints,
         );
     }
-    if !agrees(atoms, &state[0..n], &setting) {
-        return Found { ok: false, state };
-    }
-    if !contested(book, rows, &rejects, &state[0..n], &marks.negative) {
-        return Found { ok: true, state };
-    }
-    Found {
-        ok: is_stable(book, rows, overridden, layer, &state[0..n], n),
-        state,
-    }
+    model_from(
+        book,
+        layer,
+        rows,
+        overridden,
+        rejects,
+        atoms,
+        n,
+        setting,
+        start,
+        &marks.negative,
+        hints,
+    )
 }
 
 // A stable model is met: it is counted, and the part keeps its record if it is among the least that fit.
 pub fn meet(state: [bool; 256], n: usize, part: &mut [u8], v: Visit) -> Visit
-    requires { ⌜ (0 < n) × (n ≤ 256) × Kept n v (now part) × (v .count < 4294967296) × (stopped v ≡ false) ⌝ }
+    requires { ⌜ (n ≤ 256) × Kept n v (now part) × (v .count < 4294967296) × (stopped v ≡ false) ⌝ }
     ensures { λ r. ⌜ Met n (take n state) v (now (part .entry)) r (now (part .exit)) ⌝ }
 {
     let goal = v.goal;
@@ -249,23 +294,26 @@ pub fn visit_setting(
     atoms: &[u8],
     n: usize,
     standing: u32,
-    watched: &mut [u16],
+    hints: &mut [u16],
     part: &mut [u8],
     v: Visit,
 ) -> Visit
     requires { ⌜ Searchable (now book) (now rows) (now overridden) (now atoms) layer n × Kept n v (now part) × (v .count < 4294967296) × (stopped v ≡ false) ⌝ }
-    requires { ⌜ length (now watched) ≡ 1024 ⌝ }
+    requires { ⌜ length (now hints) ≡ 2048 ⌝ }
     ensures { λ r. ⌜ Searched n (atSetting (programOf (now (book .entry)) layer) (now (atoms .entry)) (settingOf (now (atoms .entry)) standing)) v (now (part .entry)) r (now (part .exit)) ⌝ }
 {
+    let setting = setting_of(atoms, standing);
+    let rejects = rejected_masks(book, rows, overridden, &setting);
     let found = model_at(
         book,
         layer,
         rows,
         overridden,
+        &rejects,
         atoms,
         n,
-        setting_of(atoms, standing),
-        watched,
+        setting,
+        hints,
     );
     let state = found.state;
     if found.ok {
@@ -276,7 +324,7 @@ pub fn visit_setting(
 
 // Goes through the settings of the undecided branching facts, each at most once, and visits the stable model of each setting, if
 // there is one. `atoms` has all branching facts; of those decided so far, `standing` has the bits of those that stand and `denied`
-// the bits of the others; `watched` keeps the literals that the rules watch from one filling to the next.
+// the bits of the others; `hints` is what one filling leaves for the next.
 // Where no rule can reach a fact that stands, or a nogood is decided, no setting of the others has a stable model, and none is gone
 // through.
 pub fn search(
@@ -291,13 +339,13 @@ pub fn search(
     n: usize,
     standing: u32,
     denied: u32,
-    watched: &mut [u16],
+    hints: &mut [u16],
     part: &mut [u8],
     v: Visit,
 ) -> Visit
     requires { ⌜ Searchable (now book) (now rows) (now overridden) (now atoms) layer n × Kept n v (now part) × (v .count + 2 ^ length (now undecided) ≤ 4294967296) × RuleMasks (now book) (now rows) (now atoms) (now masks) × Decided (now atoms) (now undecided) (settingOf (now atoms) standing) standing denied ⌝ }
     requires { ⌜ Nogoods (now book) (now rows) (now overridden) (now atoms) (now nogoods) (length (now nogoods) / 2) ⌝ }
-    requires { ⌜ length (now watched) ≡ 1024 ⌝ }
+    requires { ⌜ length (now hints) ≡ 2048 ⌝ }
     ensures { λ r. ⌜ Searched n (foundBy (atSetting (programOf (now (book .entry)) layer) (now (atoms .entry))) (now (undecided .entry)) (settingOf (now (atoms .entry)) standing)) v (now (part .entry)) r (now (part .exit)) ⌝ }
 {
     if stops(v) {
@@ -318,7 +366,7 @@ pub fn search(
             atoms,
             n,
             standing,
-            watched,
+            hints,
             part,
             v,
         );
@@ -337,7 +385,7 @@ pub fn search(
         n,
         standing,
         denied | bit,
-        watched,
+        hints,
         part,
         v,
     );
@@ -353,7 +401,7 @@ pub fn search(
         n,
         standing | bit,
         denied,
-        watched,
+        hints,
         part,
         half,
     )

@@ -40,6 +40,7 @@ fn candidate_stable(book: &[u8], layer: usize, lower: [u32; 32], candidate: &[u8
     let mut rows: [u16; 4096] = [0; 4096];
     let mut overridden: [u32; 1024] = [0; 1024];
     let count = prepare(book, layer, lower, &mut rows, &mut overridden);
+    let mut hints: [u16; 2048] = [0; 2048];
     is_stable(
         book,
         &rows[0..4 * count],
@@ -47,6 +48,7 @@ fn candidate_stable(book: &[u8], layer: usize, lower: [u32; 32], candidate: &[u8
         layer,
         &m[0..n],
         n,
+        &mut hints,
     )
 }
 

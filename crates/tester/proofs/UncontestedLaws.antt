@@ -1,6 +1,6 @@
--- Marks that were filled from negations of which no fact has a rejected rule, and that come to hold all that a setting denies: where
--- they agree with the setting and no rejected row is contested, their facts are a stable model, as a second filling from the defaults
--- would come to the same marks. Used by the search. Assumes nothing.
+-- What is filled from all that a setting denies, beside marks that were filled from those alone of whose facts no rule is rejected:
+-- where the facts agree with the setting and no rejected row is contested by the second marks, the facts are a stable model, as a
+-- filling from the defaults would come to the same. Used by the search. Assumes nothing.
 use mathlib.Core.Path.{_≡_, refl, sym, ap, subst, _∙_}
 use mathlib.Core.Bool.{Bool, true, false, not, _&&_, _||_, true≢false, false≢true}
 use mathlib.Core.List.{List}
@@ -49,9 +49,10 @@ module _ {book rows rejects : List ℕ} {assumed start : List Bool} (under : (f 
 module _ {P : Program} {book rows overridden rejects : List ℕ} {o : Interpretation} {assumed start : List Bool} (lw : WellFormed P) (w : Tabulates P book rows overridden)
     (g : RejectedMasks book rows overridden o rejects (rowCount rows)) (s : SettingStart P o start)
     (under : (f : ℕ) → T (atomHolds assumed f) → T (atomHolds start f)) (clear : (f : ℕ) → T (atomHolds assumed f) → getD rejects f 0 ≡ 0)
-    {p q : List Bool} {c : Bool} (filled : Fills book rows rejects assumed p q c) (quiet : c ≡ false) (over : (f : ℕ) → T (atomHolds start f) → T (atomHolds q f))
+    {q₁ : List Bool} (early : (f : ℕ) → T (atomHolds q₁ f) → FollowsFrom book rows rejects assumed (negative f))
+    {p q : List Bool} {c : Bool} (filled : Fills book rows rejects start p q c) (quiet : c ≡ false)
     (m : Interpretation) (size : length m ≡ P .atoms) (kept : (f : ℕ) → f < P .atoms → atomHolds m f ≡ atomHolds p f)
-    (same : (f : ℕ) → T (branching P f) → atomHolds m f ≡ atomHolds o f) (free : Uncontested book rows rejects m q (rowCount rows)) where
+    (same : (f : ℕ) → T (branching P f) → atomHolds m f ≡ atomHolds o f) (free : Uncontested book rows rejects m q₁ (rowCount rows)) where
   flipped : (f : ℕ) → T (branching P f) → atomHolds o f ≡ atomHolds m f
   flipped f t = sym (same f t)
 
@@ -61,20 +62,20 @@ module _ {P : Program} {book rows overridden rejects : List ℕ} {o : Interpreta
   marked-holds f false h t = subst T (sym (kept f h)) t
   marked-holds f true h t = not-T (atomHolds m f) (λ u. filled .apart quiet (positive f) (subst T (kept f h) u) t)
 
-  follows-lt : (l : Literal) → FollowsFrom book rows rejects assumed l → l .atom < P .atoms
-  follows-lt l (from-start f t) = s .sound f (under f t) .0
+  follows-lt : (l : Literal) → FollowsFrom book rows rejects start l → l .atom < P .atoms
+  follows-lt l (from-start f t) = s .sound f t .0
   follows-lt l (by-row r k a below) = lw .heads r (in-rule w r k)
 
-  follows-holds : (l : Literal) → FollowsFrom book rows rejects assumed l → T (holds m l)
+  follows-holds : (l : Literal) → FollowsFrom book rows rejects start l → T (holds m l)
   follows-holds l x = marked-holds (l .atom) (l .negated) (follows-lt l x) (filled .full quiet l x)
 
-  -- what a body asks follows where it holds: its negated atoms branch, so they are among those that came to be marked
-  holds-follows : (f : ℕ) (b : Bool) → f < P .atoms → (b ≡ true → T (branching P f)) → T (holds m (record { atom = f; negated = b })) → FollowsFrom book rows rejects assumed (record { atom = f; negated = b })
+  -- what a body asks follows where it holds: its negated atoms branch, so they are among those of the start
+  holds-follows : (f : ℕ) (b : Bool) → f < P .atoms → (b ≡ true → T (branching P f)) → T (holds m (record { atom = f; negated = b })) → FollowsFrom book rows rejects start (record { atom = f; negated = b })
   unfolding literalMarked holds signed
   holds-follows f false h k t = filled .sound (positive f) (subst T (kept f h) t)
-  holds-follows f true h k t = filled .sound (negative f) (over f (s .full f h (k refl) (subst (λ (x : Bool). T (not x)) (same f (k refl)) t)))
+  holds-follows f true h k t = from-start f (s .full f h (k refl) (subst (λ (x : Bool). T (not x)) (same f (k refl)) t))
 
-  body-follows : (r : Rule) → r ∈ P .rules → T (bodyHolds m r) → (l : Literal) → l ∈ r .body → FollowsFrom book rows rejects assumed l
+  body-follows : (r : Rule) → r ∈ P .rules → T (bodyHolds m r) → (l : Literal) → l ∈ r .body → FollowsFrom book rows rejects start l
   unfolding bodyHolds
   body-follows r k t l i =
       holds-follows (l .atom) (l .negated) (lw .bodies r k l i) (λ e. branch P lw r k l i (subst (λ (x : Bool). T (x || canReject P r)) (sym e) tt)) (all-at (holds m) t i)
@@ -117,35 +118,39 @@ module _ {P : Program} {book rows overridden rejects : List ℕ} {o : Interpreta
           passed (alive rejects r)
           (not-T (eqb (bitOf x (r .layer)) 1) (λ t. zero-bit x (r .layer) (ap (λ (l : Literal). getD rejects (nameOf l) 0) e ∙ clear f a) (eqb→eq (bitOf x (r .layer)) 1 t)))
 
-  -- of an atom whose negation is not marked no rejected rule is contested
-  unmarked-default : (f : ℕ) → T (not (atomHolds m f)) → atomHolds q f ≡ false → T (default P m f)
+  -- of an atom whose negation is not marked early no rejected rule is contested
+  unmarked-default : (f : ℕ) → T (not (atomHolds m f)) → atomHolds q₁ f ≡ false → T (default P m f)
   unmarked-default f n nq =
       unsupported f n
       (λ r k e t y.
       let x : (j : ℕ) × (j < rowCount rows) × (rowAt book rows j ≡ r) = row-of book rows r (rule-in w r k) in
       free .each (x .0) (x .1) (ap (alive rejects) (x .2) ∙ y) (subst (λ (z : Rule). T (bodyHolds m z)) (sym (x .2)) t) f (ap (λ (z : Rule). z .head) (x .2) ∙ e) nq)
 
-  -- what follows is derived
-  follows-derived : (l : Literal) → FollowsFrom book rows rejects assumed l → Derived P m l
-  follows-derived l (from-start f t) =
-      let v : (f < P .atoms) × T (branching P f) × T (not (atomHolds o f)) = s .sound f (under f t) in
-      by-default f (v .0) (assumed-default f t (subst (λ (x : Bool). T (not x)) (flipped f (v .1)) (v .2)))
-  follows-derived l (by-row r k a below) =
+  -- what follows is derived, if the negations that it starts from are
+  follows-derived : {st : List Bool} → ((f : ℕ) → T (atomHolds st f) → Derived P m (negative f)) → (l : Literal) → FollowsFrom book rows rejects st l → Derived P m l
+  follows-derived x l (from-start f t) = x f t
+  follows-derived x l (by-row r k a below) =
       by-rule r (in-rule w r k)
       (not-T (rejected P m r) (λ d. T-not (rejected P o r) (alive-unrejected w g r (in-rule w r k) a) (rejected-same P lw m o same r (in-rule w r k) d)))
-      (λ x i. follows-derived x (below x i))
+      (λ y i. follows-derived x y (below y i))
 
-  -- what m denies is marked, and then it follows, or it is a default
+  -- what the setting denies m denies
+  start-denied : (f : ℕ) → T (atomHolds start f) → (f < P .atoms) × T (not (atomHolds m f))
+  start-denied f t = let v : (f < P .atoms) × T (branching P f) × T (not (atomHolds o f)) = s .sound f t in (v .0, subst (λ (x : Bool). T (not x)) (flipped f (v .1)) (v .2))
+
+  assumed-derived : (f : ℕ) → T (atomHolds assumed f) → Derived P m (negative f)
+  assumed-derived f t = let v : (f < P .atoms) × T (not (atomHolds m f)) = start-denied f (under f t) in by-default f (v .0) (assumed-default f t (v .1))
+
+  -- what m denies is marked early, and then it follows, or it is a default
   denied-derived : (f : ℕ) → f < P .atoms → T (not (atomHolds m f)) → Derived P m (negative f)
-  unfolding literalMarked
-  denied-derived f h t = go (atomHolds q f) refl
+  denied-derived f h t = go (atomHolds q₁ f) refl
     where
-      go : (b : Bool) → atomHolds q f ≡ b → Derived P m (negative f)
-      go true e = follows-derived (negative f) (filled .sound (negative f) (subst T (sym e) tt))
+      go : (b : Bool) → atomHolds q₁ f ≡ b → Derived P m (negative f)
+      go true e = follows-derived assumed-derived (negative f) (early f (subst T (sym e) tt))
       go false e = by-default f h (unmarked-default f t e)
 
   -- a fact that follows has a rule whose body holds
-  supports : (l : Literal) → FollowsFrom book rows rejects assumed l → l .negated ≡ false → T (any (λ r. sameLiteral (r .head) l && bodyHolds m r) (P .rules))
+  supports : (l : Literal) → FollowsFrom book rows rejects start l → l .negated ≡ false → T (any (λ r. sameLiteral (r .head) l && bodyHolds m r) (P .rules))
   unfolding bodyHolds
   supports l (from-start f t) e = absurd (false≢true (sym e))
   supports l (by-row r k a below) e =
@@ -165,7 +170,7 @@ module _ {P : Program} {book rows overridden rejects : List ℕ} {o : Interpreta
 
   holds-derived : (f : ℕ) (b : Bool) → f < P .atoms → T (holds m (record { atom = f; negated = b })) → Derived P m (record { atom = f; negated = b })
   unfolding holds signed
-  holds-derived f false h t = follows-derived (positive f) (holds-follows f false h (λ e. absurd (false≢true e)) t)
+  holds-derived f false h t = follows-derived (λ x u. let v : (x < P .atoms) × T (not (atomHolds m x)) = start-denied x u in denied-derived x (v .0) (v .1)) (positive f) (holds-follows f false h (λ e. absurd (false≢true e)) t)
   holds-derived f true h t = denied-derived f h t
 
   pub uncontested-stable : T (stable P m)

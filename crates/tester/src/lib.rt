@@ -145,7 +145,7 @@ fn marks_agree<'a>(positive: &'a [bool], negative: &'a [bool], m: &[bool], n: us
     true
 }
 
-// Whether an interpretation is a stable model of the program that the rows and masks tabulate.
+// Whether an interpretation is a stable model of the program that the rows and masks tabulate. `hints` is what an earlier filling left.
 pub fn is_stable(
     book: &[u8],
     rows: &[u16],
@@ -153,12 +153,14 @@ pub fn is_stable(
     layer: usize,
     m: &[bool],
     n: usize,
+    hints: &mut [u16],
 ) -> bool
     requires { ⌜ WellFormed (programOf (now book) layer) ⌝ }
     requires { ⌜ Tabulates (programOf (now book) layer) (now book) (now rows) (now overridden) ⌝ }
     requires { ⌜ n ≡ programOf (now book) layer .atoms ⌝ }
     requires { ⌜ n ≤ 256 ⌝ }
     requires { ⌜ length (now m) ≡ n ⌝ }
+    requires { ⌜ length (now hints) ≡ 2048 ⌝ }
     ensures { λ r. ⌜ r ≡ stable (programOf (now (book .entry)) layer) (now (m .entry)) ⌝ }
 {
     let rejects = rejected_masks(book, rows, overridden, m);
@@ -167,8 +169,7 @@ pub fn is_stable(
     if support.violated {
         return false;
     }
-    let mut watched: [u16; 1024] = [0; 1024];
-    let marks = fill(book, rows, &rejects, defaults_of(atoms, n), &mut watched);
+    let marks = fill(book, rows, &rejects, defaults_of(atoms, n), hints);
     if marks.conflict {
         return false;
     }

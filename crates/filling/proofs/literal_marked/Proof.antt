@@ -1,47 +1,42 @@
--- The sign is the top bit of the two bytes: set, the second array has the mark.
-use mathlib.Core.Path.{_∙_}
-use Rattle.filling.proofs.MarkLaws.{negated-marked, plain-marked}
+-- A first byte with more than the sign in it names a fact past both arrays. Else the second byte is the fact, and the sign says which
+-- array has the mark.
+use Rattle.filling.proofs.MarkLaws.{marked-past, negated-marked, plain-marked}
 use borrow.Author.Needs.{needs}
+use native.Mathlib.Omega.{arith}
 use Rattle.filling.proofs.literal_marked.Statement.{statement}
 use Rattle.filling.proofs.literal_marked.Tie as tie
+
+returns : tie.Need-returns
+returns c =
+    let s = c .before .before .before in
+    marked-past (s .args .positive .now) (s .args .negative .now) (s .pre) (s .args .a) (s .args .b) (search needs) (search needs)
 
 wide-requires : tie.Need-wide-requires
 wide-requires c κs = search needs
 
-mul-v : tie.Need-mul-v
-mul-v c = search needs
+shared-slice-read-fact : tie.Need-shared-slice-read-fact
+shared-slice-read-fact c = search needs
 
-wide-requires-2 : tie.Need-wide-requires-2
-wide-requires-2 c κs = search needs
-
-add-v : tie.Need-add-v
-add-v c = search needs
-
-atom-holds-requires : tie.Need-atom-holds-requires
-atom-holds-requires c κs = search needs
-
-atom-holds-requires-2 : tie.Need-atom-holds-requires-2
-atom-holds-requires-2 c κs = search needs
-
-returns : tie.Need-returns
-returns c =
-    let e = c .before .before .before .before .before .before .before .args in
-    rw (c .before .before .before .before .wide .ensures .0, c .before .before .before .wide2 .ensures .0) at (c .before .atom-holds2 .ensures) ∙ negated-marked (e .positive .now) (e .negative .now) (e .a) (e .b) (search needs)
+shared-slice-read-negation : tie.Need-shared-slice-read-negation
+shared-slice-read-negation c = search needs
 
 returns-2 : tie.Need-returns-2
 returns-2 c =
-    let e = c .before .before .before .before .before .before .before .args in
-    rw (c .before .before .before .before .wide .ensures .0, c .before .before .before .wide2 .ensures .0) at (c .before .before .atom-holds .ensures) ∙ plain-marked (e .positive .now) (e .negative .now) (e .a) (e .b) (search needs)
+    let s = c .before .before .before .before .before .before .before in
+    rw (c .before .before .before .wide .ensures .0) (negated-marked (s .args .positive .now) (s .args .negative .now) (s .pre) (s .args .a) (s .args .b) (search needs) (search needs) (search needs) (search needs))
+
+returns-3 : tie.Need-returns-3
+returns-3 c =
+    let s = c .before .before .before .before .before .before .before in
+    rw (c .before .before .before .wide .ensures .0) (plain-marked (s .args .positive .now) (s .args .negative .now) (s .pre) (s .args .a) (s .args .b) (search needs) (search needs) (search needs))
 
 pub literal-marked-spec : {M : Type 1} → statement M
 literal-marked-spec =
     tie.close
     (tie.spec
-    wide-requires
-    mul-v
-    wide-requires-2
-    add-v
-    atom-holds-requires
-    atom-holds-requires-2
     returns
-    returns-2)
+    wide-requires
+    shared-slice-read-fact
+    shared-slice-read-negation
+    returns-2
+    returns-3)

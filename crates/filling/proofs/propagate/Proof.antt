@@ -1,26 +1,35 @@
 -- Every turn that marks marks what follows (`settle`), and no other touches the marks; the turns left fall.
 use mathlib.Core.Path.{_≡_}
+use mathlib.Core.Logic.{⊎-elim}
 use Prim.Native.Nat.{_/_, _≤_}
 use lib.ListN.{length, length-set}
-use Rattle.filling.proofs.GrowingLaws.{grown-both}
+use Rattle.filling.proofs.GrowingLaws.{grown-none, grown-both}
 use Rattle.filling.proofs.WaitingLaws.{Turn}
 use borrow.Author.Needs.{needs}
 use Rattle.filling.proofs.propagate.Statement.{statement}
 use Rattle.filling.proofs.propagate.Tie as tie
 
 abbrev Inv-loop : tie.InvT-loop
-Inv-loop book rows rejects positive₀ negative₀ watched₀ count links₀ names₀ top₀ fresh₀ node₀ turns₀ positive negative watched links names top fresh node turns =
-    (count ≡ length rows / 4) × (count ≤ 1024) × Turn book rows rejects positive₀ negative₀ positive negative links watched names top
+Inv-loop book rows rejects positive₀ negative₀ hints₀ count links₀ names₀ top₀ fresh₀ node₀ turns₀ positive negative hints links names top fresh node turns =
+    (count ≡ length rows / 4) × (count ≤ 1024) × Turn book rows rejects positive₀ negative₀ positive negative links hints names top
 
 abbrev μ-loop : tie.MeasureT-loop
-μ-loop book rows rejects positive₀ negative₀ watched₀ count links₀ names₀ top₀ fresh₀ node₀ turns₀ positive negative watched links names top fresh node turns =
+μ-loop book rows rejects positive₀ negative₀ hints₀ count links₀ names₀ top₀ fresh₀ node₀ turns₀ positive negative hints links names top fresh node turns =
     turns
 
 returns : tie.Need-returns Inv-loop μ-loop
 returns c = search needs
 
+slice-read-if2 : tie.Need-slice-read-if2 Inv-loop μ-loop
+slice-read-if2 c = search needs
+
+slice-write-hints : tie.Need-slice-write-hints Inv-loop μ-loop
+slice-write-hints c = search needs
+
 loop-holds : tie.Need-loop-holds Inv-loop μ-loop
-loop-holds c = search needs
+loop-holds c =
+    let s = c .before .before .before .before .before .before .before .before .before in
+    (search needs, search needs, record { grown = grown-none _ _; size = s .pre .1 .1 .0; lists = (search needs, ⊎-elim (λ w. rw (w .1) (simp length-set (s .pre .1 .1 .1))) (λ w. rw (w .1) (s .pre .1 .1 .1)) (c .if2 .came), search needs); room = search needs })
 
 sub-turns : tie.Need-sub-turns Inv-loop μ-loop
 sub-turns c = search needs
@@ -51,7 +60,7 @@ slice-aggregate-settle c = search needs
 
 settle-requires : tie.Need-settle-requires Inv-loop μ-loop
 settle-requires c κs =
-    let s = c .before .before .before .before .before .before .before .before .before .before .before .before .before .before .before .before in
+    let s = c .before .before .before .before .before .before .before .before .before .before .before .before .before .before .before .before .before .before in
     let l = c .before .before .before .before .before .before .before .before .loop in
     (s .pre .0, (s .pre .1 .0, (l .inv .2 .size, (search needs, search needs))))
 
@@ -161,6 +170,8 @@ propagate-spec =
     Inv-loop
     μ-loop
     returns
+    slice-read-if2
+    slice-write-hints
     loop-holds
     sub-turns
     same-length

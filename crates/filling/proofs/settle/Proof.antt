@@ -1,4 +1,5 @@
--- Only the last call marks anything, and it marks what follows.
+-- Only the trial of the head marks anything, and it marks what follows.
+use native.Mathlib.Omega.{arith}
 use borrow.Author.Needs.{needs}
 use Rattle.filling.proofs.settle.Statement.{statement}
 use Rattle.filling.proofs.settle.Tie as tie
@@ -51,6 +52,9 @@ returns-3 c = search needs
 add-head-requires : tie.Need-add-head-requires
 add-head-requires c κs = let s = c .before .before .before .before .before .before .before .before .before .before .before .before .before .before .before .before .before .before .before .before .before .before .before .before .before .before .before in (s .pre .0, (s .pre .1 .0, (s .pre .1 .1 .0, search needs)))
 
+remember-requires : tie.Need-remember-requires
+remember-requires c κs = search (needs, c .before .before .before .before .before .before .before .before .before .before .before .before .hints, c .before .before .before .before .before .before .before .before .before .before .before .before .before .before .before .before .before .before .before .before .before .before .before .before .before .before .before .before .before .before .before .before .before .before .pre .1 .1 .1 .0)
+
 same-length-9 : tie.Need-same-length-9
 same-length-9 c = search needs
 
@@ -65,6 +69,21 @@ same-length-12 c = search needs
 
 returns-4 : tie.Need-returns-4
 returns-4 c = search needs
+
+same-length-13 : tie.Need-same-length-13
+same-length-13 c = search needs
+
+same-length-14 : tie.Need-same-length-14
+same-length-14 c = search needs
+
+same-length-15 : tie.Need-same-length-15
+same-length-15 c = search needs
+
+same-length-16 : tie.Need-same-length-16
+same-length-16 c = search needs
+
+returns-5 : tie.Need-returns-5
+returns-5 c = search needs
 
 pub settle-spec : {M : Type 1} → statement M
 settle-spec =
@@ -86,8 +105,14 @@ settle-spec =
     same-length-8
     returns-3
     add-head-requires
+    remember-requires
     same-length-9
     same-length-10
     same-length-11
     same-length-12
-    returns-4)
+    returns-4
+    same-length-13
+    same-length-14
+    same-length-15
+    same-length-16
+    returns-5)

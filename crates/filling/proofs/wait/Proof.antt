@@ -92,14 +92,14 @@ shared-slice-read-waiting-name-2 c =
 waiting-name-requires : tie.Need-waiting-name-requires
 waiting-name-requires c κs = search needs
 
-cast-watched : tie.Need-cast-watched
-cast-watched c = search needs
+cast-hints : tie.Need-cast-hints
+cast-hints c = search needs
 
-mul-watched : tie.Need-mul-watched
-mul-watched c = search needs
+mul-hints : tie.Need-mul-hints
+mul-hints c = search needs
 
-slice-write-watched : tie.Need-slice-write-watched
-slice-write-watched c = search needs
+slice-write-hints : tie.Need-slice-write-hints
+slice-write-hints c = search needs
 
 mul-links : tie.Need-mul-links
 mul-links c = search needs
@@ -168,9 +168,9 @@ wait-spec =
     add-waiting-name-3
     shared-slice-read-waiting-name-2
     waiting-name-requires
-    cast-watched
-    mul-watched
-    slice-write-watched
+    cast-hints
+    mul-hints
+    slice-write-hints
     mul-links
     slice-read-links
     add-links

@@ -24,7 +24,7 @@ add-standing : tie.Need-add-standing
 add-standing c = search needs
 
 insert-state-requires : tie.Need-insert-state-requires
-insert-state-requires c κs = let p = c .before .before .before .before .before .before .before .pre in (p .1, p .2 .whole)
+insert-state-requires c κs = let p = c .before .before .before .before .before .before .before .pre in (p .0, p .1 .whole)
 
 add-t9 : tie.Need-add-t9
 add-t9 c = search needs
@@ -38,7 +38,7 @@ returns c =
     let s = w .before .before .before .before .before in
     let a = s .args in
     record {
-      going = s .pre .4;
+      going = s .pre .3;
       goal = refl;
       atom = refl;
       count = refl;

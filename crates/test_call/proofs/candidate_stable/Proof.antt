@@ -54,19 +54,22 @@ part-is-stable-start-3 c = search needs
 part-is-stable-end-3 : tie.Need-part-is-stable-end-3
 part-is-stable-end-3 c = omega (arith, c .before .before .before .before .before .before .before .before .before .before .before .before .before .pre .1 .1 .1 .0 .1)
 
+slice-aggregate-is-stable : tie.Need-slice-aggregate-is-stable
+slice-aggregate-is-stable c = search needs
+
 is-stable-requires : tie.Need-is-stable-requires
 is-stable-requires c κs =
-    let e = c .before .before .before .before .before .before .before .before .before .before .before .before .before .before .args in
-    let h = c .before .before .before .before .before .before .before .before .before .before .before .before .before .before .pre in
-    let m = c .before .before .before .before .before .before .before .before .before .before .before .read-candidate in (
+    let e = c .before .before .before .before .before .before .before .before .before .before .before .before .before .before .before .args in
+    let h = c .before .before .before .before .before .before .before .before .before .before .before .before .before .before .before .pre in
+    let m = c .before .before .before .before .before .before .before .before .before .before .before .before .read-candidate in (
       accepted-formed (e .book .now) (h .0) (e .layer),
-      (lent-table (c .before .before .before .before .before .before .before .before .prepare .ensures), (program-atoms (e .book .now) (e .layer) (e .n) (h .1 .1 .1 .0 .0), (h .1 .1 .1 .0 .1, lent-size (e .n) (e .candidate .now) (m .result) (m .ensures)))),
+      (lent-table (c .before .before .before .before .before .before .before .before .before .prepare .ensures), (program-atoms (e .book .now) (e .layer) (e .n) (h .1 .1 .1 .0 .0), (h .1 .1 .1 .0 .1, (lent-size (e .n) (e .candidate .now) (m .result) (m .ensures), search needs)))),
     )
 
 returns : tie.Need-returns
 returns c =
-    let e = c .before .before .before .before .before .before .before .before .before .before .before .before .before .before .before .args in
-    c .is-stable .ensures ∙ ap (λ (m : Interpretation). stable (programOf (e .book .now) (e .layer)) m) (lent-state (e .n) (e .candidate .now) (c .before .before .before .before .before .before .before .before .before .before .before .before .read-candidate .result) (c .before .before .before .before .before .before .before .before .before .before .before .before .read-candidate .ensures))
+    let e = c .before .before .before .before .before .before .before .before .before .before .before .before .before .before .before .before .before .args in
+    c .before .is-stable .ensures ∙ ap (λ (m : Interpretation). stable (programOf (e .book .now) (e .layer)) m) (lent-state (e .n) (e .candidate .now) (c .before .before .before .before .before .before .before .before .before .before .before .before .before .before .read-candidate .result) (c .before .before .before .before .before .before .before .before .before .before .before .before .before .before .read-candidate .ensures))
 
 pub candidate-stable-spec : {M : Type 1} → statement M
 candidate-stable-spec =
@@ -86,5 +89,6 @@ candidate-stable-spec =
     sub-is-stable-3
     part-is-stable-start-3
     part-is-stable-end-3
+    slice-aggregate-is-stable
     is-stable-requires
     returns)

@@ -17,8 +17,8 @@ supported-requires c κs = search needs
 
 returns : tie.Need-returns
 returns c =
-    let h = c .before .before .before .before .before .before .before .before .before .pre in
-    violated-unstable (h .1 .0) (c .before .before .before .before .rejected-masks .ensures) (h .0) (h .1 .1 .1 .1 ∙ h .1 .1 .0) (c .before .before .supported .ensures .violation (c .if1 .taken))
+    let h = c .before .before .before .before .before .before .before .before .before .before .pre in
+    violated-unstable (h .1 .0) (c .before .before .before .before .rejected-masks .ensures) (h .0) (h .1 .1 .1 .1 .0 ∙ h .1 .1 .0) (c .before .before .supported .ensures .violation (c .if1 .taken))
 
 slice-aggregate-fill : tie.Need-slice-aggregate-fill
 slice-aggregate-fill c = search needs
@@ -26,24 +26,27 @@ slice-aggregate-fill c = search needs
 defaults-of-requires : tie.Need-defaults-of-requires
 defaults-of-requires c κs = search needs
 
-slice-aggregate-fill-2 : tie.Need-slice-aggregate-fill-2
-slice-aggregate-fill-2 c = search needs
-
 fill-requires : tie.Need-fill-requires
 fill-requires c κs = search needs
 
+same-length : tie.Need-same-length
+same-length c = search needs
+
 returns-2 : tie.Need-returns-2
 returns-2 c =
-    let h = c .before .before .before .before .before .before .before .before .before .before .before .before .before .before .before .pre in
-    conflict-unstable (h .1 .0) (c .before .before .before .before .before .before .before .before .before .before .rejected-masks .ensures) (h .0) (h .1 .1 .0) (h .1 .1 .1 .0) (c .before .before .before .before .before .before .before .before .supported .ensures .support (c .before .before .before .before .before .before .if1 .left)) (c .before .before .before .before .defaults-of .ensures) (c .before .before .fill .ensures) (h .1 .1 .1 .1) (c .if2 .taken)
+    let h = c .before .before .before .before .before .before .before .before .before .before .before .before .before .before .before .before .before .pre in
+    conflict-unstable (h .1 .0) (c .before .before .before .before .before .before .before .before .before .before .before .rejected-masks .ensures) (h .0) (h .1 .1 .0) (h .1 .1 .1 .0) (c .before .before .before .before .before .before .before .before .before .supported .ensures .support (c .before .before .before .before .before .before .before .if1 .left)) (c .before .before .before .before .before .defaults-of .ensures) (c .before .before .before .fill .ensures) (h .1 .1 .1 .1 .0) (c .if2 .taken)
 
 marks-agree-requires : tie.Need-marks-agree-requires
 marks-agree-requires c κs = search needs
 
+same-length-2 : tie.Need-same-length-2
+same-length-2 c = search needs
+
 returns-3 : tie.Need-returns-3
 returns-3 c =
-    let h = c .before .before .before .before .before .before .before .before .before .before .before .before .before .before .before .before .before .before .before .before .before .pre in
-    agree-stable (h .1 .0) (c .before .before .before .before .before .before .before .before .before .before .before .before .before .before .before .before .rejected-masks .ensures) (h .0) (h .1 .1 .0) (h .1 .1 .1 .0) (c .before .before .before .before .before .before .before .before .before .before .before .before .before .before .supported .ensures .support (c .before .before .before .before .before .before .before .before .before .before .before .before .if1 .left)) (c .before .before .before .before .before .before .before .before .before .before .defaults-of .ensures) (c .before .before .before .before .before .before .before .before .fill .ensures) (h .1 .1 .1 .1) (c .before .before .before .before .before .before .if2 .left) (c .marks-agree .result) (c .marks-agree .ensures)
+    let h = c .before .before .before .before .before .before .before .before .before .before .before .before .before .before .before .before .before .before .before .before .before .before .before .pre in
+    agree-stable (h .1 .0) (c .before .before .before .before .before .before .before .before .before .before .before .before .before .before .before .before .before .rejected-masks .ensures) (h .0) (h .1 .1 .0) (h .1 .1 .1 .0) (c .before .before .before .before .before .before .before .before .before .before .before .before .before .before .before .supported .ensures .support (c .before .before .before .before .before .before .before .before .before .before .before .before .before .if1 .left)) (c .before .before .before .before .before .before .before .before .before .before .before .defaults-of .ensures) (c .before .before .before .before .before .before .before .before .before .fill .ensures) (h .1 .1 .1 .1 .0) (c .before .before .before .before .before .before .if2 .left) (c .marks-agree .result) (c .marks-agree .ensures)
 
 pub is-stable-spec : {M : Type 1} → statement M
 is-stable-spec =
@@ -55,8 +58,9 @@ is-stable-spec =
     returns
     slice-aggregate-fill
     defaults-of-requires
-    slice-aggregate-fill-2
     fill-requires
+    same-length
     returns-2
     marks-agree-requires
+    same-length-2
     returns-3)
