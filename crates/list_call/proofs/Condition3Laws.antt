@@ -19,7 +19,7 @@ use Rattle.base.proofs.Rising.{Rising, filter-rising}
 use Rattle.format.specs.Book.{u16At, u32At}
 use Rattle.insertion.specs.Runs.{bytesBefore, Wide}
 use Rattle.insertion.proofs.ByteOrder.{bytes-asym}
-use Rattle.insertion.proofs.RunLaws.{flat-at, flat-length}
+use Rattle.insertion.proofs.RunLaws.{flat-at}
 use Rattle.insertion.proofs.SortedLaws.{getD-member}
 use Rattle.models.specs.Program.{Program, programAt}
 use Rattle.models.specs.StableModels.{Interpretation, stable, WellFormed}
@@ -27,7 +27,7 @@ use Rattle.models.specs.Branching.{branchingCount}
 use Rattle.models.specs.Listing.{interpretations, stableModels, recordSize, recordOf, be16, be32, listingOf, listing}
 use Rattle.models.proofs.InterpretationLaws.{_⊏_, interpretations-rising, interpretations-length, interpretations-has}
 use Rattle.models.proofs.LeastLaws.{stable-sound, stable-complete}
-use Rattle.models.proofs.RecordLaws.{record-length, listing-length}
+use Rattle.models.proofs.RecordLaws.{record-length, records-length, listing-length}
 use Rattle.models.proofs.ListingLaws.{stableModels-length, listings-decide}
 use Rattle.records.proofs.OrderLaws.{record-rises}
 use Rattle.book.specs.Causes.{Test, firstOf}
@@ -123,7 +123,7 @@ record-place n ms rest i h =
     let w : ℕ = recordSize n in
     let rs : List (List ℕ) = map (recordOf n) ms in
     let wide : Wide (recordSize n) (map (recordOf n) ms) = λ r k. sized r (Memᴰ·of-map (recordOf n) ms k) in
-    let l : length (flat (map (recordOf n) ms)) ≡ length ms * recordSize n = flat-length (recordSize n) (map (recordOf n) ms) wide ∙ ap (λ (k : ℕ). k * recordSize n) (length-map ms (recordOf n)) in
+    let l : length (flat (map (recordOf n) ms)) ≡ length ms * recordSize n = records-length n ms in
     let s : suc i * recordSize n ≤ length ms * recordSize n = mul-le-mul-right (recordSize n) h in
     let e : suc i * recordSize n ≡ recordSize n + i * recordSize n = omega arith in
     let d : drop (i * recordSize n) (flat (map (recordOf n) ms) ++ rest) ≡ drop (i * recordSize n) (flat (map (recordOf n) ms)) ++ rest = drop-append-le (i * recordSize n) (flat (map (recordOf n) ms)) rest (omega arith) in

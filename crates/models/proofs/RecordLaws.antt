@@ -96,7 +96,7 @@ listing-same n i ms os p a b f g e =
     let h : n ≡ i = listing-facts n i ms os a b e in
     (h, records-same n p ms os f (λ m k. g m k ∙ sym h) (listing-records n i ms os e ∙ ap (λ (j : ℕ). flat (map (recordOf j) os)) (sym h)))
 
-records-length : (n : ℕ) (ms : List Interpretation) → length (flat (map (recordOf n) ms)) ≡ length ms * recordSize n
+pub records-length : (n : ℕ) (ms : List Interpretation) → length (flat (map (recordOf n) ms)) ≡ length ms * recordSize n
 unfolding flat
 records-length n [] = omega arith
 records-length n (m ∷ ms) =

@@ -2,7 +2,7 @@
 -- records. Assumes nothing.
 use mathlib.Core.Path.{_≡_, refl, sym, ap, subst, _∙_}
 use mathlib.Core.Bool.{Bool, false}
-use mathlib.Core.List.{List, _++_, map, append-nil}
+use mathlib.Core.List.{List, [], _∷_, _++_, map, append-nil}
 use Prim.Native.Nat.{ℕ, _+_, _*_, _^_, _≤_}
 use native.Mathlib.Nat.{pow-le-pow-right}
 use native.Mathlib.Omega.{arith}
@@ -14,6 +14,7 @@ use Rattle.models.specs.Program.{Program}
 use Rattle.models.specs.StableModels.{Interpretation, stable, WellFormed}
 use Rattle.models.specs.Branching.{branchingAtoms, branchingCount}
 use Rattle.models.specs.Listing.{stableModels, recordSize, recordOf}
+use Rattle.models.proofs.RecordLaws.{records-length}
 use Rattle.records.specs.Written.{sorted}
 use Rattle.records.proofs.OrderLaws.{sorted-length, sorted-listed}
 use Rattle.records.proofs.RoomLaws.{whole-gap}
@@ -30,6 +31,10 @@ use Rattle.search.specs.Searchable.{Searchable}
 use Rattle.search.proofs.FoundLaws.{found-stable, stable-found, found-once, found-count}
 use Rattle.search.proofs.VisitLaws.{visits-goal, visits-count, visits-standing, visits-least}
 use Rattle.passes.specs.Tallied.{searched, Tallied}
+
+pub empty : {A : Type 0} (l : List A) → length l ≡ 0 → l ≡ []
+empty [] e = refl
+empty (x ∷ l) e = absurd (omega arith)
 
 unset : length (replicate {A = Bool} 256 false) ≡ 256
 unset = length-replicate {A = Bool} 256 false
@@ -110,6 +115,10 @@ module _ {book rows overridden atoms : List ℕ} {layer n : ℕ} (w : Searchable
           pass-written (length (stableModels P)) h e (omega (arith, sorted-length n (s .seen), ap length all-sorted))
           ∙ ap (λ (l : List Interpretation). flat (map (recordOf n) (take (length (stableModels P)) l))) all-sorted
           ∙ ap (λ (l : List Interpretation). flat (map (recordOf n) l)) (take-length (stableModels P))
+
+-- a part without room is all the records, if it has just the room for them
+pub none-written : (n : ℕ) (ms : List Interpretation) (part : List ℕ) → length part ≡ length ms * recordSize n → length part ≡ 0 → part ≡ flat (map (recordOf n) ms)
+none-written n ms part e z = empty part z ∙ sym (empty (flat (map (recordOf n) ms)) (records-length n ms ∙ sym e ∙ z))
 
 -- a pass that never stops early has met them all
 pub tallied-all : (P : Program) → WellFormed P → P .atoms ≤ maxAtoms → (atom count standing : ℕ) → Tallied P All atom count standing → count ≡ length (stableModels P)

@@ -22,7 +22,7 @@ use Rattle.search.specs.Visits.{reaches}
 use Rattle.search.proofs.FoundLaws.{found-stable, stable-found}
 use Rattle.passes.specs.Limit.{hasNoStableState}
 use Rattle.passes.specs.Tallied.{searched, Tallied}
-use Rattle.passes.proofs.PassLaws.{searched-length}
+use Rattle.passes.proofs.PassLaws.{empty, searched-length}
 
 -- ---- the list of the stable models, and the inductive definition
 module _ (P : Program) where
@@ -66,10 +66,6 @@ unfolding reaches
 none-reaches All = refl
 none-reaches First = refl
 none-reaches Settle = refl
-
-empty : (ms : List Interpretation) → length ms ≡ 0 → ms ≡ []
-empty [] e = refl
-empty (m ∷ ms) e = absurd (omega arith)
 
 module _ (P : Program) (w : WellFormed P) (few : P .atoms ≤ maxAtoms) where
   pub searched-from : (m : Interpretation) → m ∈ searched P → StableModel P m

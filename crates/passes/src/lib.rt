@@ -143,7 +143,8 @@ pub fn tally(
     }
 }
 
-// Writes the records of all stable models, rising, into a part that has just the room for them.
+// Writes the records of all stable models, rising, into a part that has just the room for them. Where it has none there are none, and
+// nothing is searched.
 pub fn write_all(
     book: &[u8],
     layer: usize,
@@ -157,6 +158,9 @@ pub fn write_all(
     requires { ⌜ length (now part) ≡ length (stableModels (programOf (now book) layer)) * recordSize n ⌝ }
     ensures { λ _. ⌜ now (part .exit) ≡ flat (map (recordOf n) (stableModels (programOf (now (book .entry)) layer))) ⌝ }
 {
+    if part.len() == 0 {
+        return;
+    }
     pass(book, layer, rows, overridden, atoms, n, Goal::All, 0, part);
 }
 
