@@ -1,28 +1,24 @@
--- What the loops keep: the masks of what can be rejected, the masks of a body and of a row, and the entries made. Assumes nothing.
+-- What the loops keep: the masks of what can be rejected, the nogood of a row, and the entries made. Assumes nothing.
 use mathlib.Core.Path.{_≡_, refl, sym, ap, subst, _∙_}
-use mathlib.Core.Logic.{_⊎_, inl, inr, ⊎-elim}
 use mathlib.Core.Bool.{Bool, true, false, not, cond}
-use mathlib.Core.List.{List, List·Memᴰ·cases-cons, List·Memᴰ·not-nil}
-use Prim.Native.Nat.{ℕ, suc, _+_, _*_, _-_, _/_, _%_, _<_, _≤_}
+use mathlib.Core.List.{List}
+use Prim.Native.Nat.{ℕ, suc, _+_, _*_, _-_, _/_, _<_, _≤_}
 use native.Mathlib.Decide.{decLt}
 use native.Mathlib.Omega.{arith}
-use borrow.Author.Tests.{le-leb, lt-leb, not-false}
+use borrow.Author.Tests.{not-false}
 use lib.Bits.{bitOr}
-use lib.Dec.{T, leb}
-use lib.ListN.{length, getD, set, take, drop, length-set, replicate, length-replicate}
+use lib.Dec.{T}
+use lib.ListN.{length, getD, set, take, length-set, replicate, length-replicate}
 use lib.Seq.{getD-set-same, getD-set-other, getD-take, length-take-le}
-use Rattle.base.proofs.Members.{_∈_}
 use Rattle.layers.specs.Masks.{bitOf}
 use Rattle.layers.proofs.BitLaws.{or-left, or-right, some-bit}
-use Rattle.format.specs.Book.{Literal, literalOf, literalsOf}
-use Rattle.format.proofs.LiteralLaws.{literals-next, literals-none}
+use Rattle.format.specs.Book.{Literal}
 use Rattle.models.specs.StableModels.{positive, negative, complement}
 use Rattle.table.specs.Names.{literalNamed}
-use Rattle.table.specs.Rows.{rowCount, bodyStart, bodyBytes, headName, rowAt}
+use Rattle.table.specs.Rows.{rowCount, headName, rowAt}
 use Rattle.table.proofs.NameLaws.{name-low, name-high, one-name}
-use Rattle.table.proofs.RowLaws.{body-part}
 use Rattle.filling.specs.Marks.{alive}
-use Rattle.setting.specs.RuleMasks.{AtomBits}
+use Rattle.setting.specs.RuleMasks.{AtomBits, BodyMasked}
 use Rattle.setting.proofs.BitMaskLaws.{joined-keeps, joined-has}
 use Rattle.nogoods.specs.Nogoods.{Rejectable, Within, AllWithin, NogoodOf, Nogoods, NogoodsMade}
 
@@ -62,56 +58,14 @@ within-bit bits s d l c ec x ex n f =
     let b : (i : ℕ) × (bitOf x i ≡ 1) = some-bit (suc x) x (omega arith) (omega arith) in
     record { place = b .0; atom-bit = subst (λ (y : ℕ). bitOf y (b .0) ≡ 1) ex (b .1); bit = subst (λ (y : Bool). bitOf (cond y d s) (b .0) ≡ 1) (sym ec) (f (b .0) (b .1)) }
 
--- ---- a body: each literal is within the masks or not read yet
-pub record BodyTo (bits body : List ℕ) (i s d : ℕ) : Type 0 where
-  pub inside : i ≤ length body
-  pub read : (l : Literal) → l ∈ literalsOf body → Within bits s d l ⊎ l ∈ literalsOf (drop i body)
-
-pub body-start : (bits body : List ℕ) → BodyTo bits body 0 0 0
-body-start bits body = record { inside = omega arith; read = λ l k. inr k }
-
-module _ {bits body : List ℕ} {i s d : ℕ} (w : BodyTo bits body i s d) (h : 2 ≤ length body - i) (v : ℕ) (ev : v ≡ getD body i 0 * 256 + getD body (i + 1) 0)
-    (x : ℕ) (ex : x ≡ getD bits (v % 32768) 0) (n : x ≡ 0 → ⊥) where
-  abbrev here : Literal
-  here = literalOf (getD body i 0) (getD body (i + 1) 0)
-
-  here-bit : x ≡ getD bits (here .atom) 0
-  unfolding literalOf
-  here-bit = ex ∙ ap (λ (y : ℕ). getD bits (y % 32768) 0) ev
-
-  module _ (s′ d′ : ℕ) (f : (k : ℕ) → bitOf s k ≡ 1 → bitOf s′ k ≡ 1) (g : (k : ℕ) → bitOf d k ≡ 1 → bitOf d′ k ≡ 1) (new : Within bits s′ d′ here) where
-    body-more : BodyTo bits body (i + 2) s′ d′
-    body-more = record { inside = omega (arith, w .inside); read = λ l k. ⊎-elim (λ a. inl (within-wider bits s d s′ d′ f g l a)) (λ a. next l (List·Memᴰ·cases-cons (subst (λ (ls : List Literal). l ∈ ls) (literals-next body i h) a))) (w .read l k) }
-      where
-        next : (l : Literal) → (l ≡ here) ⊎ l ∈ literalsOf (drop (i + 2) body) → Within bits s′ d′ l ⊎ l ∈ literalsOf (drop (i + 2) body)
-        next l (inl e) = inl (subst (Within bits s′ d′) (sym e) new)
-        next l (inr k) = inr k
-
-  pub body-negated : 32768 ≤ v → BodyTo bits body (i + 2) s (bitOr d x)
-  unfolding literalOf
-  body-negated b =
-      body-more s (bitOr d x) (λ k z. z) (λ k z. or-left d x k z)
-      (within-bit bits s (bitOr d x) here true (ap (λ (y : ℕ). leb 32768 y) (sym ev) ∙ le-leb 32768 v b) x here-bit n (λ k z. or-right d x k z))
-
-  pub body-plain : v < 32768 → BodyTo bits body (i + 2) (bitOr s x) d
-  unfolding literalOf
-  body-plain b =
-      body-more (bitOr s x) d (λ k z. or-left s x k z) (λ k z. z)
-      (within-bit bits (bitOr s x) d here false (ap (λ (y : ℕ). leb 32768 y) (sym ev) ∙ lt-leb 32768 v b) x here-bit n (λ k z. or-right s x k z))
-
-pub body-end : {bits body : List ℕ} {i s d : ℕ} → BodyTo bits body i s d → length body - i < 2 → AllWithin bits s d (literalsOf body)
-body-end {bits} {body} {i} {s} {d} w h l k = ⊎-elim (λ a. a) (λ a. absurd (List·Memᴰ·not-nil (subst (λ (ls : List Literal). l ∈ ls) (literals-none body i h) a))) (w .read l k)
-
 -- ---- a row
-module _ (book rows rejectable bits : List ℕ) (j : ℕ) (bj : j < rowCount rows) (from to : ℕ) (ef : from ≡ bodyStart rows j) (et : to ≡ bodyBytes rows j) (s d : ℕ) (whole : Bool)
-    (eb : whole ≡ true → AllWithin bits s d (literalsOf (take (from + to - from) (drop from book)))) (a : Bool) (ea : a ≡ alive rejectable (rowAt book rows j)) (ta : not a ≡ false)
-    (h : ℕ) (eh : h ≡ headName rows j) where
+module _ (book rows rejectable bits : List ℕ) (j : ℕ) (bj : j < rowCount rows) {s d : ℕ} {whole : Bool} (m : BodyMasked bits (rowAt book rows j .body) s d whole)
+    (a : Bool) (ea : a ≡ alive rejectable (rowAt book rows j)) (ta : not a ≡ false) (h : ℕ) (eh : h ≡ headName rows j) where
   lives : T (alive rejectable (rowAt book rows j))
   lives = subst T (sym (sym ea ∙ not-false a ta)) tt
 
   body-within : whole ≡ true → AllWithin bits s d (rowAt book rows j .body)
-  unfolding rowAt
-  body-within t = subst (λ (p : List ℕ). AllWithin bits s d (literalsOf p)) (body-part book rows j from to ef et) (eb t)
+  body-within t l k = let b : (i : ℕ) × (bitOf (getD bits (l .atom) 0) i ≡ 1) = m .all-have t l k in record { place = b .0; atom-bit = b .1; bit = m .full l k (b .0) (b .1) }
 
   pub nogood-plain : h < 256 → (x : ℕ) → x ≡ getD bits h 0 → (x ≡ 0 → ⊥) → whole ≡ true → NogoodOf book rows rejectable bits j s (bitOr d x)
   unfolding rowAt complement

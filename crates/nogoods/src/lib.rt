@@ -5,15 +5,12 @@ ghost use mathlib.Core.Bool.{true};
 ghost use Prim.Native.Nat.{_/_, _<_, _≤_};
 ghost use lib.ListN.{length};
 ghost use Rattle.base.specs.Bounds.{maxBranching};
-ghost use Rattle.format.specs.Book.{literalsOf};
 ghost use Rattle.table.specs.Rows.{rowCount, RowsBounded, RowsFit};
-ghost use Rattle.setting.specs.RuleMasks.{AtomBits};
-ghost use Rattle.nogoods.specs.Nogoods.{Rejectable, AllWithin, NogoodOf, NogoodsMade, Met};
-use base::wide;
-use base::wide16;
+ghost use Rattle.nogoods.specs.Nogoods.{Rejectable, NogoodOf, NogoodsMade, Met};
 use filling::row_alive;
 use setting::atom_bits;
 use setting::bits_of;
+use setting::row_masks;
 use table::opposite;
 use table::row_head;
 
@@ -41,37 +38,6 @@ fn rejectable_masks(rows: &[u16], overridden: &[u32]) -> [u32; 512]
     rejectable
 }
 
-// The masks of a body's bytes: whole where all its atoms branch.
-fn body_nogood(bits: &[u32], body: &[u8]) -> Nogood
-    ensures { λ r. ⌜ (r .whole ≡ true → AllWithin (now (bits .entry)) (r .standing) (r .denied) (literalsOf (now (body .entry)))) ⌝ }
-{
-    let mut standing = 0;
-    let mut denied = 0;
-    let mut i: usize = 0;
-    while 2 <= body.len() - i {
-        let v = wide(body[i]) * 256 + wide(body[i + 1]);
-        let bit = bits_of(bits, v % 32768);
-        if bit == 0 {
-            return Nogood {
-                standing,
-                denied,
-                whole: false,
-            };
-        }
-        if 32768 <= v {
-            denied = denied | bit;
-        } else {
-            standing = standing | bit;
-        }
-        i += 2;
-    }
-    Nogood {
-        standing,
-        denied,
-        whole: true,
-    }
-}
-
 // The nogood of a row: whole where nothing can reject the row and all its atoms branch.
 fn row_nogood(book: &[u8], rows: &[u16], rejectable: &[u32], bits: &[u32], j: usize) -> Nogood
     requires { ⌜ RowsFit (now book) (now rows) ⌝ }
@@ -79,11 +45,9 @@ fn row_nogood(book: &[u8], rows: &[u16], rejectable: &[u32], bits: &[u32], j: us
     requires { ⌜ j < rowCount (now rows) ⌝ }
     ensures { λ r. ⌜ (r .whole ≡ true → NogoodOf (now (book .entry)) (now (rows .entry)) (now (rejectable .entry)) (now (bits .entry)) j (r .standing) (r .denied)) ⌝ }
 {
-    let from = wide16(rows[4 * j]);
-    let to = from + wide16(rows[4 * j + 1]);
-    let body = body_nogood(bits, &book[from..to]);
-    let standing = body.standing;
-    let denied = body.denied;
+    let body = row_masks(book, rows, bits, j);
+    let standing = body.plain;
+    let denied = body.negated;
     let none = Nogood {
         standing: 0,
         denied: 0,

@@ -1,27 +1,28 @@
--- The masks of rules, as the loops make them, and the test of them. Assumes nothing.
+-- The masks of bodies and of rules, as the loops make them, and the test of them. Used by atom_bits, body_masks, row_masks, rule_masks
+-- and headed, and by the crates that take their masks. Assumes nothing.
 use mathlib.Core.Path.{_≡_, refl, sym, ap, subst, _∙_}
 use mathlib.Core.Logic.{_⊎_, inl, inr, ⊎-elim}
-use mathlib.Core.Bool.{Bool, true, false, Bool·beq, cond, false≢true, true≢false}
-use mathlib.Core.List.{List, [], _∷_, List·Memᴰ·head, List·Memᴰ·tail}
+use mathlib.Core.Bool.{Bool, true, false, cond, false≢true, true≢false}
+use mathlib.Core.List.{List, [], _∷_, _++_, append-assoc, append-nil, List·Memᴰ·head, List·Memᴰ·not-nil, List·Memᴰ·eq-of-singleton, List·Memᴰ·append-cases, Memᴰ·append-left, Memᴰ·append-right}
 use Prim.Native.Nat.{ℕ, suc, _+_, _*_, _-_, _/_, _%_, _^_, _<_, _≤_}
 use native.Mathlib.Decide.{decLt, ℕ-discrete}
 use native.Mathlib.Nat.{mul-one, div-eq-of-lt}
 use native.Mathlib.Omega.{arith}
-use borrow.Author.Tests.{leb-true}
-use lib.Bits.{bitAnd, bitOr}
+use borrow.Author.Tests.{le-leb, lt-leb}
+use lib.Bits.{bitOr}
 use lib.Dec.{leb}
 use lib.ListN.{length, getD, set, take, drop, length-set, replicate, length-replicate}
 use lib.Seq.{getD-set-same, getD-set-other, getD-take, length-take-le}
-use Rattle.base.specs.Bounds.{maxAtoms, maxRules}
 use Rattle.base.proofs.Members.{_∈_}
 use Rattle.layers.specs.Masks.{bitOf}
-use Rattle.layers.proofs.BitLaws.{no-bit, no-bits, or-cases, or-left, or-right}
-use Rattle.format.specs.Book.{Literal, Rule, literalOf, literalsOf}
-use Rattle.format.proofs.LiteralLaws.{literals-next}
-use Rattle.models.specs.StableModels.{positive, negative}
+use Rattle.layers.proofs.BitLaws.{no-bit, no-bits, zero-bit, some-bit, or-cases, or-left, or-right}
+use Rattle.format.specs.Book.{Literal, literalOf, literalsOf}
+use Rattle.format.proofs.LiteralLaws.{literals-next, literals-none}
+use Rattle.models.specs.StableModels.{positive}
 use Rattle.table.specs.Names.{literalNamed}
 use Rattle.table.specs.Rows.{rowCount, bodyStart, bodyBytes, headName, rowAt}
-use Rattle.setting.specs.RuleMasks.{AtomBits, BodyMask, RuleMask, headMask, MaskOf, MasksMade, RuleMasks, Open, Headed}
+use Rattle.table.proofs.RowLaws.{body-part}
+use Rattle.setting.specs.RuleMasks.{AtomBits, BodyMasked, RuleMask, headMask, MaskOf, MasksMade, RuleMasks, Open, Headed}
 use Rattle.setting.proofs.BitMaskLaws.{single, single-only, single-has, joined, joined-cases, joined-keeps, joined-has, or-absorbs}
 
 -- ---- the bits of the atoms
@@ -50,45 +51,126 @@ module _ (atoms bits : List ℕ) (i f : ℕ) (w : AtomBits atoms bits i) (e : f 
           let q : k ≡ i = omega arith in
           joined-has bits f (single i) (omega (arith, w .size)) (getD atoms k 0) k (ap (λ (x : ℕ). getD atoms x 0) q ∙ sym e) (subst (λ (x : ℕ). bitOf (single i) x ≡ 1) (sym q) (single-has i h))
 
--- ---- a body's mask
--- the literals from offset i on are literals of the body, and the mask has bits of its literals alone
-pub record Masking (bits body : List ℕ) (sign : Bool) (i mask : ℕ) : Type 0 where
+-- ---- a body's masks
+-- the literals read so far, those from offset i on, and the masks of the former
+pub record MaskedTo (bits body : List ℕ) (i plain negated : ℕ) (whole : Bool) : Type 0 where
   pub inside : i ≤ length body
-  pub later : (l : Literal) → l ∈ literalsOf (drop i body) → l ∈ literalsOf body
-  pub made : BodyMask bits body sign mask
+  pub read : List Literal
+  pub split : read ++ literalsOf (drop i body) ≡ literalsOf body
+  pub made : BodyMasked bits read plain negated whole
 
-pub masking-start : (bits body : List ℕ) (sign : Bool) → Masking bits body sign 0 0
-masking-start bits body sign = record { inside = omega arith; later = λ l k. k; made = λ i z. absurd (no-bit i z) }
+pub masked-start : (bits body : List ℕ) → MaskedTo bits body 0 0 0 true
+masked-start bits body = record {
+  inside = omega arith;
+  read = [];
+  split = refl;
+  made = record { sound = λ c i z. absurd (none c i z); full = λ l k. absurd (List·Memᴰ·not-nil k); all-have = λ t l k. absurd (List·Memᴰ·not-nil k) };
+}
+  where
+    none : (c : Bool) (i : ℕ) → bitOf (cond c 0 0) i ≡ 1 → ⊥
+    none true i z = no-bit i z
+    none false i z = no-bit i z
 
-module _ (bits body : List ℕ) (sign : Bool) (i mask : ℕ) (w : Masking bits body sign i mask) (h : 2 ≤ length body - i) where
-  rest : (l : Literal) → l ∈ literalsOf (drop (i + 2) body) → l ∈ literalsOf body
-  rest l k = w .later l (subst (λ (ls : List Literal). l ∈ ls) (sym (literals-next body i h)) (List·Memᴰ·tail k))
+-- masks p′ and n′ in place of p and n, for a literal more
+module _ (bits : List ℕ) (ls : List Literal) (here : Literal) (p n p′ n′ : ℕ) (w w′ : Bool) (m : BodyMasked bits ls p n w)
+    (kept : (c : Bool) (i : ℕ) → bitOf (cond c n p) i ≡ 1 → bitOf (cond c n′ p′) i ≡ 1)
+    (from : (c : Bool) (i : ℕ) → bitOf (cond c n′ p′) i ≡ 1 → (bitOf (cond c n p) i ≡ 1) ⊎ ((here .negated ≡ c) × (bitOf (getD bits (here .atom) 0) i ≡ 1)))
+    (has : (i : ℕ) → bitOf (getD bits (here .atom) 0) i ≡ 1 → bitOf (cond (here .negated) n′ p′) i ≡ 1)
+    (some : w′ ≡ true → (w ≡ true) × ((i : ℕ) × (bitOf (getD bits (here .atom) 0) i ≡ 1))) where
+  literal-more : BodyMasked bits (ls ++ (here ∷ [])) p′ n′ w′
+  literal-more = record {
+    sound = λ c i z. ⊎-elim
+        (λ a. let v = m .sound c i a in (v .0, Memᴰ·append-left (here ∷ []) (v .1), v .2, v .3))
+        (λ a. (here, Memᴰ·append-right ls (List·Memᴰ·head refl), a .0, a .1))
+        (from c i z);
+    full = λ l k i z. ⊎-elim
+        (λ a. kept (l .negated) i (m .full l a i z))
+        (λ a. let e : l ≡ here = List·Memᴰ·eq-of-singleton a in subst (λ (x : Literal). bitOf (cond (x .negated) n′ p′) i ≡ 1) (sym e) (has i (subst (λ (x : Literal). bitOf (getD bits (x .atom) 0) i ≡ 1) e z)))
+        (List·Memᴰ·append-cases ls k);
+    all-have = λ t l k. ⊎-elim
+        (λ a. m .all-have (some t .0) l a)
+        (λ a. subst (λ (x : Literal). (i : ℕ) × (bitOf (getD bits (x .atom) 0) i ≡ 1)) (sym (List·Memᴰ·eq-of-singleton a)) (some t .1))
+        (List·Memᴰ·append-cases ls k);
+  }
 
-  pub masking-pass : Masking bits body sign (i + 2) mask
-  masking-pass = record { inside = omega arith; later = rest; made = w .made }
+-- the literal at offset i, whose number is v and whose atom's bits are x
+module _ {bits body : List ℕ} {i p n : ℕ} {w : Bool} (m : MaskedTo bits body i p n w) (h : 2 ≤ length body - i) (v : ℕ) (ev : v ≡ getD body i 0 * 256 + getD body (i + 1) 0)
+    (x : ℕ) (ex : x ≡ getD bits (v % 32768) 0) where
+  abbrev here : Literal
+  here = literalOf (getD body i 0) (getD body (i + 1) 0)
 
-  module _ (v : ℕ) (ev : v ≡ getD body i 0 * 256 + getD body (i + 1) 0) (es : Bool·beq (leb 32768 v) sign ≡ true) (x : ℕ) (ex : x ≡ getD bits (v % 32768) 0) where
-    here : Literal
-    here = literalOf (getD body i 0) (getD body (i + 1) 0)
+  here-bits : x ≡ getD bits (here .atom) 0
+  unfolding literalOf
+  here-bits = ex ∙ ap (λ (y : ℕ). getD bits (y % 32768) 0) ev
 
-    beq-is : (a b : Bool) → Bool·beq a b ≡ true → a ≡ b
-    beq-is true true e = refl
-    beq-is true false e = absurd (false≢true e)
-    beq-is false true e = absurd (false≢true e)
-    beq-is false false e = refl
+  out : (k : ℕ) → bitOf x k ≡ 1 → bitOf (getD bits (here .atom) 0) k ≡ 1
+  out k z = subst (λ (y : ℕ). bitOf y k ≡ 1) here-bits z
 
-    pub masking-more : Masking bits body sign (i + 2) (bitOr mask x)
-    unfolding literalOf here
-    masking-more = record {
-      inside = omega arith;
-      later = rest;
-      made = λ k z. ⊎-elim (λ a. w .made k a) (λ a. (
-        here,
-        w .later here (subst (λ (ls : List Literal). here ∈ ls) (sym (literals-next body i h)) (List·Memᴰ·head refl)),
-        ap (λ (y : ℕ). leb 32768 y) (sym ev) ∙ beq-is (leb 32768 v) sign es,
-        subst (λ (y : ℕ). bitOf y k ≡ 1) (ex ∙ ap (λ (y : ℕ). getD bits (y % 32768) 0) ev) a,
-      )) (or-cases mask x k z);
-    }
+  back : (k : ℕ) → bitOf (getD bits (here .atom) 0) k ≡ 1 → bitOf x k ≡ 1
+  back k z = subst (λ (y : ℕ). bitOf y k ≡ 1) (sym here-bits) z
+
+  next : (p′ n′ : ℕ) (w′ : Bool) → BodyMasked bits (m .read ++ (here ∷ [])) p′ n′ w′ → MaskedTo bits body (i + 2) p′ n′ w′
+  next p′ n′ w′ made = record {
+    inside = omega (arith, m .inside);
+    read = m .read ++ (here ∷ []);
+    split = append-assoc (m .read) (here ∷ []) (literalsOf (drop (i + 2) body)) ∙ ap (λ (ls : List Literal). m .read ++ ls) (sym (literals-next body i h)) ∙ m .split;
+    made = made;
+  }
+
+  pub masked-none : x ≡ 0 → MaskedTo bits body (i + 2) p n false
+  masked-none e =
+      next p n false
+      (literal-more bits (m .read) here p n p n w false (m .made) (λ c k z. z) (λ c k z. inl z) (λ k z. absurd (zero-bit x k e (back k z))) (λ t. absurd (false≢true t)))
+
+  module _ (some : x ≡ 0 → ⊥) where
+    has-bit : (k : ℕ) × (bitOf (getD bits (here .atom) 0) k ≡ 1)
+    has-bit = let b : (k : ℕ) × (bitOf x k ≡ 1) = some-bit (suc x) x (omega arith) (omega arith) in (b .0, out (b .0) (b .1))
+
+    pub masked-negated : 32768 ≤ v → MaskedTo bits body (i + 2) p (bitOr n x) w
+    unfolding literalOf
+    masked-negated b = next p (bitOr n x) w (literal-more bits (m .read) here p n p (bitOr n x) w w (m .made) kept from has (λ t. (t, has-bit)))
+      where
+        sign : here .negated ≡ true
+        sign = ap (λ (y : ℕ). leb 32768 y) (sym ev) ∙ le-leb 32768 v b
+
+        kept : (c : Bool) (k : ℕ) → bitOf (cond c n p) k ≡ 1 → bitOf (cond c (bitOr n x) p) k ≡ 1
+        kept true k z = or-left n x k z
+        kept false k z = z
+
+        from : (c : Bool) (k : ℕ) → bitOf (cond c (bitOr n x) p) k ≡ 1 → (bitOf (cond c n p) k ≡ 1) ⊎ ((here .negated ≡ c) × (bitOf (getD bits (here .atom) 0) k ≡ 1))
+        from true k z = ⊎-elim (λ a. inl a) (λ a. inr (sign, out k a)) (or-cases n x k z)
+        from false k z = inl z
+
+        has : (k : ℕ) → bitOf (getD bits (here .atom) 0) k ≡ 1 → bitOf (cond (here .negated) (bitOr n x) p) k ≡ 1
+        has k z = subst (λ (c : Bool). bitOf (cond c (bitOr n x) p) k ≡ 1) (sym sign) (or-right n x k (back k z))
+
+    pub masked-plain : v < 32768 → MaskedTo bits body (i + 2) (bitOr p x) n w
+    unfolding literalOf
+    masked-plain b = next (bitOr p x) n w (literal-more bits (m .read) here p n (bitOr p x) n w w (m .made) kept from has (λ t. (t, has-bit)))
+      where
+        sign : here .negated ≡ false
+        sign = ap (λ (y : ℕ). leb 32768 y) (sym ev) ∙ lt-leb 32768 v b
+
+        kept : (c : Bool) (k : ℕ) → bitOf (cond c n p) k ≡ 1 → bitOf (cond c n (bitOr p x)) k ≡ 1
+        kept true k z = z
+        kept false k z = or-left p x k z
+
+        from : (c : Bool) (k : ℕ) → bitOf (cond c n (bitOr p x)) k ≡ 1 → (bitOf (cond c n p) k ≡ 1) ⊎ ((here .negated ≡ c) × (bitOf (getD bits (here .atom) 0) k ≡ 1))
+        from true k z = inl z
+        from false k z = ⊎-elim (λ a. inl a) (λ a. inr (sign, out k a)) (or-cases p x k z)
+
+        has : (k : ℕ) → bitOf (getD bits (here .atom) 0) k ≡ 1 → bitOf (cond (here .negated) n (bitOr p x)) k ≡ 1
+        has k z = subst (λ (c : Bool). bitOf (cond c n (bitOr p x)) k ≡ 1) (sym sign) (or-right p x k (back k z))
+
+pub masked-end : {bits body : List ℕ} {i p n : ℕ} {w : Bool} → MaskedTo bits body i p n w → length body - i < 2 → BodyMasked bits (literalsOf body) p n w
+masked-end {bits} {body} {i} {p} {n} {w} m h =
+    subst (λ (ls : List Literal). BodyMasked bits ls p n w) (sym (append-nil (m .read)) ∙ ap (λ (ls : List Literal). m .read ++ ls) (sym (literals-none body i h)) ∙ m .split) (m .made)
+
+-- a row's body, as the code cuts it
+pub row-masked : (book rows bits : List ℕ) (j from size : ℕ) → from ≡ bodyStart rows j → size ≡ bodyBytes rows j → (p n : ℕ) (w : Bool)
+    → BodyMasked bits (literalsOf (take (from + size - from) (drop from book))) p n w → BodyMasked bits (rowAt book rows j .body) p n w
+unfolding rowAt
+row-masked book rows bits j from size ef es p n w m = subst (λ (s : List ℕ). BodyMasked bits (literalsOf s) p n w) (body-part book rows j from size ef es) m
 
 -- ---- the masks of a rule
 name-plain : (h f : ℕ) → literalNamed h ≡ positive f → h ≡ f
@@ -99,23 +181,23 @@ name-plain h f e = go (leb 256 h) refl
     go true q = absurd (true≢false (sym q ∙ ap (λ (l : Literal). l .negated) e))
     go false q = sym (ap (λ (c : Bool). cond c (h - 256) h) q) ∙ ap (λ (l : Literal). l .atom) e
 
-module _ (book rows atoms bits : List ℕ) (j : ℕ) (w : AtomBits atoms bits (length atoms)) where
-  literal-at : (i : ℕ) (c : Bool) (l : Literal) → l .negated ≡ c → bitOf (getD bits (l .atom) 0) i ≡ 1 → l ≡ record { atom = getD atoms i 0; negated = c }
-  literal-at i c l e z = ap (λ (b : Bool). record { atom = l .atom; negated = b }) e ∙ ap (λ (f : ℕ). record { atom = f; negated = c }) (sym (w .sound (l .atom) i z .1))
+-- bits of atoms, as literals of the atoms
+pub mask-literal : {atoms bits : List ℕ} {body : List Literal} {plain negated : ℕ} {whole : Bool} → AtomBits atoms bits (length atoms) → BodyMasked bits body plain negated whole
+    → (sign : Bool) (i : ℕ) → bitOf (cond sign negated plain) i ≡ 1 → (i < length atoms) × record { atom = getD atoms i 0; negated = sign } ∈ body
+mask-literal {atoms} {body = body} w m sign i z =
+    let v = m .sound sign i z in
+    let b : (i < length atoms) × (getD atoms i 0 ≡ v .0 .atom) = w .sound (v .0 .atom) i (v .3) in
+    let e : v .0 ≡ record { atom = getD atoms i 0; negated = sign } = ap (λ (c : Bool). record { atom = v .0 .atom; negated = c }) (v .2) ∙ ap (λ (f : ℕ). record { atom = f; negated = sign }) (sym (b .1)) in
+    (b .0, subst (λ (l : Literal). l ∈ body) e (v .1))
 
-  pub rule-mask : (from to : ℕ) → from ≡ bodyStart rows j → to ≡ from + bodyBytes rows j → (plain negated h : ℕ) → BodyMask bits (take (to - from) (drop from book)) false plain
-      → BodyMask bits (take (to - from) (drop from book)) true negated → h ≡ headName rows j → RuleMask atoms (rowAt book rows j) plain negated (getD bits h 0)
-  unfolding rowAt
-  rule-mask from to ef et plain negated h mp mn eh = record {
-    plain-in = λ i z. let v = mp i z in subst (λ (l : Literal). l ∈ rowAt book rows j .body) (literal-at i false (v .0) (v .2) (v .3)) (placed (v .0) (v .1));
-    negated-in = λ i z. let v = mn i z in subst (λ (l : Literal). l ∈ rowAt book rows j .body) (literal-at i true (v .0) (v .2) (v .3)) (placed (v .0) (v .1));
-    head-in = λ i b e. subst (λ (f : ℕ). bitOf (getD bits f 0) i ≡ 1) (sym (eh ∙ name-plain (headName rows j) (getD atoms i 0) e)) (w .full i b);
-  }
-    where
-      placed : (l : Literal) → l ∈ literalsOf (take (to - from) (drop from book)) → l ∈ literalsOf (take (bodyBytes rows j) (drop (bodyStart rows j) book))
-      placed l k =
-          let q : to - from ≡ bodyBytes rows j = omega arith in
-          subst (λ (x : ℕ). l ∈ literalsOf (take x (drop (bodyStart rows j) book))) q (subst (λ (x : ℕ). l ∈ literalsOf (take (to - from) (drop x book))) ef k)
+pub rule-mask : (book rows : List ℕ) (j : ℕ) {atoms bits : List ℕ} {plain negated : ℕ} {whole : Bool} → AtomBits atoms bits (length atoms)
+    → BodyMasked bits (rowAt book rows j .body) plain negated whole → (h : ℕ) → h ≡ headName rows j → RuleMask atoms (rowAt book rows j) plain negated (getD bits h 0)
+unfolding rowAt
+rule-mask book rows j {atoms} {bits} w m h eh = record {
+  plain-in = λ i z. mask-literal w m false i z .1;
+  negated-in = λ i z. mask-literal w m true i z .1;
+  head-in = λ i b e. subst (λ (f : ℕ). bitOf (getD bits f 0) i ≡ 1) (sym (eh ∙ name-plain (headName rows j) (getD atoms i 0) e)) (w .full i b);
+}
 
 pub masks-start : (book rows atoms masks : List ℕ) → length masks ≡ 3072 → MasksMade book rows atoms masks 0 0
 masks-start book rows atoms masks e = record { size = e; room = omega arith; each = λ j i h. absurd (omega arith) }

@@ -1,14 +1,14 @@
 -- Rules as masks over the branching atoms, bit i for the i-th of them: what these atoms alone can say against a rule.
 -- Assumes nothing.
 use mathlib.Core.Path.{_≡_}
-use mathlib.Core.Bool.{Bool}
+use mathlib.Core.Bool.{Bool, true, cond}
 use mathlib.Core.List.{List, List·Memᴰ}
 use Prim.Native.Nat.{ℕ, _+_, _*_, _/_, _<_, _≤_}
 use lib.Bits.{bitAnd, bitOr}
 use lib.ListN.{length, getD}
 use Rattle.base.specs.Bounds.{maxAtoms, maxRules}
 use Rattle.layers.specs.Masks.{bitOf}
-use Rattle.format.specs.Book.{Literal, Rule, literalsOf}
+use Rattle.format.specs.Book.{Literal, Rule}
 use Rattle.models.specs.StableModels.{positive, negative}
 use Rattle.table.specs.Rows.{rowCount, rowAt}
 
@@ -18,9 +18,13 @@ pub record AtomBits (atoms bits : List ℕ) (n : ℕ) : Type 0 where
   pub sound : (f i : ℕ) → bitOf (getD bits f 0) i ≡ 1 → (i < n) × (getD atoms i 0 ≡ f)
   pub full : (i : ℕ) → i < n → bitOf (getD bits (getD atoms i 0) 0) i ≡ 1
 
--- a bit of the mask is one of a literal of these bytes, with this sign
-abbrev pub BodyMask : List ℕ → List ℕ → Bool → ℕ → Type 0
-BodyMask bits body sign mask = (i : ℕ) → bitOf mask i ≡ 1 → (l : Literal) × List·Memᴰ l (literalsOf body) × (l .negated ≡ sign) × (bitOf (getD bits (l .atom) 0) i ≡ 1)
+-- A body's masks, plain and negated: a bit is set in one of them exactly where a literal of that sign has it. Where they are whole,
+-- each literal has one.
+pub record BodyMasked (bits : List ℕ) (body : List Literal) (plain negated : ℕ) (whole : Bool) : Type 0 where
+  pub sound : (sign : Bool) (i : ℕ) → bitOf (cond sign negated plain) i ≡ 1
+      → (l : Literal) × List·Memᴰ l body × (l .negated ≡ sign) × (bitOf (getD bits (l .atom) 0) i ≡ 1)
+  pub full : (l : Literal) → List·Memᴰ l body → (i : ℕ) → bitOf (getD bits (l .atom) 0) i ≡ 1 → bitOf (cond (l .negated) negated plain) i ≡ 1
+  pub all-have : whole ≡ true → (l : Literal) → List·Memᴰ l body → (i : ℕ) × (bitOf (getD bits (l .atom) 0) i ≡ 1)
 
 -- a rule's masks: plain atoms of its body, negated ones, and its head where it is plain
 pub record RuleMask (atoms : List ℕ) (r : Rule) (plain negated head : ℕ) : Type 0 where

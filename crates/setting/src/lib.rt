@@ -1,13 +1,15 @@
 // A quick test of what is decided about the branching facts, before anything is filled: a fact that stands has to be the head of a
-// rule of whose body no literal is denied. It reads masks over the branching facts, three a rule, made once a call.
+// rule of whose body no literal is denied. It reads masks over the branching facts, three a rule, made once a call. Other tests read
+// the masks of bodies too.
 ghost use mathlib.Core.Path.{_≡_};
 ghost use mathlib.Core.Bool.{true};
 ghost use Prim.Native.Nat.{_*_, _/_, _<_, _≤_};
 ghost use lib.ListN.{length, getD};
 ghost use Rattle.base.specs.Bounds.{maxBranching, maxRules};
-ghost use Rattle.table.specs.Rows.{rowCount, RowsFit};
+ghost use Rattle.format.specs.Book.{literalsOf};
+ghost use Rattle.table.specs.Rows.{rowCount, rowAt, RowsFit};
 ghost use Rattle.setting.specs.Setting.{settingOf};
-ghost use Rattle.setting.specs.RuleMasks.{AtomBits, BodyMask, MasksMade, Headed};
+ghost use Rattle.setting.specs.RuleMasks.{AtomBits, BodyMasked, MasksMade, Headed};
 use base::wide;
 use base::wide16;
 use table::row_head;
@@ -37,21 +39,49 @@ pub fn bits_of(bits: &[u32], f: usize) -> u32
     0
 }
 
-// The bits of the atoms that a body has with this sign.
-fn body_mask(bits: &[u32], body: &[u8], sign: bool) -> u32
-    ensures { λ r. ⌜ BodyMask (now (bits .entry)) (now (body .entry)) sign r ⌝ }
+// The masks of a body's bytes: its plain atoms and its negated ones; whole where all of them branch.
+pub struct BodyMasks {
+    pub plain: u32,
+    pub negated: u32,
+    pub whole: bool,
+}
+
+// An atom that does not branch has no bit, and leaves the masks as they are.
+fn body_masks(bits: &[u32], body: &[u8]) -> BodyMasks
+    ensures { λ r. ⌜ BodyMasked (now (bits .entry)) (literalsOf (now (body .entry))) (r .plain) (r .negated) (r .whole) ⌝ }
 {
-    let mut mask = 0;
+    let mut plain = 0;
+    let mut negated = 0;
+    let mut whole = true;
     let mut i: usize = 0;
     while 2 <= body.len() - i {
         let v = wide(body[i]) * 256 + wide(body[i + 1]);
-        let negated = 32768 <= v;
-        if negated == sign {
-            mask = mask | bits_of(bits, v % 32768);
+        let bit = bits_of(bits, v % 32768);
+        if bit == 0 {
+            whole = false;
+        } else if 32768 <= v {
+            negated = negated | bit;
+        } else {
+            plain = plain | bit;
         }
         i += 2;
     }
-    mask
+    BodyMasks {
+        plain,
+        negated,
+        whole,
+    }
+}
+
+// The masks of a row's body, which is handed on as a part of the book.
+pub fn row_masks(book: &[u8], rows: &[u16], bits: &[u32], j: usize) -> BodyMasks
+    requires { ⌜ RowsFit (now book) (now rows) ⌝ }
+    requires { ⌜ j < rowCount (now rows) ⌝ }
+    ensures { λ r. ⌜ BodyMasked (now (bits .entry)) (rowAt (now (book .entry)) (now (rows .entry)) j .body) (r .plain) (r .negated) (r .whole) ⌝ }
+{
+    let from = wide16(rows[4 * j]);
+    let to = from + wide16(rows[4 * j + 1]);
+    body_masks(bits, &book[from..to])
 }
 
 // Writes the masks of the rows that have a branching atom as their plain head, and says how many there are: the others are never
@@ -67,11 +97,10 @@ pub fn rule_masks(book: &[u8], rows: &[u16], atoms: &[u8], masks: &mut [u32]) ->
     while j < count {
         let head = bits_of(&bits, row_head(rows, j));
         if head != 0 {
-            let from = wide16(rows[4 * j]);
-            let to = from + wide16(rows[4 * j + 1]);
+            let body = row_masks(book, rows, &bits, j);
             let at = 3 * made;
-            masks[at] = body_mask(&bits, &book[from..to], false);
-            masks[at + 1] = body_mask(&bits, &book[from..to], true);
+            masks[at] = body.plain;
+            masks[at + 1] = body.negated;
             masks[at + 2] = head;
             made += 1;
         }

@@ -1,8 +1,8 @@
 -- `rule_masks` meets its contract: the rows passed that have a branching atom as their plain head have their masks. The rows left
 -- fall. Assumes nothing.
-use mathlib.Core.Path.{_≡_, refl, sym, ap, subst}
+use mathlib.Core.Path.{_≡_, refl, sym, subst}
 use mathlib.Core.Logic.{⊎-elim}
-use Prim.Native.Nat.{ℕ, _+_, _-_, _/_, _≤_}
+use Prim.Native.Nat.{ℕ, _-_, _/_, _≤_}
 use lib.ListN.{length, length-set}
 use Rattle.setting.specs.RuleMasks.{AtomBits, RuleMask, MasksMade}
 use Rattle.setting.proofs.RuleMaskLaws.{masks-start, masks-more, masks-skip, rule-mask, no-head}
@@ -21,7 +21,7 @@ atom-bits-requires : tie.Need-atom-bits-requires Inv-loop μ-loop
 atom-bits-requires c κs = c .before .before .before .before .pre .2
 
 loop-holds : tie.Need-loop-holds Inv-loop μ-loop
-loop-holds c = let a = c .before .before .before .before .before .args in (refl, c .before .before .before .before .before .pre .1, omega arith, c .atom-bits .ensures, masks-start (a .book .now) (a .rows .now) (a .atoms .now) (a .masks .now) (c .before .before .before .before .before .pre .3))
+loop-holds c = let e = c .before .before .before .before .before in let a = e .args in (refl, e .pre .1, omega arith, c .atom-bits .ensures, masks-start (a .book .now) (a .rows .now) (a .atoms .now) (a .masks .now) (e .pre .3))
 
 slice-aggregate-bits-of : tie.Need-slice-aggregate-bits-of Inv-loop μ-loop
 slice-aggregate-bits-of c = search needs
@@ -32,74 +32,20 @@ row-head-requires c κs = search needs
 bits-of-requires : tie.Need-bits-of-requires Inv-loop μ-loop
 bits-of-requires c κs = search needs
 
-mul-wide16 : tie.Need-mul-wide16 Inv-loop μ-loop
-mul-wide16 c = search needs
+slice-aggregate-row-masks : tie.Need-slice-aggregate-row-masks Inv-loop μ-loop
+slice-aggregate-row-masks c = search needs
 
-mul-wide16-2 : tie.Need-mul-wide16-2 Inv-loop μ-loop
-mul-wide16-2 c = search needs
-
-shared-slice-read-wide16 : tie.Need-shared-slice-read-wide16 Inv-loop μ-loop
-shared-slice-read-wide16 c = search needs
-
-wide16-requires : tie.Need-wide16-requires Inv-loop μ-loop
-wide16-requires c κs = search needs
-
-mul-wide16-3 : tie.Need-mul-wide16-3 Inv-loop μ-loop
-mul-wide16-3 c = search needs
-
-add-wide16 : tie.Need-add-wide16 Inv-loop μ-loop
-add-wide16 c = search needs
-
-mul-wide16-4 : tie.Need-mul-wide16-4 Inv-loop μ-loop
-mul-wide16-4 c = search needs
-
-shared-slice-read-wide16-2 : tie.Need-shared-slice-read-wide16-2 Inv-loop μ-loop
-shared-slice-read-wide16-2 c = search needs
-
-wide16-requires-2 : tie.Need-wide16-requires-2 Inv-loop μ-loop
-wide16-requires-2 c κs = search needs
-
-add-to : tie.Need-add-to Inv-loop μ-loop
-add-to c = search needs
+row-masks-requires : tie.Need-row-masks-requires Inv-loop μ-loop
+row-masks-requires c κs = search needs
 
 mul-at : tie.Need-mul-at Inv-loop μ-loop
 mul-at c = search needs
-
-slice-aggregate-body-mask : tie.Need-slice-aggregate-body-mask Inv-loop μ-loop
-slice-aggregate-body-mask c = search needs
-
-sub-body-mask : tie.Need-sub-body-mask Inv-loop μ-loop
-sub-body-mask c = search needs
-
-part-body-mask-start : tie.Need-part-body-mask-start Inv-loop μ-loop
-part-body-mask-start c = search needs
-
-part-body-mask-end : tie.Need-part-body-mask-end Inv-loop μ-loop
-part-body-mask-end c = omega (arith, c .before .wide162 .ensures .0, c .before .before .before .wide16 .ensures .0, c .before .before .before .before .before .before .before .before .before .before .before .before .before .before .before .before .pre .0 .part (c .before .before .before .before .before .before .before .before .before .before .loop .j) (omega (arith, c .before .before .before .before .before .before .before .before .before .loop-test .taken, c .before .before .before .before .before .before .before .before .before .before .loop .inv .0)))
-
-body-mask-requires : tie.Need-body-mask-requires Inv-loop μ-loop
-body-mask-requires c κs = search needs
 
 mul-masks : tie.Need-mul-masks Inv-loop μ-loop
 mul-masks c = search needs
 
 slice-write-masks : tie.Need-slice-write-masks Inv-loop μ-loop
 slice-write-masks c = search needs
-
-slice-aggregate-body-mask-2 : tie.Need-slice-aggregate-body-mask-2 Inv-loop μ-loop
-slice-aggregate-body-mask-2 c = search needs
-
-sub-body-mask-2 : tie.Need-sub-body-mask-2 Inv-loop μ-loop
-sub-body-mask-2 c = search needs
-
-part-body-mask-start-2 : tie.Need-part-body-mask-start-2 Inv-loop μ-loop
-part-body-mask-start-2 c = search needs
-
-part-body-mask-end-2 : tie.Need-part-body-mask-end-2 Inv-loop μ-loop
-part-body-mask-end-2 c = omega (arith, c .before .before .before .before .wide162 .ensures .0, c .before .before .before .before .before .before .wide16 .ensures .0, c .before .before .before .before .before .before .before .before .before .before .before .before .before .before .before .before .before .before .before .pre .0 .part (c .before .before .before .before .before .before .before .before .before .before .before .before .before .loop .j) (omega (arith, c .before .before .before .before .before .before .before .before .before .before .before .before .loop-test .taken, c .before .before .before .before .before .before .before .before .before .before .before .before .before .loop .inv .0)))
-
-body-mask-requires-2 : tie.Need-body-mask-requires-2 Inv-loop μ-loop
-body-mask-requires-2 c κs = search needs
 
 add-masks : tie.Need-add-masks Inv-loop μ-loop
 add-masks c = search needs
@@ -108,7 +54,7 @@ mul-masks-2 : tie.Need-mul-masks-2 Inv-loop μ-loop
 mul-masks-2 c = search needs
 
 slice-write-masks-2 : tie.Need-slice-write-masks-2 Inv-loop μ-loop
-slice-write-masks-2 c = let l = c .before .before .before .before .before .before .before .before .before .before .before .before .before .before .before .loop in simp length-set (omega (arith, l .inv .1, l .inv .4 .size, l .inv .4 .room, c .before .before .before .before .before .before .before .before .before .before .before .before .before .before .loop-test .taken))
+slice-write-masks-2 c = let l = c .before .before .before .before .before .before .before .loop in simp length-set (omega (arith, l .inv .1, l .inv .4 .size, l .inv .4 .room, c .before .before .before .before .before .before .loop-test .taken))
 
 add-masks-2 : tie.Need-add-masks-2 Inv-loop μ-loop
 add-masks-2 c = search needs
@@ -117,7 +63,7 @@ mul-masks-3 : tie.Need-mul-masks-3 Inv-loop μ-loop
 mul-masks-3 c = search needs
 
 slice-write-masks-3 : tie.Need-slice-write-masks-3 Inv-loop μ-loop
-slice-write-masks-3 c = let l = c .before .before .before .before .before .before .before .before .before .before .before .before .before .before .before .loop in simp length-set (omega (arith, l .inv .1, l .inv .4 .size, l .inv .4 .room, c .before .before .before .before .before .before .before .before .before .before .before .before .before .before .loop-test .taken))
+slice-write-masks-3 c = let l = c .before .before .before .before .before .before .before .loop in simp length-set (omega (arith, l .inv .1, l .inv .4 .size, l .inv .4 .room, c .before .before .before .before .before .before .loop-test .taken))
 
 add-made : tie.Need-add-made Inv-loop μ-loop
 add-made c = search needs
@@ -140,10 +86,9 @@ loop-again c =
       omega arith,
       l .inv .3,
       ⊎-elim
-          (λ w. rw (w .11, w .12)
-          (masks-more (a .book .now) (a .rows .now) (a .atoms .now) (l .masks) (l .j) (l .made) (l .inv .4) (w .7 .result) (w .10 .result) (x .result) (omega (arith, l .inv .1, l .inv .4 .size, l .inv .4 .room, t))
-          (subst (RuleMask _ _ _ _) (sym (x .ensures))
-          (rule-mask (a .book .now) (a .rows .now) (a .atoms .now) (c .before .before .before .before .before .before .atom-bits .result) (l .j) (l .inv .3) (w .2 .result) _ (w .2 .ensures .0) (ap (λ (y : ℕ). w .2 .result + y) (w .4 .ensures .0)) _ _ (h .result) (w .7 .ensures) (w .10 .ensures) (h .ensures .0)))))
+          (λ w. rw (w .3, w .4)
+          (masks-more (a .book .now) (a .rows .now) (a .atoms .now) (l .masks) (l .j) (l .made) (l .inv .4) (w .2 .result .plain) (w .2 .result .negated) (x .result) (omega (arith, l .inv .1, l .inv .4 .size, l .inv .4 .room, t))
+          (subst (RuleMask _ _ _ _) (sym (x .ensures)) (rule-mask (a .book .now) (a .rows .now) (l .j) (l .inv .3) (w .2 .ensures) (h .result) (h .ensures .0)))))
           (λ w. rw (w .1, w .2)
           (masks-skip (a .book .now) (a .rows .now) (a .atoms .now) (l .masks) (l .j) (l .made) (l .inv .4)
           (no-head (a .book .now) (a .rows .now) (a .atoms .now) (c .before .before .before .before .before .before .atom-bits .result) (l .j) (h .result) (l .inv .3) (h .ensures .0) (x .result) (x .ensures) (w .0 .left))))
@@ -170,29 +115,11 @@ rule-masks-spec =
     slice-aggregate-bits-of
     row-head-requires
     bits-of-requires
-    mul-wide16
-    mul-wide16-2
-    shared-slice-read-wide16
-    wide16-requires
-    mul-wide16-3
-    add-wide16
-    mul-wide16-4
-    shared-slice-read-wide16-2
-    wide16-requires-2
-    add-to
+    slice-aggregate-row-masks
+    row-masks-requires
     mul-at
-    slice-aggregate-body-mask
-    sub-body-mask
-    part-body-mask-start
-    part-body-mask-end
-    body-mask-requires
     mul-masks
     slice-write-masks
-    slice-aggregate-body-mask-2
-    sub-body-mask-2
-    part-body-mask-start-2
-    part-body-mask-end-2
-    body-mask-requires-2
     add-masks
     mul-masks-2
     slice-write-masks-2

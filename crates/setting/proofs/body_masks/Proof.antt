@@ -1,22 +1,21 @@
--- `body_mask` meets its contract: the mask has bits of the literals passed that have the sign. The bytes left fall. Assumes nothing.
+-- The invariant: the masks are those of the literals read so far. Two bytes a turn, so the unread bytes fall.
 use mathlib.Core.Path.{ap₂}
 use mathlib.Core.Logic.{⊎-elim}
 use Prim.Native.Nat.{ℕ, _+_, _*_, _-_}
 use lib.ListN.{length}
-use Rattle.setting.proofs.RuleMaskLaws.{Masking, masking-start, masking-pass, masking-more}
+use Rattle.setting.proofs.RuleMaskLaws.{MaskedTo, masked-start, masked-none, masked-negated, masked-plain, masked-end}
 use borrow.Author.Needs.{needs}
-use native.Mathlib.Omega.{arith}
-use Rattle.setting.proofs.body_mask.Statement.{statement}
-use Rattle.setting.proofs.body_mask.Tie as tie
+use Rattle.setting.proofs.body_masks.Statement.{statement}
+use Rattle.setting.proofs.body_masks.Tie as tie
 
 abbrev Inv-loop : tie.InvT-loop
-Inv-loop bits body sign mask₀ i₀ mask i = Masking bits body sign i mask
+Inv-loop bits body plain₀ negated₀ whole₀ i₀ plain negated whole i = MaskedTo bits body i plain negated whole
 
 abbrev μ-loop : tie.MeasureT-loop
-μ-loop bits body sign mask₀ i₀ mask i = length body - i
+μ-loop bits body plain₀ negated₀ whole₀ i₀ plain negated whole i = length body - i
 
 loop-holds : tie.Need-loop-holds Inv-loop μ-loop
-loop-holds c = let a = c .before .before .args in masking-start (a .bits .now) (a .body .now) (a .sign)
+loop-holds c = masked-start (c .before .before .args .bits .now) (c .before .before .args .body .now)
 
 sub-loop : tie.Need-sub-loop Inv-loop μ-loop
 sub-loop c = search needs
@@ -53,20 +52,25 @@ loop-less c = search needs
 
 loop-again : tie.Need-loop-again Inv-loop μ-loop
 loop-again c =
-    let a = c .before .before .before .before .before .before .before .before .before .args in
-    let l = c .before .before .before .before .before .before .loop in
-    let x = c .before .before .before .wide in
-    let y = c .before .wide2 in
+    let l = c .before .before .before .before .before .before .before .loop in
+    let t = c .before .before .before .before .before .before .loop-test .taken in
+    let x = c .before .before .before .before .wide in
+    let y = c .before .before .wide2 in
+    let b = c .before .bits-of in
+    let v = ap₂ (λ (m n : ℕ). m * 256 + n) (x .ensures .0) (y .ensures .0) in
     ⊎-elim
-    (λ w. rw (w .2) (masking-more (a .bits .now) (a .body .now) (a .sign) (l .i) (l .mask) (l .inv) (c .before .before .before .before .before .loop-test .taken) (x .result * 256 + y .result) (ap₂ (λ (m n : ℕ). m * 256 + n) (x .ensures .0) (y .ensures .0)) (w .0 .taken) (w .1 .result) (w .1 .ensures)))
-    (λ w. rw (w .1) (masking-pass (a .bits .now) (a .body .now) (a .sign) (l .i) (l .mask) (l .inv) (c .before .before .before .before .before .loop-test .taken)))
+    (λ w. rw (w .1, w .2, w .3) (masked-none (l .inv) t (x .result * 256 + y .result) v (b .result) (b .ensures) (w .0 .taken)))
+    (λ u. ⊎-elim
+    (λ w. rw (w .2, w .3, w .4) (masked-negated (l .inv) t (x .result * 256 + y .result) v (b .result) (b .ensures) (w .0 .left) (w .1 .taken)))
+    (λ w. rw (w .2, w .3, w .4) (masked-plain (l .inv) t (x .result * 256 + y .result) v (b .result) (b .ensures) (w .0 .left) (w .1 .left)))
+    u)
     (c .if1 .came)
 
 returns : tie.Need-returns Inv-loop μ-loop
-returns c = c .before .loop .inv .made
+returns c = masked-end (c .before .loop .inv) (c .loop-test .left)
 
-pub body-mask-spec : {M : Type 1} → statement M
-body-mask-spec =
+pub body-masks-spec : {M : Type 1} → statement M
+body-masks-spec =
     tie.close
     (tie.spec
     Inv-loop
