@@ -1,0 +1,2 @@
+pub mod DisplacingLaws
+pub mod RejectedLaws
