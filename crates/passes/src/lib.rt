@@ -19,6 +19,7 @@ ghost use Rattle.passes.specs.Tallied.{Passed, Tallied};
 use accepted::atom_count;
 use accepted::prepare;
 use branching::branching_atoms;
+use displacing::displacing_masks;
 use nogoods::nogood_masks;
 use search::Goal;
 use search::Visit;
@@ -85,6 +86,8 @@ fn pass(
     let heads = rule_masks(book, rows, atoms, &mut masks);
     let mut nogoods: [u32; 1024] = [0; 1024];
     let made = nogood_masks(book, rows, overridden, atoms, &mut nogoods);
+    let mut displacing: [u32; 4096] = [0; 4096];
+    let entries = displacing_masks(book, rows, overridden, atoms, &mut displacing);
     let v = Visit {
         goal,
         atom,
@@ -100,6 +103,7 @@ fn pass(
         overridden,
         &masks[0..3 * heads],
         &nogoods[0..2 * made],
+        &displacing[0..4 * entries],
         atoms,
         atoms,
         n,

@@ -13,9 +13,11 @@ ghost use Rattle.tester.specs.Masks.{RejectedMasks};
 ghost use Rattle.setting.specs.Setting.{settingOf};
 ghost use Rattle.setting.specs.RuleMasks.{RuleMasks};
 ghost use Rattle.nogoods.specs.Nogoods.{Nogoods};
+ghost use Rattle.displacing.specs.Displacing.{Displacing};
 ghost use Rattle.search.specs.Searchable.{Searchable, Denied, Undisputed, Covered, Early, Candidate};
 ghost use Rattle.search.specs.Decided.{Decided};
 use base::wide;
+use displacing::rejected_at;
 use filling::fill;
 use insertion::Gap;
 use nogoods::has_nogood;
@@ -26,7 +28,6 @@ use setting::setting_of;
 use table::atom_holds;
 use tester::contested;
 use tester::is_stable;
-use tester::rejected_masks;
 
 // What the search is for: every model, one model, or whether the asked fact stands in some but not in all.
 pub enum Goal {
@@ -291,6 +292,7 @@ pub fn visit_setting(
     layer: usize,
     rows: &[u16],
     overridden: &[u32],
+    displacing: &[u32],
     atoms: &[u8],
     n: usize,
     standing: u32,
@@ -299,11 +301,12 @@ pub fn visit_setting(
     v: Visit,
 ) -> Visit
     requires { ⌜ Searchable (now book) (now rows) (now overridden) (now atoms) layer n × Kept n v (now part) × (v .count < 4294967296) × (stopped v ≡ false) ⌝ }
+    requires { ⌜ Displacing (now book) (now rows) (now overridden) (now atoms) (now displacing) ⌝ }
     requires { ⌜ length (now hints) ≡ 2048 ⌝ }
     ensures { λ r. ⌜ Searched n (atSetting (programOf (now (book .entry)) layer) (now (atoms .entry)) (settingOf (now (atoms .entry)) standing)) v (now (part .entry)) r (now (part .exit)) ⌝ }
 {
     let setting = setting_of(atoms, standing);
-    let rejects = rejected_masks(book, rows, overridden, &setting);
+    let rejects = rejected_at(displacing, standing);
     let found = model_at(
         book,
         layer,
@@ -334,6 +337,7 @@ pub fn search(
     overridden: &[u32],
     masks: &[u32],
     nogoods: &[u32],
+    displacing: &[u32],
     atoms: &[u8],
     undecided: &[u8],
     n: usize,
@@ -345,6 +349,7 @@ pub fn search(
 ) -> Visit
     requires { ⌜ Searchable (now book) (now rows) (now overridden) (now atoms) layer n × Kept n v (now part) × (v .count + 2 ^ length (now undecided) ≤ 4294967296) × RuleMasks (now book) (now rows) (now atoms) (now masks) × Decided (now atoms) (now undecided) (settingOf (now atoms) standing) standing denied ⌝ }
     requires { ⌜ Nogoods (now book) (now rows) (now overridden) (now atoms) (now nogoods) (length (now nogoods) / 2) ⌝ }
+    requires { ⌜ Displacing (now book) (now rows) (now overridden) (now atoms) (now displacing) ⌝ }
     requires { ⌜ length (now hints) ≡ 2048 ⌝ }
     ensures { λ r. ⌜ Searched n (foundBy (atSetting (programOf (now (book .entry)) layer) (now (atoms .entry))) (now (undecided .entry)) (settingOf (now (atoms .entry)) standing)) v (now (part .entry)) r (now (part .exit)) ⌝ }
 {
@@ -363,6 +368,7 @@ pub fn search(
             layer,
             rows,
             overridden,
+            displacing,
             atoms,
             n,
             standing,
@@ -380,6 +386,7 @@ pub fn search(
         overridden,
         masks,
         nogoods,
+        displacing,
         atoms,
         &undecided[1..rest],
         n,
@@ -396,6 +403,7 @@ pub fn search(
         overridden,
         masks,
         nogoods,
+        displacing,
         atoms,
         &undecided[1..rest],
         n,
