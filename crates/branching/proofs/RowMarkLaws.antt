@@ -20,7 +20,7 @@ use Rattle.format.specs.Book.{Rule, literalsOf}
 use Rattle.models.specs.Program.{Program}
 use Rattle.models.specs.StableModels.{atomHolds, overrides}
 use Rattle.models.specs.Branching.{canReject, branching}
-use Rattle.table.specs.Rows.{rowCount, bodyStart, bodyBytes, rowAt, rowsOf}
+use Rattle.table.specs.Rows.{rowCount, rowBody, rowAt, rowsOf}
 use Rattle.table.specs.Table.{Tabulates}
 use Rattle.branching.specs.Marks.{branchesIn, BodyMarked, BranchingMarks}
 
@@ -77,20 +77,18 @@ module _ (P : Program) (book rows masks : List ℕ) (w : Tabulates P book rows m
           go (yes e) = absurd (no-bit (x .0 .layer) (subst (λ (y : ℕ). bitOf y (x .0 .layer) ≡ 1) e bit))
           go (no n) = subst (λ (c : Bool). T (not c)) (sym (ne-eqb (getD masks j 0) 0 n)) tt
 
-  pub rows-more : (j : ℕ) → j < rowCount rows → (marks next : List Bool) → RowsMarked P book rows j marks → (from to : ℕ) → from ≡ bodyStart rows j → to ≡ from + bodyBytes rows j
-      → (t : Bool) → t ≡ not (eqb (getD masks j 0) 0) → BodyMarked (take (to - from) (drop from book)) t marks next → RowsMarked P book rows (j + 1) next
+  pub rows-more : (j : ℕ) → j < rowCount rows → (marks next : List Bool) → RowsMarked P book rows j marks → (body : List ℕ) → body ≡ rowBody book rows j
+      → (t : Bool) → t ≡ not (eqb (getD masks j 0) 0) → BodyMarked body t marks next → RowsMarked P book rows (j + 1) next
   unfolding rowBranches rowAt
-  rows-more j h marks next m from to ef et t eq b =
-      let k : to - from ≡ bodyBytes rows j = omega arith in
-      record {
-        inside = omega arith;
-        size = b .size ∙ m .size;
-        marked = λ f s.
-            b .marked f s
-            ∙ ap₂ (λ (c : Bool) (d : Bool). c || branchesIn d f (literalsOf (take (to - from) (drop from book)))) (m .marked f s) (eq ∙ rejecting-is j h)
-            ∙ ap₂ (λ (x y : ℕ). any (rowBranches P book rows f) (upTo j) || branchesIn (canReject P (rowAt book rows j)) f (literalsOf (take x (drop y book)))) k ef
-            ∙ sym (one-more P book rows f j);
-      }
+  rows-more j h marks next m body eb t eq b = record {
+    inside = omega arith;
+    size = b .size ∙ m .size;
+    marked = λ f s.
+        b .marked f s
+        ∙ ap₂ (λ (c : Bool) (d : Bool). c || branchesIn d f (literalsOf body)) (m .marked f s) (eq ∙ rejecting-is j h)
+        ∙ ap (λ (x : List ℕ). any (rowBranches P book rows f) (upTo j) || branchesIn (canReject P (rowAt book rows j)) f (literalsOf x)) eb
+        ∙ sym (one-more P book rows f j);
+  }
 
   pub rows-end : (j : ℕ) (marks : List Bool) → rowCount rows ≤ j → RowsMarked P book rows j marks → BranchingMarks P marks
   unfolding branching branchesIn rowBranches rowsOf

@@ -6,7 +6,7 @@ ghost use lib.Dec.{leb, ltb};
 ghost use Rattle.table.specs.Table.{programOf, Tabulates};
 ghost use Rattle.branching.specs.Marks.{BodyMarked, BranchingMarks, Listed};
 use base::wide;
-use base::wide16;
+use table::row_body;
 
 // The branching facts, in the first `count` places.
 pub struct Atoms {
@@ -52,9 +52,7 @@ pub fn mark_branching(book: &[u8], layer: usize, rows: &[u16], overridden: &[u32
     let mut marks: [bool; 256] = [false; 256];
     let mut j = 0;
     while j < count {
-        let from = wide16(rows[4 * j]);
-        let to = from + wide16(rows[4 * j + 1]);
-        let next = mark_body(&book[from..to], overridden[j] != 0, marks);
+        let next = mark_body(row_body(book, rows, j), overridden[j] != 0, marks);
         marks = next;
         j += 1;
     }

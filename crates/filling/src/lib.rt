@@ -13,6 +13,7 @@ ghost use Rattle.filling.specs.Marks.{literalMarked, alive, adds, Grown,
 use base::wide;
 use base::wide16;
 use table::opposite;
+use table::row_body;
 use table::row_head;
 use table::row_layer;
 
@@ -85,7 +86,7 @@ fn watch_of(hints: &[u16], j: usize) -> usize {
     0
 }
 
-// Whether a row's body is marked: the body is handed on as a part of the book.
+// Whether a row's body is marked.
 fn row_marked(
     book: &[u8],
     rows: &[u16],
@@ -99,9 +100,12 @@ fn row_marked(
     requires { ⌜ j < rowCount (now rows) ⌝ }
     ensures { λ r. ⌜ r ≡ all (literalMarked (now (positive .entry)) (now (negative .entry))) (rowAt (now (book .entry)) (now (rows .entry)) j .body) ⌝ }
 {
-    let from = wide16(rows[4 * j]);
-    let to = from + wide16(rows[4 * j + 1]);
-    body_marked(positive, negative, &book[from..to], watch_of(hints, j))
+    body_marked(
+        positive,
+        negative,
+        row_body(book, rows, j),
+        watch_of(hints, j),
+    )
 }
 
 // Whether a row adds its head: the head is not marked, the row is alive and its body is marked.
@@ -261,14 +265,13 @@ fn wait(
     requires { ⌜ (length (now links) ≡ 1536) × (length (now hints) ≡ 2048) ⌝ }
     requires { ⌜ (j < rowCount (now rows)) × (j < 1024) ⌝ }
 {
-    let from = wide16(rows[4 * j]);
-    let to = from + wide16(rows[4 * j + 1]);
-    let i = unmarked_from(positive, negative, &book[from..to], wide16(hints[j]));
-    if (to - from) / 2 <= i {
+    let body = row_body(book, rows, j);
+    let i = unmarked_from(positive, negative, body, wide16(hints[j]));
+    if body.len() / 2 <= i {
         return false;
     }
-    let h = waiting_name(book[from + 2 * i], book[from + 2 * i + 1]);
-    hints[j] = i as u16;
+    let h = waiting_name(body[2 * i], body[2 * i + 1]);
+    hints[j] = (i % 65536) as u16;
     links[512 + j] = links[h];
     links[h] = (512 + j) as u16;
     true

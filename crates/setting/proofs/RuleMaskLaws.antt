@@ -20,8 +20,7 @@ use Rattle.format.specs.Book.{Literal, literalOf, literalsOf}
 use Rattle.format.proofs.LiteralLaws.{literals-next, literals-none}
 use Rattle.models.specs.StableModels.{positive}
 use Rattle.table.specs.Names.{literalNamed}
-use Rattle.table.specs.Rows.{rowCount, bodyStart, bodyBytes, headName, rowAt}
-use Rattle.table.proofs.RowLaws.{body-part}
+use Rattle.table.specs.Rows.{rowCount, headName, rowAt}
 use Rattle.setting.specs.RuleMasks.{AtomBits, BodyMasked, RuleMask, headMask, MaskOf, MasksMade, RuleMasks, Open, Headed}
 use Rattle.setting.proofs.BitMaskLaws.{single, single-only, single-has, joined, joined-cases, joined-keeps, joined-has, or-absorbs}
 
@@ -165,12 +164,6 @@ module _ {bits body : List ℕ} {i p n : ℕ} {w : Bool} (m : MaskedTo bits body
 pub masked-end : {bits body : List ℕ} {i p n : ℕ} {w : Bool} → MaskedTo bits body i p n w → length body - i < 2 → BodyMasked bits (literalsOf body) p n w
 masked-end {bits} {body} {i} {p} {n} {w} m h =
     subst (λ (ls : List Literal). BodyMasked bits ls p n w) (sym (append-nil (m .read)) ∙ ap (λ (ls : List Literal). m .read ++ ls) (sym (literals-none body i h)) ∙ m .split) (m .made)
-
--- a row's body, as the code cuts it
-pub row-masked : (book rows bits : List ℕ) (j from size : ℕ) → from ≡ bodyStart rows j → size ≡ bodyBytes rows j → (p n : ℕ) (w : Bool)
-    → BodyMasked bits (literalsOf (take (from + size - from) (drop from book))) p n w → BodyMasked bits (rowAt book rows j .body) p n w
-unfolding rowAt
-row-masked book rows bits j from size ef es p n w m = subst (λ (s : List ℕ). BodyMasked bits (literalsOf s) p n w) (body-part book rows j from size ef es) m
 
 -- ---- the masks of a rule
 name-plain : (h f : ℕ) → literalNamed h ≡ positive f → h ≡ f

@@ -11,7 +11,7 @@ ghost use Rattle.table.specs.Rows.{rowCount, rowAt, RowsFit};
 ghost use Rattle.setting.specs.Setting.{settingOf};
 ghost use Rattle.setting.specs.RuleMasks.{AtomBits, BodyMasked, MasksMade, Headed};
 use base::wide;
-use base::wide16;
+use table::row_body;
 use table::row_head;
 
 // Bit i at the i-th atom; none at the others.
@@ -73,15 +73,13 @@ fn body_masks(bits: &[u32], body: &[u8]) -> BodyMasks
     }
 }
 
-// The masks of a row's body, which is handed on as a part of the book.
+// The masks of a row's body.
 pub fn row_masks(book: &[u8], rows: &[u16], bits: &[u32], j: usize) -> BodyMasks
     requires { ⌜ RowsFit (now book) (now rows) ⌝ }
     requires { ⌜ j < rowCount (now rows) ⌝ }
     ensures { λ r. ⌜ BodyMasked (now (bits .entry)) (rowAt (now (book .entry)) (now (rows .entry)) j .body) (r .plain) (r .negated) (r .whole) ⌝ }
 {
-    let from = wide16(rows[4 * j]);
-    let to = from + wide16(rows[4 * j + 1]);
-    body_masks(bits, &book[from..to])
+    body_masks(bits, row_body(book, rows, j))
 }
 
 // Writes the masks of the rows that have a branching atom as their plain head, and says how many there are: the others are never

@@ -26,12 +26,16 @@ headName rows j = getD rows (4 * j + 2) 0
 abbrev pub rowLayer : List ℕ → ℕ → ℕ
 rowLayer rows j = getD rows (4 * j + 3) 0
 
+-- its body's bytes
+abbrev pub rowBody : List ℕ → List ℕ → ℕ → List ℕ
+rowBody book rows j = take (bodyBytes rows j) (drop (bodyStart rows j) book)
+
 -- the rule that row j stands for
 unfoldable pub rowAt : List ℕ → List ℕ → ℕ → Rule
 rowAt book rows j = record {
   layer = rowLayer rows j;
   head = literalNamed (headName rows j);
-  body = literalsOf (take (bodyBytes rows j) (drop (bodyStart rows j) book));
+  body = literalsOf (rowBody book rows j);
 }
 
 unfoldable pub rowsOf : List ℕ → List ℕ → List Rule

@@ -8,7 +8,7 @@ ghost use Rattle.base.specs.Lists.{all};
 ghost use Rattle.format.specs.Book.{literalOf, literalsOf};
 ghost use Rattle.models.specs.StableModels.{atomHolds, complement, holds, bodyHolds};
 ghost use Rattle.table.specs.Names.{literalNamed};
-ghost use Rattle.table.specs.Rows.{rowCount, headName, rowLayer, rowAt, RowsBounded, RowsFit};
+ghost use Rattle.table.specs.Rows.{rowCount, headName, rowLayer, rowBody, rowAt, RowsBounded, RowsFit};
 ghost use Rattle.table.specs.Overriding.{HeadLayers, Overridden};
 ghost use Rattle.table.specs.Table.{programOf, RuleRecords, Prepared, RowsMade, TableMade};
 use base::wide;
@@ -68,15 +68,24 @@ pub fn row_layer(rows: &[u16], j: usize) -> usize
     wide16(rows[4 * j + 3])
 }
 
-// Whether a row's body holds: the body is handed on as a part of the book.
+// A row's body, as a part of the book that starts in its middle.
+pub fn row_body<'a>(book: &'a [u8], rows: &[u16], j: usize) -> &'a [u8]
+    requires { ⌜ RowsFit (now book) (now rows) ⌝ }
+    requires { ⌜ j < rowCount (now rows) ⌝ }
+    ensures { λ r. ⌜ now r ≡ rowBody (now (book .entry)) (now (rows .entry)) j ⌝ }
+{
+    let from = wide16(rows[4 * j]);
+    let to = from + wide16(rows[4 * j + 1]);
+    &book[from..to]
+}
+
+// Whether a row's body holds.
 pub fn row_holds(book: &[u8], rows: &[u16], m: &[bool], j: usize) -> bool
     requires { ⌜ RowsFit (now book) (now rows) ⌝ }
     requires { ⌜ j < rowCount (now rows) ⌝ }
     ensures { λ r. ⌜ r ≡ bodyHolds (now (m .entry)) (rowAt (now (book .entry)) (now (rows .entry)) j) ⌝ }
 {
-    let from = wide16(rows[4 * j]);
-    let to = from + wide16(rows[4 * j + 1]);
-    body_holds(m, &book[from..to])
+    body_holds(m, row_body(book, rows, j))
 }
 
 // The name of the opposite literal.

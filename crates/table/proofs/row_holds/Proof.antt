@@ -1,4 +1,4 @@
--- The part of the book from the row's offset is the row's body.
+-- The body that is handed on is the row's.
 use mathlib.Core.Path.{ap, _∙_}
 use mathlib.Core.List.{List}
 use Prim.Native.Nat.{ℕ}
@@ -6,77 +6,19 @@ use Rattle.base.specs.Lists.{all}
 use Rattle.format.specs.Book.{literalsOf}
 use Rattle.models.specs.StableModels.{holds, bodyHolds}
 use Rattle.table.specs.Rows.{rowAt}
-use Rattle.table.proofs.RowLaws.{body-part}
-use native.Mathlib.Omega.{arith}
 use borrow.Author.Needs.{needs}
 use Rattle.table.proofs.row_holds.Statement.{statement}
 use Rattle.table.proofs.row_holds.Tie as tie
 
-mul-wide16 : tie.Need-mul-wide16
-mul-wide16 c = search needs
-
-mul-wide16-2 : tie.Need-mul-wide16-2
-mul-wide16-2 c = search needs
-
-shared-slice-read-wide16 : tie.Need-shared-slice-read-wide16
-shared-slice-read-wide16 c = search needs
-
-wide16-requires : tie.Need-wide16-requires
-wide16-requires c κs = search needs
-
-mul-wide16-3 : tie.Need-mul-wide16-3
-mul-wide16-3 c = search needs
-
-add-wide16 : tie.Need-add-wide16
-add-wide16 c = search needs
-
-mul-wide16-4 : tie.Need-mul-wide16-4
-mul-wide16-4 c = search needs
-
-shared-slice-read-wide16-2 : tie.Need-shared-slice-read-wide16-2
-shared-slice-read-wide16-2 c = search needs
-
-wide16-requires-2 : tie.Need-wide16-requires-2
-wide16-requires-2 c κs = search needs
-
-add-to : tie.Need-add-to
-add-to c = search needs
-
-sub-body-holds : tie.Need-sub-body-holds
-sub-body-holds c = search needs
-
-part-body-holds-start : tie.Need-part-body-holds-start
-part-body-holds-start c = search needs
-
-part-body-holds-end : tie.Need-part-body-holds-end
-part-body-holds-end c =
-    omega (arith, c .wide162 .ensures .0, c .before .before .wide16 .ensures .0, c .before .before .before .before .before .before .before .pre .0 .part (c .before .before .before .before .before .before .before .args .j) (search needs))
+row-body-requires : tie.Need-row-body-requires
+row-body-requires c κs = search needs
 
 body-holds-requires : tie.Need-body-holds-requires
 body-holds-requires c κs = search needs
 
 returns : tie.Need-returns
 unfolding rowAt bodyHolds
-returns c =
-    let e = c .before .before .before .before .before .before .before .before .before .args in
-    c .body-holds .ensures ∙ ap (λ (x : List ℕ). all (holds (e .m .now)) (literalsOf x)) (body-part (e .book .now) (e .rows .now) (e .j) (c .before .before .before .before .wide16 .result) (c .before .before .wide162 .result) (c .before .before .before .before .wide16 .ensures .0) (c .before .before .wide162 .ensures .0))
+returns c = c .body-holds .ensures ∙ ap (λ (x : List ℕ). all (holds (c .before .before .before .before .before .args .m .now)) (literalsOf x)) (c .before .row-body .ensures)
 
 pub row-holds-spec : {M : Type 1} → statement M
-row-holds-spec =
-    tie.close
-    (tie.spec
-    mul-wide16
-    mul-wide16-2
-    shared-slice-read-wide16
-    wide16-requires
-    mul-wide16-3
-    add-wide16
-    mul-wide16-4
-    shared-slice-read-wide16-2
-    wide16-requires-2
-    add-to
-    sub-body-holds
-    part-body-holds-start
-    part-body-holds-end
-    body-holds-requires
-    returns)
+row-holds-spec = tie.close (tie.spec row-body-requires body-holds-requires returns)
