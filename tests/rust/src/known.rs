@@ -6,6 +6,7 @@ use crate::expected::{counts, place_of};
 use crate::oracle::{self, body_holds, Driven};
 use crate::rng::Rng;
 use crate::shapes::{all_arrows, hidden_order, Planted};
+use std::ops::Range;
 
 /// A book at a driven layer, with what its listing has.
 pub struct Known {
@@ -530,6 +531,19 @@ pub fn busy(rng: &mut Rng, branching: u16) -> Known {
     }
 }
 
+/// The first facts may stand or not, as `free_fact` has it, with bodies of 16 literals: `body` makes
+/// those of the quarrel, which hold at every setting.
+fn full_free_facts(mut book: Book, choices: u16, mut body: impl FnMut() -> Vec<Literal>) -> Book {
+    for atom in 0..choices {
+        book = book
+            .rule(0, plain(atom), &body())
+            .rule(0, not(atom), &body())
+            .rule(1, plain(atom), &sixteen(&[plain(atom)]))
+            .rule(1, not(atom), &sixteen(&[not(atom)]));
+    }
+    book
+}
+
 /// `shapes::worst_order` with choices: each setting in which the chain starts goes through 1,024
 /// rules of 16 literals some 200 times.
 pub fn chained(choices: u16) -> Known {
@@ -539,14 +553,8 @@ pub fn chained(choices: u16) -> Known {
         body.push(literal);
         body
     };
-    let mut chain = Book::new(256, 2).arrow(0, 1);
-    for atom in 0..choices {
-        chain = chain
-            .rule(0, plain(atom), &full(not(LAST)))
-            .rule(0, not(atom), &full(not(LAST)))
-            .rule(1, plain(atom), &sixteen(&[plain(atom)]))
-            .rule(1, not(atom), &sixteen(&[not(atom)]));
-    }
+    let book = Book::new(256, 2).arrow(0, 1);
+    let mut chain = full_free_facts(book, choices, || full(not(LAST)));
     let links = (choices + 1..LAST).len();
     while chain.rules.len() + links + 1 < 1024 {
         chain = chain.rule(0, plain(LAST), &full(plain(LAST)));
@@ -571,73 +579,99 @@ pub fn chained(choices: u16) -> Known {
     }
 }
 
-/// What becomes of each setting of `slowest` at its end.
-#[derive(Clone, Copy, PartialEq, Eq)]
+/// What becomes of each setting of a slow book at its end, by the rules about `DOUBTED`.
+#[derive(Clone, Copy, Debug, PartialEq, Eq)]
 pub enum Ending {
     /// A stable state.
     Stable,
+    /// A stable state, though a displaced rule speaks for a fact that does not stand: only a second
+    /// filling shows that this is by default all the same.
+    Doubtful,
     /// None: only the comparison after the last pass shows it.
     Unstable,
 }
 
-/// The slowest book that we know for an engine which makes passes over the rules: 1,024 rules of 16
-/// literals, of both signs in no order. Each setting adds one fact a pass over a chain that stands
-/// in reverse, and in each pass the rules about `STOP` fail at their last literals.
-pub fn slowest(rng: &mut Rng, choices: u16, ending: Ending) -> Known {
-    const STOP: u16 = 255;
-    // One that always stands and has no rule over others, and one that has no rule at all.
-    let (base, never) = (choices, choices + 1);
-    let chain = choices + 2..STOP - 1;
-    let doubted = STOP - 1;
-    let mut full = |last: Literal| -> Vec<Literal> {
-        let mut body: Vec<Literal> = (0..15)
-            .map(|_| rng.pick(&[plain(base), not(never)]))
-            .collect();
-        body.push(last);
-        body
-    };
-    let mut book = Book::new(256, 2).arrow(0, 1).rule(0, plain(base), &[]);
-    for atom in 0..choices {
-        book = book
-            .rule(0, plain(atom), &full(plain(base)))
-            .rule(0, not(atom), &full(plain(base)))
-            .rule(1, plain(atom), &sixteen(&[plain(atom)]))
-            .rule(1, not(atom), &sixteen(&[not(atom)]));
-    }
-    if ending == Ending::Unstable {
+/// Two that stand in no state. The second does not branch.
+const DOUBTED: u16 = 254;
+const STOP: u16 = 255;
+
+/// Adds the rules that end each setting so.
+fn ended(book: Book, ending: Ending) -> Book {
+    match ending {
+        Ending::Stable => book,
+        Ending::Doubtful => {
+            book.rule(0, plain(DOUBTED), &[plain(STOP)])
+                .rule(1, not(DOUBTED), &[not(DOUBTED)])
+        }
         // Where it does not stand this is not by default, and where it does, its rule is displaced.
-        book = book
-            .rule(0, plain(doubted), &[])
-            .rule(1, not(doubted), &[not(doubted)])
-            .rule(1, not(doubted), &[plain(doubted)]);
+        Ending::Unstable => book
+            .rule(0, plain(DOUBTED), &[])
+            .rule(1, not(DOUBTED), &[not(DOUBTED)])
+            .rule(1, not(DOUBTED), &[plain(DOUBTED)]),
     }
-    while book.rules.len() + chain.len() < 1024 {
-        book = book.rule(0, plain(STOP), &full(plain(STOP)));
-    }
-    for atom in chain.clone().rev() {
-        let before = match atom == chain.start {
-            true => base,
-            false => atom - 1,
-        };
-        book = book.rule(0, plain(atom), &full(plain(before)));
-    }
+}
+
+/// A slow book: the first facts may stand or not, one other branches, and those of `standing` follow
+/// at every setting.
+fn slow(book: Book, choices: u16, standing: Range<u16>, ending: Ending) -> Known {
     Known {
         book,
         layer: 1,
-        branching: usize::from(choices) + 1 + usize::from(ending == Ending::Unstable),
+        branching: usize::from(choices) + 1 + usize::from(ending != Ending::Stable),
         count: match ending {
-            Ending::Stable => 1 << choices,
+            Ending::Stable | Ending::Doubtful => 1 << choices,
             Ending::Unstable => 0,
         },
         state: Box::new(move |number| {
             (0..256)
                 .map(|atom| match atom < choices {
                     true => bit(number, atom.into()),
-                    false => atom == base || chain.contains(&atom),
+                    false => standing.contains(&atom),
                 })
                 .collect()
         }),
     }
+}
+
+/// A rule with a plain head, by the last literals of its body.
+type Link = (u16, Vec<Literal>);
+
+/// 1,024 rules of 16 literals, of both signs in no order: the links, over which a range of facts
+/// follows one by one, and rules about `STOP`, which fail at their last literals.
+fn linked(
+    rng: &mut Rng,
+    choices: u16,
+    ending: Ending,
+    links: impl Fn(Range<u16>) -> Vec<Link>,
+) -> Known {
+    // One that has no rule at all, and before the range one that always stands.
+    let (never, base) = (choices, choices + 1);
+    let links = links(base + 1..DOUBTED);
+    let mut full = |last: &[Literal]| -> Vec<Literal> {
+        let mut body: Vec<Literal> = (last.len()..16)
+            .map(|_| rng.pick(&[plain(base), not(never)]))
+            .collect();
+        body.extend(last);
+        body
+    };
+    let book = Book::new(256, 2).arrow(0, 1).rule(0, plain(base), &[]);
+    let mut book = ended(full_free_facts(book, choices, || full(&[])), ending);
+    while book.rules.len() + links.len() < 1024 {
+        book = book.rule(0, plain(STOP), &full(&[plain(STOP)]));
+    }
+    for (atom, last) in links {
+        book = book.rule(0, plain(atom), &full(&last));
+    }
+    slow(book, choices, base..DOUBTED, ending)
+}
+
+/// The slowest book that we know for an engine which makes passes over the rules: each setting adds
+/// one fact a pass over a chain that stands in reverse.
+pub fn slowest(rng: &mut Rng, choices: u16, ending: Ending) -> Known {
+    linked(rng, choices, ending, |chain| {
+        let link = |atom| (atom, vec![plain(atom - 1)]);
+        chain.rev().map(link).collect()
+    })
 }
 
 #[cfg(test)]
@@ -710,10 +744,10 @@ mod tests {
             assert_eq!(sized.book.rules.len(), rules);
             assert_known("sized", &sized);
         }
-        for ending in [Ending::Stable, Ending::Unstable] {
+        for ending in [Ending::Stable, Ending::Doubtful, Ending::Unstable] {
             let slowest = slowest(&mut rng, 3, ending);
             assert_eq!(slowest.book.rules.len(), 1_024);
-            assert_known("slowest", &slowest);
+            assert_known(&format!("slowest, {ending:?}"), &slowest);
         }
     }
 }
