@@ -674,6 +674,83 @@ pub fn slowest(rng: &mut Rng, choices: u16, ending: Ending) -> Known {
     })
 }
 
+/// A ring that stands in reverse, each fact following the one before it. The last choices say at
+/// which of up to 16 places it is entered, so that no one order of the rules suits all settings.
+pub fn ring(rng: &mut Rng, choices: u16, ending: Ending) -> Known {
+    let telling = choices.saturating_sub(4)..choices;
+    linked(rng, choices, ending, |ring| {
+        let before = |atom| match atom == ring.start {
+            true => ring.end - 1,
+            false => atom - 1,
+        };
+        let entrances = 1 << telling.len();
+        let entrance = |number: usize| {
+            let place = ring.start + (number * ring.len() / entrances) as u16;
+            let tells = telling.clone().enumerate().map(|(at, atom)| Literal {
+                atom,
+                negated: !bit(number, at),
+            });
+            (place, tells.collect())
+        };
+        let links = ring
+            .clone()
+            .rev()
+            .map(|atom| (atom, vec![plain(before(atom))]));
+        links.chain((0..entrances).map(entrance)).collect()
+    })
+}
+
+/// Two chains through the same facts in opposite directions, one for each value of the last choice:
+/// an order of the rules that suits one setting is the worst for the next.
+pub fn both_ways(rng: &mut Rng, choices: u16, ending: Ending) -> Known {
+    let forward = choices - 1;
+    linked(rng, choices, ending, |chain| {
+        let mut links = vec![(chain.end - 1, vec![not(forward)])];
+        for atom in chain.rev() {
+            links.push((atom, vec![plain(forward), plain(atom - 1)]));
+            links.push((atom - 1, vec![not(forward), plain(atom)]));
+        }
+        links
+    })
+}
+
+/// 1,024 rules, most of them displacing: their bodies of 16 literals hold to the last one at every
+/// setting, and all of them displace the same rule. Beside them a chain of so many links in reverse.
+pub fn displaced(choices: u16, links: u16, ending: Ending) -> Known {
+    // One that has no rule, the one about which the rules quarrel, and the start of the chain.
+    let (never, denied, base) = (choices, choices + 1, choices + 2);
+    let full = sixteen(&[not(never)]);
+    let book = Book::new(256, 2)
+        .arrow(0, 1)
+        .rule(0, plain(base), &full)
+        .rule(0, plain(denied), &full);
+    let mut book = ended(full_free_facts(book, choices, || full.clone()), ending);
+    while book.rules.len() + usize::from(links) < 1024 {
+        book = book.rule(1, not(denied), &full);
+    }
+    let end = base + links + 1;
+    for atom in (base + 1..end).rev() {
+        book = book.rule(0, plain(atom), &sixteen(&[not(never), plain(atom - 1)]));
+    }
+    slow(book, choices, base..end, ending)
+}
+
+/// The slow books of every kind and ending, one choice at least, with words for messages.
+pub fn every_slow(rng: &mut Rng, choices: u16) -> Vec<(String, Known)> {
+    let endings = [Ending::Stable, Ending::Doubtful, Ending::Unstable];
+    let named = endings.map(|ending| {
+        [
+            ("slowest", slowest(rng, choices, ending)),
+            ("ring", ring(rng, choices, ending)),
+            ("both ways", both_ways(rng, choices, ending)),
+            ("displaced", displaced(choices, 0, ending)),
+            ("displaced, and a chain", displaced(choices, 200, ending)),
+        ]
+        .map(|(kind, known)| (format!("{kind}, {ending:?}").to_lowercase(), known))
+    });
+    named.into_iter().flatten().collect()
+}
+
 #[cfg(test)]
 mod tests {
     use super::*;
@@ -744,10 +821,11 @@ mod tests {
             assert_eq!(sized.book.rules.len(), rules);
             assert_known("sized", &sized);
         }
-        for ending in [Ending::Stable, Ending::Doubtful, Ending::Unstable] {
-            let slowest = slowest(&mut rng, 3, ending);
-            assert_eq!(slowest.book.rules.len(), 1_024);
-            assert_known(&format!("slowest, {ending:?}"), &slowest);
+        for choices in [1, 3, 5] {
+            for (what, known) in every_slow(&mut rng, choices) {
+                assert_eq!(known.book.rules.len(), 1_024);
+                assert_known(&what, &known);
+            }
         }
     }
 }

@@ -212,6 +212,9 @@ fn known_states_of_larger_books_are_found_by_both() {
     }
     assert_known("largest", &known::busy(&mut rng, 7));
     assert_known("worst order", &known::chained(2));
+    for (what, known) in known::every_slow(&mut rng, 1) {
+        assert_known(&what, &known);
+    }
 }
 
 #[test]

@@ -402,6 +402,14 @@ fn largest_lawful_books_are_listed() {
     assert_known_once("worst order for filling", &known::chained(2));
 }
 
+#[test]
+fn slowest_books_are_listed() {
+    let seed = seed();
+    for (what, known) in known::every_slow(&mut Rng::named(seed, "slow"), 5) {
+        assert_known(&format!("seed {seed}, {what}"), &known);
+    }
+}
+
 /// Equal rules, repeated literals, the order of rules and of arrows and the numbers of layers
 /// change nothing.
 #[test]

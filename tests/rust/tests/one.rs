@@ -283,6 +283,14 @@ fn a_state_of_the_largest_lawful_books_is_handed_out() {
     }
 }
 
+#[test]
+fn a_state_of_the_slowest_books_is_handed_out_where_there_is_one() {
+    let seed = seed();
+    for (what, known) in known::every_slow(&mut Rng::named(seed, "one, slow"), 5) {
+        assert_known_once(&format!("seed {seed}, {what}"), &known);
+    }
+}
+
 /// L - 1 is the last, and L and 2^32 - 1 are among the others.
 #[test]
 fn layers_of_the_book_are_driven_and_all_others_are_refused_9() {

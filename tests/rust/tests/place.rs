@@ -236,6 +236,18 @@ fn facts_of_the_largest_lawful_books_are_placed() {
 }
 
 #[test]
+fn facts_of_the_slowest_books_are_placed() {
+    let seed = seed();
+    for (what, known) in known::every_slow(&mut Rng::named(seed, "place, slow"), 3) {
+        let places = known.places();
+        for fact in (0..8).chain([100, 200, 253, 254, 255]) {
+            let place = places[usize::from(fact)];
+            assert_known_once(&format!("seed {seed}, {what}"), &known, fact, place);
+        }
+    }
+}
+
+#[test]
 fn any_bytes_are_answered_as_by_reader_and_oracle() {
     let any_bytes = AnyBytes {
         name: "place, any call",
