@@ -112,11 +112,15 @@ fn test_row(name: &str, planted: &Planted) {
     );
 }
 
+fn listing_length(known: &Known) -> usize {
+    11 + known.count * usize::from(known.book.atoms).div_ceil(8)
+}
+
 /// A row for a listing. All write the same bytes.
 fn list_row(name: &str, known: &Known) {
     let book = &known.book.bytes()[..];
     let layer = known.layer.into();
-    let length = 11 + known.count * usize::from(known.book.atoms).div_ceil(8);
+    let length = listing_length(known);
     let answer = known.answer();
     let mut buffers = [vec![0; length], vec![1; length], vec![2; length]];
     let [engine, plain, bits] = &mut buffers;
@@ -134,6 +138,32 @@ fn list_row(name: &str, known: &Known) {
         others.iter().all(|listing| listing == engine),
         "{name}: the listings differ"
     );
+}
+
+/// A row for a listing that may take a minute: the engine and the bit sets once each, and not the
+/// plain program, which takes far longer.
+fn long_list_row(name: &str, known: &Known) {
+    let book = &known.book.bytes()[..];
+    let layer = known.layer.into();
+    let length = listing_length(known);
+    let answer = known.answer();
+    let [mut listing, mut other] = [vec![0; length], vec![1; length]];
+    let engine = time(1, &mut || {
+        assert_eq!(ffi::list_in_place(book, layer, &mut listing), answer)
+    });
+    let bits = time(1, &mut || {
+        assert_eq!(bitset::list(book, layer, &mut other), answer)
+    });
+    println!(
+        "| list, {name}, g = {}, k = {} | {} | {} | - | - | {} | {:.1} |",
+        known.branching,
+        known.count,
+        book.len(),
+        shown(engine),
+        shown(bits),
+        engine / bits
+    );
+    assert!(listing == other, "{name}: the listings differ");
 }
 
 /// A row for one state of the book, or for the search that finds none. How soon a state is found is
@@ -283,20 +313,36 @@ fn long_searches() {
     place_row("largest lawful book", &busy(20), 20);
 }
 
-/// The slowest lawful books that we found, as far as there is time for them: filling takes so many
-/// passes at each setting, and every record goes past all others.
+/// The slowest lawful books that we found, with so few choices that the plain program can follow,
+/// and records each of which goes past all others.
 fn worst_books() {
     let slowest = |choices, ending| known::slowest(&mut rng("slowest"), choices, ending);
-    for choices in [5, 8] {
-        list_row("slowest", &slowest(choices, Ending::Stable));
+    list_row("slowest", &slowest(5, Ending::Stable));
+    for (name, known) in known::every_slow(&mut rng("slow"), 8) {
+        match known.count {
+            0 => one_row(&name, &known),
+            _ => list_row(&name, &known),
+        }
     }
-    let unstable = slowest(8, Ending::Unstable);
-    one_row("slowest", &unstable);
-    place_row("slowest", &unstable, 0);
+    place_row("slowest", &slowest(8, Ending::Unstable), 0);
     for choices in [14, 16] {
         let in_turn = known::front_and_end(choices, 256);
         list_row("front and end in turn, 32 bytes", &in_turn);
     }
+}
+
+/// The same kinds of books at g = 20: what the longest calls take, measured.
+fn longest_searches() {
+    use Ending::{Doubtful, Stable, Unstable};
+    let rng = &mut rng("longest");
+    long_list_row("slowest, stable", &known::slowest(rng, 19, Stable));
+    long_list_row("slowest, doubtful", &known::slowest(rng, 18, Doubtful));
+    long_list_row("slowest, unstable", &known::slowest(rng, 18, Unstable));
+    long_list_row("ring, stable", &known::ring(rng, 19, Stable));
+    long_list_row("both ways, stable", &known::both_ways(rng, 19, Stable));
+    let displaced = known::displaced(19, 200, Stable);
+    long_list_row("displaced, and a chain, stable", &displaced);
+    long_list_row("worst order for filling", &known::chained(19));
 }
 
 fn main() {
@@ -306,7 +352,8 @@ fn main() {
         Some(other) => panic!("{other}: the only option is --full"),
     };
     let seed = seed();
-    println!("Time of a call, best of {FEWEST} to {MOST} rounds, seed {seed}.\n");
+    println!("Time of a call, best of {FEWEST} to {MOST} rounds, seed {seed}.");
+    println!("Rows without plain Rust are of one call each.\n");
     println!("| Call and book | bytes | engine | plain Rust | ratio | bit sets | ratio |");
     println!("|---|---|---|---|---|---|---|");
     checks_and_tests();
@@ -315,5 +362,6 @@ fn main() {
     if full {
         long_searches();
         worst_books();
+        longest_searches();
     }
 }
