@@ -1,14 +1,20 @@
 -- A function over the numbers 0 to n - 1: one more, when two are the same, and what stands where. Rows of the table and the facts of
--- a candidate are such lists. Assumes nothing.
+-- a candidate are such lists. And a list of the same everywhere, as arrays are at first. Assumes nothing.
 use mathlib.Core.Path.{_≡_, refl, sym, ap, ap₂, _∙_}
 use mathlib.Core.Logic.{_⊎_, inl, inr}
 use mathlib.Core.List.{List, [], _∷_, _++_, map}
 use Prim.Native.Nat.{ℕ, zero, suc, _<_}
 use native.Mathlib.Nat.{eq-or-lt-of-le, le-of-suc-le-suc}
 use native.Mathlib.Omega.{arith}
-use lib.ListN.{length, getD, length-append, length-map, List·getD-append}
+use lib.ListN.{length, getD, replicate, length-append, length-map, List·getD-append}
 use lib.Seq.{getD-at}
 use Rattle.base.specs.Lists.{upTo}
+
+-- a list of the same everywhere
+pub constant-at : {A : Type 0} (a : A) (n i : ℕ) → getD (replicate n a) i a ≡ a
+constant-at a zero i = refl
+constant-at a (suc n) zero = refl
+constant-at a (suc n) (suc i) = constant-at a n i
 
 pub map-snoc : {A B : Type 0} (f : A → B) (xs : List A) (y : A) → map f (xs ++ (y ∷ [])) ≡ map f xs ++ (f y ∷ [])
 map-snoc f [] y = refl

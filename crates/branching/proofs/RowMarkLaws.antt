@@ -3,17 +3,18 @@
 use mathlib.Core.Path.{_≡_, refl, sym, ap, ap₂, subst, _∙_}
 use mathlib.Core.Bool.{Bool, false, not, _||_}
 use mathlib.Core.List.{List, [], _∷_, map}
-use Prim.Native.Nat.{ℕ, zero, suc, _+_, _-_, _<_, _≤_}
+use Prim.Native.Nat.{ℕ, suc, _+_, _<_, _≤_}
 use native.Mathlib.Decide.{ℕ-discrete}
 use native.Mathlib.Numerals.{add-one}
 use native.Mathlib.Omega.{arith}
 use borrow.Author.Tests.{eq-eqb, ne-eqb}
 use lib.Dec.{T, eqb}
-use lib.ListN.{length, getD, take, drop, replicate}
+use lib.ListN.{length, getD, replicate}
 use Rattle.base.specs.Bounds.{maxAtoms}
 use Rattle.base.specs.Lists.{any, upTo}
 use Rattle.base.proofs.Members.{_∈_, any-at, any-of, same-test}
 use Rattle.base.proofs.UpTo.{any-append}
+use Rattle.base.proofs.MapLaws.{constant-at}
 use Rattle.layers.specs.Masks.{bitOf}
 use Rattle.layers.proofs.BitLaws.{or-false, no-bit, some-bit}
 use Rattle.format.specs.Book.{Rule, literalsOf}
@@ -34,14 +35,9 @@ module _ (P : Program) (book rows : List ℕ) where
     pub size : length marks ≡ maxAtoms
     pub marked : (f : ℕ) → f < maxAtoms → atomHolds marks f ≡ any (rowBranches f) (upTo j)
 
-  none : (n f : ℕ) → getD {A = Bool} (replicate n false) f false ≡ false
-  none zero f = refl
-  none (suc n) zero = refl
-  none (suc n) (suc f) = none n f
-
   pub rows-start : RowsMarked 0 (replicate {A = Bool} 256 false)
   unfolding atomHolds any upTo
-  rows-start = record { inside = omega arith; size = refl; marked = λ f b. none 256 f }
+  rows-start = record { inside = omega arith; size = refl; marked = λ f b. constant-at false 256 f }
 
   one-more : (f j : ℕ) → any (rowBranches f) (upTo (j + 1)) ≡ (any (rowBranches f) (upTo j) || rowBranches f j)
   unfolding upTo any

@@ -14,6 +14,7 @@ use lib.Dec.{T, eqb, leb}
 use lib.ListN.{length, getD, set, replicate, List·getD-eq-default}
 use lib.Seq.{getD-set-same, getD-set-other}
 use Rattle.base.specs.Lists.{all}
+use Rattle.base.proofs.MapLaws.{constant-at}
 use Rattle.layers.specs.Masks.{bitOf}
 use Rattle.format.specs.Book.{Literal, literalOf, literalsOf}
 use Rattle.models.specs.StableModels.{atomHolds}
@@ -25,9 +26,7 @@ use Rattle.filling.specs.Marks.{literalMarked, alive, adds}
 
 -- no mark is set yet
 pub blank : (n i : ℕ) → getD {A = Bool} (replicate n false) i false ≡ false
-blank zero i = refl
-blank (suc n) zero = refl
-blank (suc n) (suc i) = blank n i
+blank n i = constant-at false n i
 
 -- one array with a mark more
 pub set-only : (p : List Bool) (f g : ℕ) → f < length p → T (atomHolds (set p f true) g) → T (atomHolds p g) ⊎ (g ≡ f)

@@ -14,6 +14,7 @@ use lib.Bits.{bitOr, bitAnd, or-step, or-shr, and-step, and-shr}
 use lib.Dec.{eqb}
 use lib.ListN.{length, getD, set, replicate}
 use lib.Seq.{getD-set-same, getD-set-other}
+use Rattle.base.proofs.MapLaws.{constant-at}
 use Rattle.layers.specs.Layers.{link, sameArrow}
 use Rattle.layers.specs.Masks.{bitOf, marked}
 
@@ -114,9 +115,7 @@ module _ (m : List ℕ) (i j : ℕ) (h : i < length m) (k : j < 32) where
 
 -- nothing has no bit
 pub no-bits : (n x : ℕ) → getD {A = ℕ} (replicate n 0) x 0 ≡ 0
-no-bits zero x = refl
-no-bits (suc n) zero = refl
-no-bits (suc n) (suc x) = no-bits n x
+no-bits n x = constant-at 0 n x
 
 pub no-bit : (i : ℕ) → bitOf 0 i ≡ 1 → ⊥
 no-bit i e = omega (arith, e, zero-div (2 ^ i))

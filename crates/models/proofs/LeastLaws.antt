@@ -1,7 +1,7 @@
 -- The computed tests and the statements agree: `least` has exactly what is `Derived`, and `stable` is `StableModel`.
 -- Assumes nothing.
 use mathlib.Core.Path.{_≡_, refl, sym, subst}
-use mathlib.Core.Bool.{Bool, true, false, not, _&&_, Bool·beq}
+use mathlib.Core.Bool.{Bool, true, false, not, Bool·beq}
 use mathlib.Core.List.{List, map, Memᴰ·map, Memᴰ·of-map}
 use Prim.Native.Nat.{ℕ, _<_}
 use lib.Dec.{T, eqb, eqb-refl, eqb→eq}

@@ -1,5 +1,5 @@
 -- The call for one state, step by step: each refusal, and the buffer once a record is written. Assumes nothing.
-use mathlib.Core.Path.{_≡_, refl, sym, ap, ap₂, subst, _∙_}
+use mathlib.Core.Path.{_≡_, refl, sym, ap, ap₂, _∙_}
 use mathlib.Core.Bool.{Bool, true, false}
 use mathlib.Core.List.{List, [], _∷_, _++_, List·Memᴰ·head, Memᴰ·append-right}
 use Prim.Native.Nat.{ℕ, _-_, _<_, _≤_}
@@ -24,12 +24,12 @@ use Rattle.accepted.specs.Driven.{layerTests}
 use Rattle.accepted.proofs.FirstLaws.{accepted-none, first-append, first-refused}
 use Rattle.branching.specs.Marks.{Listed}
 use Rattle.search.specs.Searchable.{Searchable}
-use Rattle.passes.specs.Limit.{hasTooManyBranching, hasNoStableState}
+use Rattle.passes.specs.Limit.{hasTooManyBranching}
 use Rattle.passes.specs.First.{FirstWritten}
 use Rattle.passes.proofs.SetUpLaws.{too-many, not-too-many}
 use Rattle.one_call.specs.declared.OneReply.{OneReply}
 use Rattle.one_call.specs.declared.OneReply.the-variants as reply
-use Rattle.one_call.specs.Reply.{roomTests, searchTests, oneTests, replyOf, Holds, BufferOf, oneReply, OneBuffer, Answers}
+use Rattle.one_call.specs.Reply.{roomTests, searchTests, oneTests, replyOf, oneReply, OneBuffer, Answers}
 
 -- ---- room and search
 module _ {book rows overridden atoms : List ℕ} {layer n : ℕ} (w : Searchable book rows overridden atoms layer n) (size : ℕ) (e : size ≡ recordSize n) (old : List ℕ) where

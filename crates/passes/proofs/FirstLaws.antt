@@ -1,7 +1,7 @@
 -- A pass into the room of one record: it leaves the part as it was where it meets no model, and else the record of the least model met,
 -- whatever its goal (`least-met`). That this is a model that may be handed out is `one-written`, which is all that a request that closes
 -- the choice has to prove anew. Assumes nothing.
-use mathlib.Core.Path.{_≡_, refl, sym, ap, subst, _∙_}
+use mathlib.Core.Path.{_≡_, refl, sym, subst, _∙_}
 use mathlib.Core.Logic.{_⊎_, inl, inr}
 use mathlib.Core.List.{List, [], _∷_, map, append-nil, List·Memᴰ·head, List·Memᴰ·not-nil, Memᴰ·append-left}
 use Prim.Native.Nat.{ℕ, _*_, _<_, _≤_}
@@ -21,12 +21,10 @@ use Rattle.records.proofs.OrderLaws.{sorted-length}
 use Rattle.table.specs.Table.{programOf}
 use Rattle.search.specs.declared.Goal.{Goal}
 use Rattle.search.specs.declared.Visit.{Visit}
-use Rattle.search.specs.Found.{atSetting, foundBy}
-use Rattle.search.specs.Visits.{Visits, done, Searched}
-use Rattle.setting.specs.Setting.{settingOf}
+use Rattle.search.specs.Visits.{Visits, done}
 use Rattle.search.specs.Searchable.{Searchable}
 use Rattle.search.proofs.VisitLaws.{visits-count}
-use Rattle.passes.specs.Tallied.{searched, Tallied}
+use Rattle.passes.specs.Tallied.{Passed, searched, Tallied}
 use Rattle.passes.specs.First.{Chosen, FirstWritten}
 use Rattle.passes.proofs.PassLaws.{found-is, tallied, pass-written}
 use Rattle.passes.proofs.StateLaws.{searched-from, tallied-none, tallied-some}
@@ -48,11 +46,6 @@ sorted-from n ms m k = go (insertAll-from (before n) ms [] m k)
     go (inl j) = j
     go (inr j) = absurd (List·Memᴰ·not-nil j)
 
--- a pass from the start, into a part that is all gap
-abbrev pub FirstPass : List ℕ → List ℕ → ℕ → ℕ → Goal → List ℕ → Visit → List ℕ → Type 0
-FirstPass book atoms layer n goal part end part′ =
-    Searched n (foundBy (atSetting (programOf book layer) atoms) atoms (settingOf atoms 0)) (record { goal = goal; atom = 0; count = 0; standing = 0; lo = 0; hi = length part }) part end part′
-
 module _ {book rows overridden atoms : List ℕ} {layer n : ℕ} (w : Searchable book rows overridden atoms layer n) where
   abbrev P : Program
   P = programOf book layer
@@ -60,7 +53,7 @@ module _ {book rows overridden atoms : List ℕ} {layer n : ℕ} (w : Searchable
   few : P .atoms ≤ maxAtoms
   few = subst (λ (k : ℕ). k ≤ maxAtoms) (w .size) (w .few)
 
-  module _ {goal : Goal} {part : List ℕ} {end : Visit} {part′ : List ℕ} (s : FirstPass book atoms layer n goal part end part′) where
+  module _ {goal : Goal} {part : List ℕ} {end : Visit} {part′ : List ℕ} (s : Passed P atoms n goal 0 part end part′) where
     abbrev start : Visit
     start = record { goal = goal; atom = 0; count = 0; standing = 0; lo = 0; hi = length part }
 
@@ -90,7 +83,7 @@ module _ {book rows overridden atoms : List ℕ} {layer n : ℕ} (w : Searchable
     }
 
   -- the least model met, as every one that is met, is stable
-  pub one-written : {goal : Goal} {part : List ℕ} {end : Visit} {part′ : List ℕ} → FirstPass book atoms layer n goal part end part′ → length part ≡ recordSize n
+  pub one-written : {goal : Goal} {part : List ℕ} {end : Visit} {part′ : List ℕ} → Passed P atoms n goal 0 part end part′ → length part ≡ recordSize n
       → 0 < end .count → (m : Interpretation) × Chosen P m × (part′ ≡ recordOf n m)
   one-written s sized h =
       let l = least-met s sized h in

@@ -8,7 +8,7 @@ use native.Mathlib.Nat.{pow-le-pow-right}
 use native.Mathlib.Omega.{arith}
 use lib.ListN.{length, take, replicate, length-replicate}
 use lib.Seq.{take-length}
-use Rattle.base.specs.Bounds.{maxAtoms, maxBranching}
+use Rattle.base.specs.Bounds.{maxAtoms}
 use Rattle.base.specs.Lists.{flat}
 use Rattle.models.specs.Program.{Program}
 use Rattle.models.specs.StableModels.{Interpretation, stable, WellFormed}

@@ -13,15 +13,12 @@ use Rattle.format.specs.Book.{bookOf}
 use Rattle.models.specs.Program.{programAt}
 use Rattle.models.specs.Branching.{branchingCount}
 use Rattle.table.specs.Table.{programOf, TableMade}
-use Rattle.table.proofs.TableLaws.{lent-table}
+use Rattle.table.proofs.TableLaws.{minus-zero, lent-table}
 use Rattle.accepted.specs.Accepted.{IsAccepted}
 use Rattle.accepted.proofs.RecordFacts.{accepted-formed}
 use Rattle.branching.specs.Marks.{Listed}
 use Rattle.search.specs.Searchable.{Searchable}
 use Rattle.passes.specs.Limit.{hasTooManyBranching}
-
-minus-zero : (n : ℕ) → n - 0 ≡ n
-minus-zero n = omega arith
 
 module _ (book : List ℕ) (layer : ℕ) (ok : IsAccepted book) {rows overridden : List ℕ} {count : ℕ} (made : TableMade (programOf book layer) book rows overridden count)
     {atoms : List ℕ} {g : ℕ} (l : Listed (programOf book layer) atoms g) where

@@ -2,10 +2,10 @@
 -- nothing.
 use mathlib.Core.Path.{_≡_, refl, sym, ap, ap₂, subst, _∙_}
 use mathlib.Core.Bool.{Bool, true, false}
-use mathlib.Core.List.{List, [], _∷_, _++_, List·Memᴰ·head, List·Memᴰ·not-nil, Memᴰ·append-left, append-nil}
-use Prim.Native.Nat.{ℕ, suc, _<_, _≤_}
+use mathlib.Core.List.{List, [], _∷_, _++_, List·Memᴰ·head, Memᴰ·append-left, append-nil}
+use Prim.Native.Nat.{ℕ, _<_, _≤_}
 use native.Mathlib.Omega.{arith}
-use borrow.Author.Tests.{eqb-true, ne-eqb}
+use borrow.Author.Tests.{ne-eqb}
 use lib.Dec.{eqb}
 use lib.ListN.{length, replicate, length-replicate, length-append}
 use Rattle.base.specs.Bounds.{maxAtoms}
@@ -35,14 +35,6 @@ module _ (P : Program) where
   pub models-into : (m : Interpretation) → StableModel P m → m ∈ stableModels P
   unfolding stableModels
   models-into m s = filter-into (stable P) (interpretations-has (P .atoms) m (s .size)) (stable-complete P m s)
-
-  pub no-state : hasNoStableState P ≡ true → (m : Interpretation) → StableModel P m → ⊥
-  unfolding hasNoStableState
-  no-state e m s = go (stableModels P) (models-into m s) e
-    where
-      go : (ms : List Interpretation) → m ∈ ms → eqb (length ms) 0 ≡ true → ⊥
-      go [] k q = List·Memᴰ·not-nil k
-      go (x ∷ ms) k q = omega (arith, eqb-true (suc (length ms)) 0 q)
 
   pub some-state : hasNoStableState P ≡ false → (m : Interpretation) × StableModel P m
   unfolding hasNoStableState

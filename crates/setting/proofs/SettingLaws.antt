@@ -1,10 +1,10 @@
 -- The setting of a mask: what stands in it, when another array is the same, and one atom more. Used by setting_of and by the search.
 -- Assumes nothing.
-use mathlib.Core.Path.{_≡_, refl, sym, ap, subst, _∙_}
-use mathlib.Core.Logic.{_⊎_, inl, inr, ⊎-elim}
+use mathlib.Core.Path.{_≡_, sym, ap, subst, _∙_}
+use mathlib.Core.Logic.{_⊎_, ⊎-elim}
 use mathlib.Core.Bool.{Bool, true, false, _&&_}
 use mathlib.Core.List.{List}
-use Prim.Native.Nat.{ℕ, zero, suc, _+_, _<_}
+use Prim.Native.Nat.{ℕ, _+_, _<_}
 use native.Mathlib.Decide.{decLt, ℕ-discrete}
 use native.Mathlib.Omega.{arith}
 use lib.Bits.{bitOr}
@@ -12,12 +12,12 @@ use lib.Dec.{T, eqb, eqb→eq, eqb-refl}
 use lib.ListN.{length, getD, set, length-set, replicate, length-replicate}
 use lib.Seq.{ext-getD, getD-set-same, getD-set-other, set-set}
 use Rattle.base.specs.Lists.{any, upTo}
-use Rattle.base.proofs.MapLaws.{map-length, map-at}
+use Rattle.base.proofs.MapLaws.{map-length, map-at, constant-at}
 use Rattle.base.proofs.Members.{_∈_, and-left, and-right, and-both, any-at, any-of, same-test}
-use Rattle.base.proofs.UpTo.{passed, failed, upTo-lt, upTo-has}
+use Rattle.base.proofs.UpTo.{upTo-lt, upTo-has}
 use Rattle.layers.specs.Masks.{bitOf}
 use Rattle.layers.proofs.BitLaws.{no-bit, or-cases, or-left, or-right}
-use Rattle.models.specs.StableModels.{Interpretation, atomHolds}
+use Rattle.models.specs.StableModels.{Interpretation}
 use Rattle.setting.specs.Setting.{settingOf}
 use Rattle.setting.proofs.BitMaskLaws.{single, single-only, single-has}
 
@@ -66,14 +66,9 @@ module _ (atoms : List ℕ) (standing : ℕ) where
       let b : f < 256 = subst (λ (k : ℕ). f < k) l h in
       same-test (getD o f false) (getD (settingOf atoms standing) f false) (λ t. at-stands f b (from f b t)) (λ t. into f b (stands-at f b t)))
 
-nothing : (n f : ℕ) → getD {A = Bool} (replicate n false) f false ≡ false
-nothing zero f = refl
-nothing (suc n) zero = refl
-nothing (suc n) (suc f) = nothing n f
-
 pub setting-none : (atoms : List ℕ) → replicate 256 false ≡ settingOf atoms 0
 setting-none atoms =
-    setting-same atoms 0 (replicate 256 false) (length-replicate {A = Bool} 256 false) (λ f b t. absurd (subst T (nothing 256 f) t)) (λ f b x. absurd (no-bit (x .place) (x .bit)))
+    setting-same atoms 0 (replicate 256 false) (length-replicate {A = Bool} 256 false) (λ f b t. absurd (subst T (constant-at false 256 f) t)) (λ f b x. absurd (no-bit (x .place) (x .bit)))
 
 -- ---- the loop of setting_of
 pub record SettingTo (atoms : List ℕ) (standing i : ℕ) (o : List Bool) : Type 0 where
@@ -84,7 +79,7 @@ pub record SettingTo (atoms : List ℕ) (standing i : ℕ) (o : List Bool) : Typ
 pub to-start : (atoms : List ℕ) (standing : ℕ) → SettingTo atoms standing 0 (replicate 256 false)
 to-start atoms standing = record {
   size = length-replicate {A = Bool} 256 false;
-  from = λ f b t. absurd (subst T (nothing 256 f) t);
+  from = λ f b t. absurd (subst T (constant-at false 256 f) t);
   into = λ f b x. absurd (omega (arith, x .before));
 }
 

@@ -124,7 +124,7 @@ overridden-take rows lower masks k w = record {
   full = λ j h i g e p z. subst (λ (x : ℕ). bitOf x i ≡ 1) (sym (getD-take k masks j 0 h)) (w .full j h i g e p z);
 }
 
-minus-zero : (n : ℕ) → n - 0 ≡ n
+pub minus-zero : (n : ℕ) → n - 0 ≡ n
 minus-zero n = omega arith
 
 module _ (book : List ℕ) (first mask : ℕ) (rows : List ℕ) (k : ℕ) (w : RowsMade book first mask rows k) where

@@ -2,8 +2,6 @@
 use Rattle.branching.proofs.MarkLaws.{not-small, negated-branches, plain-branches}
 use Rattle.branching.proofs.branches.Statement.{statement}
 use Rattle.branching.proofs.branches.Tie as tie
-use Rattle.branching.proofs.branches.Reads as reads
-use Rattle.branching.proofs.branches.Lts as lts
 
 returns : tie.Need-returns
 returns c = not-small (c .before .args .v) (c .before .args .rejecting) (c .if1 .taken)

@@ -8,9 +8,6 @@ use borrow.Author.Needs.{needs}
 use native.Mathlib.Omega.{arith}
 use Rattle.branching.proofs.branching_atoms.Statement.{statement}
 use Rattle.branching.proofs.branching_atoms.Tie as tie
-use Rattle.branching.proofs.branching_atoms.Reads as reads
-use Rattle.branching.proofs.branching_atoms.Lts as lts
-use Rattle.branching.proofs.mark_branching.Reads as mark-branching-reads
 
 abbrev Inv-loop : tie.InvT-loop
 Inv-loop book layer rows overridden n marks atoms₀ count₀ f₀ atoms count f = (f ≤ n) × ListedTo (programOf book layer) f atoms count

@@ -9,10 +9,6 @@ use borrow.Author.Needs.{needs}
 use native.Mathlib.Omega.{arith}
 use Rattle.branching.proofs.mark_body.Statement.{statement}
 use Rattle.branching.proofs.mark_body.Tie as tie
-use Rattle.branching.proofs.mark_body.Reads as reads
-use Rattle.branching.proofs.mark_body.Lts as lts
-use Rattle.base.proofs.wide.Reads as wide-reads
-use Rattle.branching.proofs.branches.Reads as branches-reads
 
 abbrev Inv-loop : tie.InvT-loop
 Inv-loop body rejecting r₀ i₀ r i = (length r ≡ 256) × Marking body rejecting r₀ i r

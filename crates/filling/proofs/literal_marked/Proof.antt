@@ -2,7 +2,6 @@
 -- array has the mark.
 use Rattle.filling.proofs.MarkLaws.{marked-past, negated-marked, plain-marked}
 use borrow.Author.Needs.{needs}
-use native.Mathlib.Omega.{arith}
 use Rattle.filling.proofs.literal_marked.Statement.{statement}
 use Rattle.filling.proofs.literal_marked.Tie as tie
 

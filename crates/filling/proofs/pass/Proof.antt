@@ -6,7 +6,6 @@ use Prim.Native.Nat.{_-_, _/_, _<_}
 use lib.ListN.{length}
 use Rattle.filling.proofs.FillingLaws.{Passing, pass-start, pass-skip, pass-low, pass-high, pass-clash, pass-done}
 use borrow.Author.Needs.{needs}
-use native.Mathlib.Omega.{arith}
 use Rattle.filling.proofs.pass.Statement.{statement}
 use Rattle.filling.proofs.pass.Tie as tie
 

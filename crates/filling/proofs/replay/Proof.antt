@@ -6,7 +6,6 @@ use lib.ListN.{length}
 use Rattle.filling.specs.Marks.{Grown}
 use Rattle.filling.proofs.GrowingLaws.{grown-none, grown-both}
 use borrow.Author.Needs.{needs}
-use native.Mathlib.Omega.{arith}
 use Rattle.filling.proofs.replay.Statement.{statement}
 use Rattle.filling.proofs.replay.Tie as tie
 

@@ -1,5 +1,4 @@
 -- Only the trial of the head marks anything, and it marks what follows.
-use native.Mathlib.Omega.{arith}
 use borrow.Author.Needs.{needs}
 use Rattle.filling.proofs.settle.Statement.{statement}
 use Rattle.filling.proofs.settle.Tie as tie

@@ -6,10 +6,6 @@ use native.Mathlib.Omega.{arith}
 use borrow.Author.Needs.{needs}
 use Rattle.lesson.proofs.lesson_list.Statement.{statement}
 use Rattle.lesson.proofs.lesson_list.Tie as tie
-use Rattle.lesson.proofs.lesson_list.Reads as reads
-use Rattle.lesson.proofs.lesson_list.Lts as lts
-use Rattle.book.proofs.cause_number.Reads as cause-number-reads
-use Rattle.list_call.proofs.list.Reads as list-reads
 
 list-requires : tie.Need-list-requires
 list-requires c κs = search needs

@@ -6,10 +6,6 @@ use native.Mathlib.Omega.{arith}
 use borrow.Author.Needs.{needs}
 use Rattle.lesson.proofs.lesson_one.Statement.{statement}
 use Rattle.lesson.proofs.lesson_one.Tie as tie
-use Rattle.lesson.proofs.lesson_one.Reads as reads
-use Rattle.lesson.proofs.lesson_one.Lts as lts
-use Rattle.book.proofs.cause_number.Reads as cause-number-reads
-use Rattle.one_call.proofs.one.Reads as one-reads
 
 one-requires : tie.Need-one-requires
 one-requires c κs = search needs

@@ -6,11 +6,6 @@ use native.Mathlib.Omega.{arith}
 use borrow.Author.Needs.{needs}
 use Rattle.lesson.proofs.lesson_place.Statement.{statement}
 use Rattle.lesson.proofs.lesson_place.Tie as tie
-use Rattle.lesson.proofs.lesson_place.Reads as reads
-use Rattle.lesson.proofs.lesson_place.Lts as lts
-use Rattle.book.proofs.cause_number.Reads as cause-number-reads
-use Rattle.lesson.proofs.place_bits.Reads as place-bits-reads
-use Rattle.place_call.proofs.fact_place.Reads as fact-place-reads
 
 fact-place-requires : tie.Need-fact-place-requires
 fact-place-requires c κs = search needs

@@ -4,10 +4,6 @@ use Rattle.list_call.proofs.ListLaws.{call-refused, call-answered}
 use borrow.Author.Needs.{needs}
 use Rattle.list_call.proofs.list.Statement.{statement}
 use Rattle.list_call.proofs.list.Tie as tie
-use Rattle.list_call.proofs.list.Reads as reads
-use Rattle.list_call.proofs.list.Lts as lts
-use Rattle.accepted.proofs.check_layer.Reads as check-layer-reads
-use Rattle.list_call.proofs.list_at.Reads as list-at-reads
 
 check-layer-requires : tie.Need-check-layer-requires
 check-layer-requires c κs = search needs

@@ -4,10 +4,6 @@ use Rattle.one_call.proofs.OneLaws.{call-refused, call-answered}
 use borrow.Author.Needs.{needs}
 use Rattle.one_call.proofs.one.Statement.{statement}
 use Rattle.one_call.proofs.one.Tie as tie
-use Rattle.one_call.proofs.one.Reads as reads
-use Rattle.one_call.proofs.one.Lts as lts
-use Rattle.accepted.proofs.check_layer.Reads as check-layer-reads
-use Rattle.one_call.proofs.one_at.Reads as one-at-reads
 
 check-layer-requires : tie.Need-check-layer-requires
 check-layer-requires c κs = search needs

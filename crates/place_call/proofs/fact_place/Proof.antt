@@ -4,10 +4,6 @@ use Rattle.place_call.proofs.PlaceLaws.{call-refused, call-answered}
 use borrow.Author.Needs.{needs}
 use Rattle.place_call.proofs.fact_place.Statement.{statement}
 use Rattle.place_call.proofs.fact_place.Tie as tie
-use Rattle.place_call.proofs.fact_place.Reads as reads
-use Rattle.place_call.proofs.fact_place.Lts as lts
-use Rattle.accepted.proofs.check_layer.Reads as check-layer-reads
-use Rattle.place_call.proofs.place_at.Reads as place-at-reads
 
 check-layer-requires : tie.Need-check-layer-requires
 check-layer-requires c κs = search needs

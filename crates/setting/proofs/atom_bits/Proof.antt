@@ -3,7 +3,7 @@ use Prim.Native.Nat.{_-_, _≤_}
 use lib.ListN.{length}
 use Rattle.setting.specs.RuleMasks.{AtomBits}
 use Rattle.setting.proofs.RuleMaskLaws.{bits-start, bits-more}
-use mathlib.Core.Path.{_≡_, subst}
+use mathlib.Core.Path.{subst}
 use borrow.Author.Needs.{needs}
 use native.Mathlib.Omega.{arith}
 use Rattle.setting.proofs.atom_bits.Statement.{statement}

@@ -1,7 +1,6 @@
 -- `bits_of` meets its contract: past the end there is nothing. Assumes nothing.
 use mathlib.Core.Path.{sym}
 use lib.ListN.{List·getD-eq-default}
-use native.Mathlib.Omega.{arith}
 use borrow.Author.Needs.{needs}
 use Rattle.setting.proofs.bits_of.Statement.{statement}
 use Rattle.setting.proofs.bits_of.Tie as tie

@@ -1,6 +1,5 @@
 -- `print_states` is safe: each record is cut out only where it lies inside the listing. The records left fall. Assumes nothing.
 use borrow.Author.Needs.{needs}
-use native.Mathlib.Omega.{arith}
 use Rattle.states.proofs.print_states.Statement.{statement}
 use Rattle.states.proofs.print_states.Tie as tie
 
