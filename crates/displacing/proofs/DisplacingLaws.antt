@@ -1,5 +1,5 @@
 -- What the loops keep: the entries of the rows passed, and what the entries passed reject at a setting; and the entries, lent. Used by
--- displacing_masks and rejected_at, and by what lends the entries to a search. Assumes nothing.
+-- displacing_masks and reject_at, and by what lends the entries to a search. Assumes nothing.
 use mathlib.Core.Path.{_≡_, refl, sym, ap, subst, _∙_}
 use mathlib.Core.Logic.{⊎-elim}
 use mathlib.Core.Bool.{Bool, true, false, cond}

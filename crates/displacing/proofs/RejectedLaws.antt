@@ -153,7 +153,7 @@ module _ {book rows overridden atoms : List ℕ} (layer : ℕ) (formed : WellFor
           T-not (getD X (getD atoms i 0) false) (all-at (holds X) t (v .1))
           (at-stands atoms standing (getD atoms i 0) (small j b (record { atom = getD atoms i 0; negated = true }) (v .1)) (record { place = i; before = v .0; atom-is = refl; bit = s })))
 
-    -- what rejected_at says is what rejected_masks says of the setting
+    -- what reject_at says is what RejectedMasks says of the setting
     pub rejected-at : {displacing rejects : List ℕ} → Displacing book rows overridden atoms displacing → RejectsAt displacing standing rejects (length displacing / 4)
         → RejectedMasks book rows overridden (settingOf atoms standing) rejects (rowCount rows)
     rejected-at {displacing} {rejects} d w = record { size = w .size; sound = λ h i z. from h i (w .sound h i z); full = λ h i x b. into h i x }

@@ -2,7 +2,7 @@
 // at which settings it holds: they are made once a call, and no body is read at a setting.
 ghost use mathlib.Core.Path.{_≡_};
 ghost use Prim.Native.Nat.{_*_, _/_, _≤_};
-ghost use lib.ListN.{length};
+ghost use lib.ListN.{length, replicate};
 ghost use Rattle.base.specs.Bounds.{maxBranching, maxRules};
 ghost use Rattle.table.specs.Rows.{rowCount, RowsFit};
 ghost use Rattle.displacing.specs.Displacing.{DisplacingMade, Named, RejectsAt};
@@ -47,13 +47,14 @@ pub fn displacing_masks(
     made
 }
 
-// Bit i at name h: rules of layer i with that head are rejected at the setting of this mask.
-pub fn rejected_at(displacing: &[u32], standing: u32) -> [u32; 512]
+// Bit i at name h: rules of layer i with that head are rejected at the setting of this mask. The array is lent, all 0: it is large
+// enough that a copy would be felt at every setting.
+pub fn reject_at(displacing: &[u32], standing: u32, rejects: &mut [u32])
     requires { ⌜ Named (now displacing) (length (now displacing) / 4) ⌝ }
-    ensures { λ r. ⌜ RejectsAt (now (displacing .entry)) standing r (length (now (displacing .entry)) / 4) ⌝ }
+    requires { ⌜ now rejects ≡ replicate 512 0 ⌝ }
+    ensures { λ _. ⌜ RejectsAt (now (displacing .entry)) standing (now (rejects .exit)) (length (now (displacing .entry)) / 4) ⌝ }
 {
     let count = displacing.len() / 4;
-    let mut rejects: [u32; 512] = [0; 512];
     let mut k = 0;
     while k < count {
         if displacing[4 * k] & standing == displacing[4 * k] {
@@ -64,5 +65,4 @@ pub fn rejected_at(displacing: &[u32], standing: u32) -> [u32; 512]
         }
         k += 1;
     }
-    rejects
 }

@@ -1,8 +1,8 @@
--- One call of the search: a leaf, or two halves with one fact decided each way. Used by the proof of `search`. Assumes nothing.
+-- One call of the search: a leaf, or two halves with one fact decided each way. Used by visit_setting and search. Assumes nothing.
 use mathlib.Core.Path.{_≡_, refl, sym, ap, ap₂, subst, _∙_}
 use mathlib.Core.Bool.{Bool, true, false}
 use mathlib.Core.List.{List, [], _∷_, _++_}
-use Prim.Native.Nat.{ℕ, suc, _+_, _-_, _^_, _<_, _≤_}
+use Prim.Native.Nat.{ℕ, suc, _+_, _-_, _/_, _^_, _<_, _≤_}
 use native.Mathlib.Nat.{pow-suc}
 use native.Mathlib.Omega.{arith}
 use lib.Pow.{pow-pos}
@@ -13,7 +13,12 @@ use Rattle.models.specs.StableModels.{Interpretation}
 use Rattle.search.specs.declared.Visit.{Visit}
 use Rattle.search.specs.Found.{atSetting, foundBy}
 use Rattle.search.specs.Visits.{Kept, Met, Searched}
+use Rattle.table.specs.Rows.{rowCount}
 use Rattle.table.specs.Table.{programOf}
+use Rattle.tester.specs.Masks.{RejectedMasks}
+use Rattle.setting.specs.Setting.{settingOf}
+use Rattle.displacing.specs.Displacing.{Displacing, RejectsAt}
+use Rattle.displacing.proofs.RejectedLaws.{rejected-at}
 use Rattle.search.specs.Searchable.{Searchable}
 use Rattle.search.proofs.FoundLaws.{setting-one, found-le}
 use Rattle.search.proofs.VisitLaws.{searched-none, searched-one, searched-append, visits-kept, visits-count}
@@ -37,6 +42,12 @@ at-leaf : (leaf : Interpretation → List Interpretation) (undecided : List ℕ)
 unfolding foundBy
 at-leaf leaf [] o e = refl
 at-leaf leaf (f ∷ fs) o e = absurd (omega arith)
+
+-- what the masks of the displacing rules say of the setting of a mask
+pub setting-rejects : {book rows overridden atoms displacing rejects : List ℕ} {layer n : ℕ} → Searchable book rows overridden atoms layer n → (standing : ℕ) (o : Interpretation) → o ≡ settingOf atoms standing
+    → Displacing book rows overridden atoms displacing → RejectsAt displacing standing rejects (length displacing / 4) → RejectedMasks book rows overridden o rejects (rowCount rows)
+setting-rejects {book} {rows} {overridden} {rejects = rejects} {layer = layer} w standing o e d r =
+    subst (λ (x : Interpretation). RejectedMasks book rows overridden x rejects (rowCount rows)) (sym e) (rejected-at layer (w .formed) (omega (arith, w .size, w .few)) (w .table) (w .listed) standing d r)
 
 -- a setting whose model is known, or that has none
 module _ (n : ℕ) (ms : List Interpretation) (ok : Bool) (m : Interpretation) (is : ms ≡ consIf ok m []) where

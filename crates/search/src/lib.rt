@@ -17,7 +17,7 @@ ghost use Rattle.displacing.specs.Displacing.{Displacing};
 ghost use Rattle.search.specs.Searchable.{Searchable, Denied, Undisputed, Covered, Early, Candidate};
 ghost use Rattle.search.specs.Decided.{Decided};
 use base::wide;
-use displacing::rejected_at;
+use displacing::reject_at;
 use filling::fill;
 use insertion::Gap;
 use nogoods::has_nogood;
@@ -306,7 +306,8 @@ pub fn visit_setting(
     ensures { λ r. ⌜ Searched n (atSetting (programOf (now (book .entry)) layer) (now (atoms .entry)) (settingOf (now (atoms .entry)) standing)) v (now (part .entry)) r (now (part .exit)) ⌝ }
 {
     let setting = setting_of(atoms, standing);
-    let rejects = rejected_at(displacing, standing);
+    let mut rejects: [u32; 512] = [0; 512];
+    reject_at(displacing, standing, &mut rejects);
     let found = model_at(
         book,
         layer,

@@ -1,5 +1,5 @@
 -- Rejection by masks, supported atoms, violated and contested rows, and the other atoms: what the loops keep, row by row and atom by
--- atom. Used by row_mask, rejected_masks, name_holds, supported, undecided, contested and defaults_of. Assumes nothing.
+-- atom. Used by row_mask, reject, name_holds, supported, undecided, contested and defaults_of. Assumes nothing.
 use mathlib.Core.Path.{_≡_, refl, sym, ap, subst, _∙_}
 use mathlib.Core.Logic.{⊎-elim}
 use mathlib.Core.Bool.{Bool, true, false, not, cond, true≢false}

@@ -4,7 +4,7 @@
 ghost use mathlib.Core.Path.{_≡_};
 ghost use mathlib.Core.Bool.{false, cond};
 ghost use Prim.Native.Nat.{_<_, _≤_};
-ghost use lib.ListN.{length, getD};
+ghost use lib.ListN.{length, getD, replicate};
 ghost use Rattle.base.specs.Lists.{all, upTo};
 ghost use Rattle.models.specs.StableModels.{holds, bodyHolds, stable, WellFormed};
 ghost use Rattle.table.specs.Names.{literalNamed};
@@ -36,14 +36,14 @@ fn row_mask(book: &[u8], rows: &[u16], overridden: &[u32], m: &[bool], j: usize)
     0
 }
 
-// Bit i at name h: rules of layer i with that head are rejected.
-pub fn rejected_masks(book: &[u8], rows: &[u16], overridden: &[u32], m: &[bool]) -> [u32; 512]
+// Bit i at name h: rules of layer i with that head are rejected. The array is lent, all 0.
+fn reject(book: &[u8], rows: &[u16], overridden: &[u32], m: &[bool], rejects: &mut [u32])
     requires { ⌜ RowsFit (now book) (now rows) ⌝ }
     requires { ⌜ length (now overridden) ≡ rowCount (now rows) ⌝ }
-    ensures { λ r. ⌜ RejectedMasks (now (book .entry)) (now (rows .entry)) (now (overridden .entry)) (now (m .entry)) r (rowCount (now (rows .entry))) ⌝ }
+    requires { ⌜ now rejects ≡ replicate 512 0 ⌝ }
+    ensures { λ _. ⌜ RejectedMasks (now (book .entry)) (now (rows .entry)) (now (overridden .entry)) (now (m .entry)) (now (rejects .exit)) (rowCount (now (rows .entry))) ⌝ }
 {
     let count = rows.len() / 4;
-    let mut rejects: [u32; 512] = [0; 512];
     let mut j = 0;
     while j < count {
         let mask = row_mask(book, rows, overridden, m, j);
@@ -53,7 +53,6 @@ pub fn rejected_masks(book: &[u8], rows: &[u16], overridden: &[u32], m: &[bool])
         }
         j += 1;
     }
-    rejects
 }
 
 // Whether the literal of a name holds.
@@ -163,7 +162,8 @@ pub fn is_stable(
     requires { ⌜ length (now hints) ≡ 2048 ⌝ }
     ensures { λ r. ⌜ r ≡ stable (programOf (now (book .entry)) layer) (now (m .entry)) ⌝ }
 {
-    let rejects = rejected_masks(book, rows, overridden, m);
+    let mut rejects: [u32; 512] = [0; 512];
+    reject(book, rows, overridden, m, &mut rejects);
     let support = supported(book, rows, &rejects, m);
     let atoms = support.atoms;
     if support.violated {

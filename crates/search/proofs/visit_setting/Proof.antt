@@ -1,15 +1,10 @@
--- The masks say which rows the setting rejects (`rejected-at`), and the setting's model, if there is one, is met.
-use mathlib.Core.Path.{sym, ap, subst, _∙_}
+-- The masks say which rows the setting rejects (`setting-rejects`), and the setting's model, if there is one, is met.
+use mathlib.Core.Path.{refl, sym, ap, _∙_}
 use Rattle.models.specs.StableModels.{Interpretation}
-use Rattle.table.specs.Rows.{rowCount}
 use Rattle.table.specs.Table.{programOf}
-use Rattle.tester.specs.Masks.{RejectedMasks}
 use Rattle.displacing.proofs.DisplacingLaws.{displacing-named}
-use Rattle.displacing.proofs.RejectedLaws.{rejected-at}
 use Rattle.search.specs.Found.{atSetting}
-use Rattle.search.proofs.StepLaws.{setting-met, setting-empty}
-use native.Mathlib.Omega.{arith}
-use native.Mathlib.Omega.{arith}
+use Rattle.search.proofs.StepLaws.{setting-rejects, setting-met, setting-empty}
 use borrow.Author.Needs.{needs}
 use Rattle.search.proofs.visit_setting.Statement.{statement}
 use Rattle.search.proofs.visit_setting.Tie as tie
@@ -17,18 +12,17 @@ use Rattle.search.proofs.visit_setting.Tie as tie
 setting-of-requires : tie.Need-setting-of-requires
 setting-of-requires c κs = search needs
 
-rejected-at-requires : tie.Need-rejected-at-requires
-rejected-at-requires c κs = displacing-named (c .before .before .before .before .before .before .before .before .pre .1 .0)
+slice-aggregate-reject-at : tie.Need-slice-aggregate-reject-at
+slice-aggregate-reject-at c = search needs
+
+reject-at-requires : tie.Need-reject-at-requires
+reject-at-requires c κs = (displacing-named (c .before .before .before .before .before .before .before .before .before .pre .1 .0), refl)
 
 slice-aggregate-model-at : tie.Need-slice-aggregate-model-at
 slice-aggregate-model-at c = search needs
 
 model-at-requires : tie.Need-model-at-requires
-model-at-requires c κs =
-    let s = c .before .before .before .before .before .before .before .before .before .before .before in
-    let a = s .args in
-    let w = s .pre .0 .0 in
-    (w, (subst (λ (o : Interpretation). RejectedMasks (a .book .now) (a .rows .now) (a .overridden .now) o (c .before .before .rejected-at .result) (rowCount (a .rows .now))) (sym (c .before .before .before .setting-of .ensures)) (rejected-at (a .layer) (w .formed) (omega (arith, w .size, w .few)) (w .table) (w .listed) (a .standing) (s .pre .1 .0) (c .before .before .rejected-at .ensures)), s .pre .1 .1))
+model-at-requires c κs = let s = c .before .before .before .before .before .before .before .before .before .before .before .before .before in (s .pre .0 .0, (setting-rejects (s .pre .0 .0) (s .args .standing) _ (c .before .before .before .before .before .setting-of .ensures) (s .pre .1 .0) (c .before .before .before .reject-at .ensures), s .pre .1 .1))
 
 meet-requires : tie.Need-meet-requires
 meet-requires c κs = search needs
@@ -41,23 +35,24 @@ same-length-2 c = search needs
 
 returns : tie.Need-returns
 returns c =
-    let a = c .before .before .before .before .before .before .before .before .before .before .before .before .before .before .before .before .before .before .before .before .args in
-    setting-met (a .n) _ (c .before .before .before .before .before .before .before .before .model-at .result .ok) _ (ap (λ (o : Interpretation). atSetting (programOf (a .book .now) (a .layer)) (a .atoms .now) o) (sym (c .before .before .before .before .before .before .before .before .before .before .before .before .setting-of .ensures)) ∙ c .before .before .before .before .before .before .before .before .model-at .ensures) (c .before .before .before .before .if1 .taken) (a .v) (a .part .now) _ _ (c .before .before .meet .ensures)
+    let a = c .before .before .before .before .before .before .before .before .before .before .before .before .before .before .before .before .before .before .before .before .before .before .args in
+    setting-met (a .n) _ (c .before .before .before .before .before .before .before .before .model-at .result .ok) _ (ap (λ (o : Interpretation). atSetting (programOf (a .book .now) (a .layer)) (a .atoms .now) o) (sym (c .before .before .before .before .before .before .before .before .before .before .before .before .before .before .setting-of .ensures)) ∙ c .before .before .before .before .before .before .before .before .model-at .ensures) (c .before .before .before .before .if1 .taken) (a .v) (a .part .now) _ _ (c .before .before .meet .ensures)
 
 same-length-3 : tie.Need-same-length-3
 same-length-3 c = search needs
 
 returns-2 : tie.Need-returns-2
 returns-2 c =
-    let a = c .before .before .before .before .before .before .before .before .before .before .before .before .before .before .before .before .args in
-    setting-empty (a .n) _ (c .before .before .before .before .model-at .result .ok) _ (ap (λ (o : Interpretation). atSetting (programOf (a .book .now) (a .layer)) (a .atoms .now) o) (sym (c .before .before .before .before .before .before .before .before .setting-of .ensures)) ∙ c .before .before .before .before .model-at .ensures) (c .if1 .left) (a .v) (a .part .now)
+    let a = c .before .before .before .before .before .before .before .before .before .before .before .before .before .before .before .before .before .before .args in
+    setting-empty (a .n) _ (c .before .before .before .before .model-at .result .ok) _ (ap (λ (o : Interpretation). atSetting (programOf (a .book .now) (a .layer)) (a .atoms .now) o) (sym (c .before .before .before .before .before .before .before .before .before .before .setting-of .ensures)) ∙ c .before .before .before .before .model-at .ensures) (c .if1 .left) (a .v) (a .part .now)
 
 pub visit-setting-spec : {M : Type 1} → statement M
 visit-setting-spec =
     tie.close
     (tie.spec
     setting-of-requires
-    rejected-at-requires
+    slice-aggregate-reject-at
+    reject-at-requires
     slice-aggregate-model-at
     model-at-requires
     meet-requires

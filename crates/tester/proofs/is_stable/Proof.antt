@@ -6,8 +6,11 @@ use borrow.Author.Needs.{needs}
 use Rattle.tester.proofs.is_stable.Statement.{statement}
 use Rattle.tester.proofs.is_stable.Tie as tie
 
-rejected-masks-requires : tie.Need-rejected-masks-requires
-rejected-masks-requires c κs = search needs
+slice-aggregate-reject : tie.Need-slice-aggregate-reject
+slice-aggregate-reject c = search needs
+
+reject-requires : tie.Need-reject-requires
+reject-requires c κs = search needs
 
 slice-aggregate-supported : tie.Need-slice-aggregate-supported
 slice-aggregate-supported c = search needs
@@ -17,8 +20,8 @@ supported-requires c κs = search needs
 
 returns : tie.Need-returns
 returns c =
-    let h = c .before .before .before .before .before .before .before .before .before .before .pre in
-    violated-unstable (h .1 .0) (c .before .before .before .before .rejected-masks .ensures) (h .0) (h .1 .1 .1 .1 .0 ∙ h .1 .1 .0) (c .before .before .supported .ensures .violation (c .if1 .taken))
+    let h = c .before .before .before .before .before .before .before .before .before .before .before .before .pre in
+    violated-unstable (h .1 .0) (c .before .before .before .before .before .reject .ensures) (h .0) (h .1 .1 .1 .1 .0 ∙ h .1 .1 .0) (c .before .before .supported .ensures .violation (c .if1 .taken))
 
 slice-aggregate-fill : tie.Need-slice-aggregate-fill
 slice-aggregate-fill c = search needs
@@ -34,8 +37,8 @@ same-length c = search needs
 
 returns-2 : tie.Need-returns-2
 returns-2 c =
-    let h = c .before .before .before .before .before .before .before .before .before .before .before .before .before .before .before .before .before .pre in
-    conflict-unstable (h .1 .0) (c .before .before .before .before .before .before .before .before .before .before .before .rejected-masks .ensures) (h .0) (h .1 .1 .0) (h .1 .1 .1 .0) (c .before .before .before .before .before .before .before .before .before .supported .ensures .support (c .before .before .before .before .before .before .before .if1 .left)) (c .before .before .before .before .before .defaults-of .ensures) (c .before .before .before .fill .ensures) (h .1 .1 .1 .1 .0) (c .if2 .taken)
+    let h = c .before .before .before .before .before .before .before .before .before .before .before .before .before .before .before .before .before .before .before .pre in
+    conflict-unstable (h .1 .0) (c .before .before .before .before .before .before .before .before .before .before .before .before .reject .ensures) (h .0) (h .1 .1 .0) (h .1 .1 .1 .0) (c .before .before .before .before .before .before .before .before .before .supported .ensures .support (c .before .before .before .before .before .before .before .if1 .left)) (c .before .before .before .before .before .defaults-of .ensures) (c .before .before .before .fill .ensures) (h .1 .1 .1 .1 .0) (c .if2 .taken)
 
 marks-agree-requires : tie.Need-marks-agree-requires
 marks-agree-requires c κs = search needs
@@ -45,14 +48,15 @@ same-length-2 c = search needs
 
 returns-3 : tie.Need-returns-3
 returns-3 c =
-    let h = c .before .before .before .before .before .before .before .before .before .before .before .before .before .before .before .before .before .before .before .before .before .before .before .pre in
-    agree-stable (h .1 .0) (c .before .before .before .before .before .before .before .before .before .before .before .before .before .before .before .before .before .rejected-masks .ensures) (h .0) (h .1 .1 .0) (h .1 .1 .1 .0) (c .before .before .before .before .before .before .before .before .before .before .before .before .before .before .before .supported .ensures .support (c .before .before .before .before .before .before .before .before .before .before .before .before .before .if1 .left)) (c .before .before .before .before .before .before .before .before .before .before .before .defaults-of .ensures) (c .before .before .before .before .before .before .before .before .before .fill .ensures) (h .1 .1 .1 .1 .0) (c .before .before .before .before .before .before .if2 .left) (c .marks-agree .result) (c .marks-agree .ensures)
+    let h = c .before .before .before .before .before .before .before .before .before .before .before .before .before .before .before .before .before .before .before .before .before .before .before .before .before .pre in
+    agree-stable (h .1 .0) (c .before .before .before .before .before .before .before .before .before .before .before .before .before .before .before .before .before .before .reject .ensures) (h .0) (h .1 .1 .0) (h .1 .1 .1 .0) (c .before .before .before .before .before .before .before .before .before .before .before .before .before .before .before .supported .ensures .support (c .before .before .before .before .before .before .before .before .before .before .before .before .before .if1 .left)) (c .before .before .before .before .before .before .before .before .before .before .before .defaults-of .ensures) (c .before .before .before .before .before .before .before .before .before .fill .ensures) (h .1 .1 .1 .1 .0) (c .before .before .before .before .before .before .if2 .left) (c .marks-agree .result) (c .marks-agree .ensures)
 
 pub is-stable-spec : {M : Type 1} → statement M
 is-stable-spec =
     tie.close
     (tie.spec
-    rejected-masks-requires
+    slice-aggregate-reject
+    reject-requires
     slice-aggregate-supported
     supported-requires
     returns

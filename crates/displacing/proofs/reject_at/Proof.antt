@@ -1,23 +1,24 @@
 -- The invariant: the masks have exactly what the entries passed reject at the setting. The entries left fall.
-use mathlib.Core.Path.{_≡_, refl, subst}
+use mathlib.Core.Path.{_≡_, refl, sym, subst}
 use mathlib.Core.Logic.{⊎-elim}
-use Prim.Native.Nat.{_-_, _/_, _≤_}
+use mathlib.Core.List.{List}
+use Prim.Native.Nat.{ℕ, _-_, _/_, _≤_}
 use lib.ListN.{length}
 use Rattle.displacing.specs.Displacing.{RejectsAt}
 use Rattle.displacing.proofs.DisplacingLaws.{rejects-start, rejects-skip, rejects-more}
 use borrow.Author.Needs.{needs}
 use native.Mathlib.Omega.{arith}
-use Rattle.displacing.proofs.rejected_at.Statement.{statement}
-use Rattle.displacing.proofs.rejected_at.Tie as tie
+use Rattle.displacing.proofs.reject_at.Statement.{statement}
+use Rattle.displacing.proofs.reject_at.Tie as tie
 
 abbrev Inv-loop : tie.InvT-loop
-Inv-loop displacing standing count rejects₀ k₀ rejects k = (count ≡ length displacing / 4) × (k ≤ count) × RejectsAt displacing standing rejects k
+Inv-loop displacing standing rejects₀ count k₀ rejects k = (count ≡ length displacing / 4) × (k ≤ count) × RejectsAt displacing standing rejects k
 
 abbrev μ-loop : tie.MeasureT-loop
-μ-loop displacing standing count rejects₀ k₀ rejects k = count - k
+μ-loop displacing standing rejects₀ count k₀ rejects k = count - k
 
 loop-holds : tie.Need-loop-holds Inv-loop μ-loop
-loop-holds c = (refl, omega arith, rejects-start)
+loop-holds c = let a = c .args in (refl, omega arith, subst (λ (x : List ℕ). RejectsAt (a .displacing .now) (a .standing) x 0) (sym (c .pre .1)) rejects-start)
 
 mul-if1 : tie.Need-mul-if1 Inv-loop μ-loop
 mul-if1 c = search needs
@@ -62,13 +63,13 @@ shared-slice-read-name : tie.Need-shared-slice-read-name Inv-loop μ-loop
 shared-slice-read-name c = search needs
 
 cast-name : tie.Need-cast-name Inv-loop μ-loop
-cast-name c = omega (arith, c .before .before .before .before .before .before .before .before .pre (c .before .before .before .before .before .before .before .loop .k) (omega (arith, c .before .before .before .before .before .before .before .loop .inv .0, c .before .before .before .before .before .before .loop-test .taken)))
+cast-name c = omega (arith, c .before .before .before .before .before .before .before .before .pre .0 (c .before .before .before .before .before .before .before .loop .k) (omega (arith, c .before .before .before .before .before .before .before .loop .inv .0, c .before .before .before .before .before .before .loop-test .taken)))
 
 mul-rejects : tie.Need-mul-rejects Inv-loop μ-loop
-mul-rejects c = omega (arith, c .before .before .before .before .before .before .before .before .pre (c .before .before .before .before .before .before .before .loop .k) (omega (arith, c .before .before .before .before .before .before .before .loop .inv .0, c .before .before .before .before .before .before .loop-test .taken)))
+mul-rejects c = omega (arith, c .before .before .before .before .before .before .before .before .pre .0 (c .before .before .before .before .before .before .before .loop .k) (omega (arith, c .before .before .before .before .before .before .before .loop .inv .0, c .before .before .before .before .before .before .loop-test .taken)))
 
-array-read-rejects : tie.Need-array-read-rejects Inv-loop μ-loop
-array-read-rejects c = omega (arith, c .before .before .before .before .before .before .before .loop .inv .2 .size, c .before .before .before .before .before .before .before .before .pre (c .before .before .before .before .before .before .before .loop .k) (omega (arith, c .before .before .before .before .before .before .before .loop .inv .0, c .before .before .before .before .before .before .loop-test .taken)))
+slice-read-rejects : tie.Need-slice-read-rejects Inv-loop μ-loop
+slice-read-rejects c = omega (arith, c .before .before .before .before .before .before .before .before .loop .inv .2 .size, c .before .before .before .before .before .before .before .before .before .pre .0 (c .before .before .before .before .before .before .before .before .loop .k) (omega (arith, c .before .before .before .before .before .before .before .before .loop .inv .0, c .before .before .before .before .before .before .before .loop-test .taken)))
 
 mul-rejects-2 : tie.Need-mul-rejects-2 Inv-loop μ-loop
 mul-rejects-2 c = search needs
@@ -83,10 +84,10 @@ shared-slice-read-rejects : tie.Need-shared-slice-read-rejects Inv-loop μ-loop
 shared-slice-read-rejects c = search needs
 
 mul-rejects-4 : tie.Need-mul-rejects-4 Inv-loop μ-loop
-mul-rejects-4 c = omega (arith, c .before .before .before .before .before .before .before .before .before .pre (c .before .before .before .before .before .before .before .before .loop .k) (omega (arith, c .before .before .before .before .before .before .before .before .loop .inv .0, c .before .before .before .before .before .before .before .loop-test .taken)))
+mul-rejects-4 c = omega (arith, c .before .before .before .before .before .before .before .before .before .before .pre .0 (c .before .before .before .before .before .before .before .before .before .loop .k) (omega (arith, c .before .before .before .before .before .before .before .before .before .loop .inv .0, c .before .before .before .before .before .before .before .before .loop-test .taken)))
 
-array-write-rejects : tie.Need-array-write-rejects Inv-loop μ-loop
-array-write-rejects c = omega (arith, c .before .before .before .before .before .before .before .before .loop .inv .2 .size, c .before .before .before .before .before .before .before .before .before .pre (c .before .before .before .before .before .before .before .before .loop .k) (omega (arith, c .before .before .before .before .before .before .before .before .loop .inv .0, c .before .before .before .before .before .before .before .loop-test .taken)))
+slice-write-rejects : tie.Need-slice-write-rejects Inv-loop μ-loop
+slice-write-rejects c = omega (arith, c .before .before .before .before .before .before .before .before .before .loop .inv .2 .size, c .before .before .before .before .before .before .before .before .before .before .pre .0 (c .before .before .before .before .before .before .before .before .before .loop .k) (omega (arith, c .before .before .before .before .before .before .before .before .before .loop .inv .0, c .before .before .before .before .before .before .before .before .loop-test .taken)))
 
 add-k : tie.Need-add-k Inv-loop μ-loop
 add-k c = search needs
@@ -98,11 +99,11 @@ loop-again : tie.Need-loop-again Inv-loop μ-loop
 loop-again c =
     let e = c .before .before .before .before .before in
     let l = c .before .before .before .before .loop in
-    let b = e .pre (l .k) (omega (arith, l .inv .0, c .before .before .before .loop-test .taken)) in (
+    let b = e .pre .0 (l .k) (omega (arith, l .inv .0, c .before .before .before .loop-test .taken)) in (
       refl,
       omega arith,
       ⊎-elim
-          (λ w. rw (w .5) (rejects-more (l .inv .2) (record { plain-stand = w .0 .taken; negated-fall = w .2 .taken }) b))
+          (λ w. rw (w .6) (rejects-more (l .inv .2) (record { plain-stand = w .0 .taken; negated-fall = w .2 .taken }) b))
           (λ u. ⊎-elim
           (λ w. rw (w .3) (rejects-skip (l .inv .2) (λ f. w .2 .left (f .negated-fall))))
           (λ w. rw (w .1) (rejects-skip (l .inv .2) (λ f. w .0 .left (f .plain-stand))))
@@ -110,14 +111,17 @@ loop-again c =
           (c .if1 .came),
     )
 
+same-length : tie.Need-same-length Inv-loop μ-loop
+same-length c = search needs
+
 returns : tie.Need-returns Inv-loop μ-loop
 returns c =
     let l = c .before .loop in
     let a = c .before .before .args in
     subst (RejectsAt (a .displacing .now) (a .standing) (l .rejects)) {x = l .k} {y = length (a .displacing .now) / 4} (omega (arith, c .loop-test .left, l .inv .1)) (l .inv .2)
 
-pub rejected-at-spec : {M : Type 1} → statement M
-rejected-at-spec =
+pub reject-at-spec : {M : Type 1} → statement M
+reject-at-spec =
     tie.close
     (tie.spec
     Inv-loop
@@ -139,14 +143,15 @@ rejected-at-spec =
     shared-slice-read-name
     cast-name
     mul-rejects
-    array-read-rejects
+    slice-read-rejects
     mul-rejects-2
     add-rejects
     mul-rejects-3
     shared-slice-read-rejects
     mul-rejects-4
-    array-write-rejects
+    slice-write-rejects
     add-k
     loop-less
     loop-again
+    same-length
     returns)
