@@ -1,5 +1,5 @@
 -- Two arrays of marks, filled by passes over the rows until nothing is added: what a pass keeps, and that all that follows is
--- marked at the end. Used by pass and fill. Assumes nothing.
+-- marked at the end. Used by pass, fill_on and fill, and by the search, which goes on from marks in hand. Assumes nothing.
 use mathlib.Core.Path.{_≡_, refl, sym, subst, _∙_}
 use mathlib.Core.Bool.{Bool, true, false, not, _&&_, cond, true≢false}
 use mathlib.Core.List.{List}
@@ -18,7 +18,7 @@ use Rattle.table.proofs.NameLaws.{name-low, name-high}
 use Rattle.table.proofs.RowLaws.{row-of}
 use Rattle.filling.proofs.MarkLaws.{blank}
 use Rattle.filling.proofs.GrowingLaws.{OneMore, one-low, one-high, opposite-free, grown-none, grown-both, grown-one, SoundMarks, grown-sound, head-follows}
-use Rattle.filling.specs.Marks.{literalMarked, alive, adds, FollowsFrom, from-start, by-row, Apart, Conflict, Grown, falses, Closed, PassEnd, Fills}
+use Rattle.filling.specs.Marks.{literalMarked, alive, adds, FollowsFrom, from-start, by-row, Apart, Conflict, Grown, falses, Closed, PassEnd, FilledOn, Fills}
 
 module _ (book rows rejects : List ℕ) where
   -- a pass that began with p₀ and q₀ has come to row j
@@ -108,10 +108,6 @@ module _ {book rows rejects : List ℕ} where
     start-sound : SoundMarks book rows rejects start (replicate 256 false) start
     start-sound = record { sound = λ l t. start-literal (l .atom) (l .negated) t; started = λ f t. t }
 
-  -- what has grown from the start is sound
-  pub from-the-start : {start p q : List Bool} → Grown book rows rejects (replicate 256 false) start p q → SoundMarks book rows rejects start p q
-  from-the-start {start} g = grown-sound g (start-sound start)
-
   -- nothing is added any more: all that follows is marked
   full : {start p q : List Bool} → SoundMarks book rows rejects start p q → Closed book rows rejects p q (rowCount rows) → (l : Literal) → FollowsFrom book rows rejects start l → T (literalMarked p q l)
   unfolding literalMarked adds
@@ -122,22 +118,25 @@ module _ {book rows rejects : List ℕ} where
       forced (literalMarked p q (r .head)) (alive rejects r && all (literalMarked p q) (r .body)) n
       (and-both (alive rejects r) (all (literalMarked p q) (r .body)) a (all-of (literalMarked p q) (r .body) (λ x y. full w k x (below x y))))
 
-  pub filled : {start p q : List Bool} → Filling book rows rejects (replicate 256 false) start p q false → Fills book rows rejects start p q false
-  filled {start} w = record {
-    sound = from-the-start (w .grown) .sound;
-    full = λ e. full (from-the-start (w .grown)) (w .closed refl);
-    apart = λ e. w .grown .apart (start-apart start);
-    clash = λ e. absurd (true≢false (sym e));
+  -- from marks that follow from a start and have it among them, the filling is one from that start
+  pub filled-on : {start p₀ q₀ p q : List Bool} {c : Bool} → SoundMarks book rows rejects start p₀ q₀ → Apart p₀ q₀ → FilledOn book rows rejects p₀ q₀ p q c → Fills book rows rejects start p q c
+  filled-on {start} s a w = record {
+    sound = grown-sound (w .grown) s .sound;
+    full = λ e. full (grown-sound (w .grown) s) (w .closed e);
+    apart = λ e. w .grown .apart a;
+    clash = λ e. w .clash e start (s .sound);
   }
 
+  pub filled-from-start : {start p q : List Bool} {c : Bool} → FilledOn book rows rejects (replicate 256 false) start p q c → Fills book rows rejects start p q c
+  filled-from-start {start} w = filled-on (start-sound start) (start-apart start) w
+
+  -- the last pass added nothing
+  pub filled : {p₀ q₀ p q : List Bool} → Filling book rows rejects p₀ q₀ p q false → FilledOn book rows rejects p₀ q₀ p q false
+  filled w = record { grown = w .grown; closed = λ e. w .closed refl; clash = λ e. absurd (true≢false (sym e)) }
+
   -- a pass has met a fact both ways
-  pub clashed : {start p₁ q₁ p q : List Bool} {a ad c : Bool} → Filling book rows rejects (replicate 256 false) start p₁ q₁ a → PassEnd book rows rejects p₁ q₁ p q ad c → c ≡ true → Fills book rows rejects start p q true
-  clashed {start} v w e = record {
-    sound = from-the-start (grown-both (v .grown) (w .grown)) .sound;
-    full = λ y. absurd (true≢false y);
-    apart = λ y. absurd (true≢false y);
-    clash = λ y. w .clash e start (from-the-start (v .grown) .sound);
-  }
+  pub clashed : {p₀ q₀ p₁ q₁ p q : List Bool} {a ad c : Bool} → Filling book rows rejects p₀ q₀ p₁ q₁ a → PassEnd book rows rejects p₁ q₁ p q ad c → c ≡ true → FilledOn book rows rejects p₀ q₀ p q true
+  clashed v w e = record { grown = grown-both (v .grown) (w .grown); closed = λ y. absurd (true≢false y); clash = λ y start s. w .clash e start (v .grown .sound start s) }
 
   -- a fact both ways
   pub conflict : {start : List Bool} (h : ℕ) → h < 512 → FollowsFrom book rows rejects start (literalNamed h) → FollowsFrom book rows rejects start (complement (literalNamed h)) → Conflict book rows rejects start

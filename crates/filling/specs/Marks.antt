@@ -68,6 +68,14 @@ pub record PassEnd (book rows rejects : List ℕ) (p₀ q₀ p q : List Bool) (a
   pub clash : conflict ≡ true → (start : List Bool) → ((l : Literal) → T (literalMarked p₀ q₀ l) → FollowsFrom book rows rejects start l)
       → Conflict book rows rejects start
 
+-- Filled from marks in hand until nothing is added: they have grown, no row adds its head any more, and what ends it early is a fact
+-- that follows both ways from every start from which the marks in hand follow.
+pub record FilledOn (book rows rejects : List ℕ) (p₀ q₀ p q : List Bool) (conflict : Bool) : Type 0 where
+  pub grown : Grown book rows rejects p₀ q₀ p q
+  pub closed : conflict ≡ false → Closed book rows rejects p q (rowCount rows)
+  pub clash : conflict ≡ true → (start : List Bool) → ((l : Literal) → T (literalMarked p₀ q₀ l) → FollowsFrom book rows rejects start l)
+      → Conflict book rows rejects start
+
 -- the marks are what follows, and no fact is marked both ways; or a conflict was met, and they are part of it
 pub record Fills (book rows rejects : List ℕ) (start p q : List Bool) (conflict : Bool) : Type 0 where
   pub sound : (l : Literal) → T (literalMarked p q l) → FollowsFrom book rows rejects start l

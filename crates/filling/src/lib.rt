@@ -9,7 +9,7 @@ ghost use Rattle.base.specs.Lists.{all};
 ghost use Rattle.format.specs.Book.{literalOf, literalsOf};
 ghost use Rattle.table.specs.Names.{literalNamed};
 ghost use Rattle.table.specs.Rows.{rowCount, rowAt, RowsFit};
-ghost use Rattle.filling.specs.Marks.{literalMarked, alive, adds, Grown, PassEnd, Fills};
+ghost use Rattle.filling.specs.Marks.{literalMarked, alive, adds, Grown, PassEnd, FilledOn, Fills};
 use base::wide;
 use base::wide16;
 use table::opposite;
@@ -312,7 +312,7 @@ fn settle(
 }
 
 // Marks more of what follows, by waiting lists: a row waits for a literal of its body that is not marked, and is tried again when that
-// one is. Only the order of trying is new: what is added is tested on the spot, and the passes of fill still say when nothing is left.
+// one is. Only the order of trying is new: what is added is tested on the spot, and the passes of a filling say when nothing is left.
 // `links` leads from a name (0 to 511) to the first row that waits for it and from a row (512 and its number) to the next; 0 ends a
 // list. On the stack `names` are those just marked, `fresh` is the first row not tried yet, `node` the next row of the list in hand.
 // A row waits once a literal, so no lawful book takes all the turns.
@@ -434,23 +434,24 @@ pub struct Marks {
     pub conflict: bool,
 }
 
-// The two arrays, filled from the negations of the start until nothing is added, or until a fact is reached both ways. Passes over
-// the rows say when nothing is added. Few books need more than two; where the second still adds, waiting lists go on from there, and
-// the next filling begins with the trail.
-pub fn fill(
+// The two arrays, filled from the marks in hand until nothing is added, or until a fact is reached both ways. Passes over the rows say
+// when nothing is added. Few books need more than two; where the second still adds, waiting lists go on from there, and the next
+// filling begins with the trail.
+pub fn fill_on(
     book: &[u8],
     rows: &[u16],
     rejects: &[u32],
-    start: [bool; 256],
+    facts: [bool; 256],
+    negations: [bool; 256],
     hints: &mut [u16],
 ) -> Marks
     requires { ⌜ RowsFit (now book) (now rows) ⌝ }
     requires { ⌜ length (now rejects) ≡ 512 ⌝ }
     requires { ⌜ length (now hints) ≡ 2048 ⌝ }
-    ensures { λ r. ⌜ Fills (now (book .entry)) (now (rows .entry)) (now (rejects .entry)) start (r .positive) (r .negative) (r .conflict) ⌝ }
+    ensures { λ r. ⌜ FilledOn (now (book .entry)) (now (rows .entry)) (now (rejects .entry)) facts negations (r .positive) (r .negative) (r .conflict) ⌝ }
 {
-    let mut positive = [false; 256];
-    let mut negative = start;
+    let mut positive = facts;
+    let mut negative = negations;
     replay(book, rows, rejects, &mut positive, &mut negative, hints);
     let mut added = true;
     let mut first = true;
@@ -475,4 +476,22 @@ pub fn fill(
         negative,
         conflict: false,
     }
+}
+
+// The two arrays, reached facts and reached negations, filled until nothing is added, or until a fact is reached both ways: no fact is
+// reached at first, and of the negations those of the start.
+pub fn fill(
+    book: &[u8],
+    rows: &[u16],
+    rejects: &[u32],
+    start: [bool; 256],
+    hints: &mut [u16],
+) -> Marks
+    requires { ⌜ RowsFit (now book) (now rows) ⌝ }
+    requires { ⌜ length (now rejects) ≡ 512 ⌝ }
+    requires { ⌜ length (now hints) ≡ 2048 ⌝ }
+    ensures { λ r. ⌜ Fills (now (book .entry)) (now (rows .entry)) (now (rejects .entry)) start (r .positive) (r .negative) (r .conflict) ⌝ }
+{
+    let positive = [false; 256];
+    fill_on(book, rows, rejects, positive, start, hints)
 }
