@@ -21,7 +21,7 @@ use Rattle.models.specs.StableModels.{Interpretation, atomHolds, negative, stab
 use Rattle.models.specs.Branching.{branching, branchingAtoms}
 use Rattle.table.specs.Rows.{rowCount}
 use Rattle.table.specs.Table.{programOf}
-use Rattle.filling.specs.Marks.{literalMarked, Fills}
+use Rattle.filling.specs.Marks.{literalMarked, Conflict, Fills}
 use Rattle.tester.specs.Masks.{RejectedMasks, Uncontested}
 use Rattle.tester.proofs.TestLaws.{beq-same}
 use Rattle.tester.proofs.UncontestedLaws.{fills-wider, uncontested-stable}
@@ -176,7 +176,7 @@ module _ {book rows overridden atoms : List ℕ} {layer n : ℕ} (w : Searchable
   at-listed : atSetting P atoms o ≡ atSetting P (branchingAtoms P) o
   at-listed = ap (λ (l : List ℕ). atSetting P l o) (w .listed)
 
-  setting-start : {start : List Bool} → Denied atoms o start → SettingStart P o start
+  pub setting-start : {start : List Bool} → Denied atoms o start → SettingStart P o start
   unfolding branchingAtoms
   setting-start d = record {
     sound = λ f t.
@@ -186,12 +186,12 @@ module _ {book rows overridden atoms : List ℕ} {layer n : ℕ} (w : Searchable
     full = λ f h t u. d .full f (subst (λ (l : List ℕ). f ∈ l) (sym (w .listed)) (branching-listed P (w .formed) f t)) u;
   }
 
-  -- a conflict, from the start or from a part of it
-  pub model-conflict : {rejects : List ℕ} → RejectedMasks book rows overridden o rejects (rowCount rows) → {start : List Bool} → Denied atoms o start → {p q : List Bool} {c : Bool} → Fills book rows rejects start p q c
-      → c ≡ true → (state : List Bool) → atSetting P atoms o ≡ consIf false (take n state) []
+  -- a conflict
+  pub model-conflict : {rejects : List ℕ} → RejectedMasks book rows overridden o rejects (rowCount rows) → {start : List Bool} → Denied atoms o start → Conflict book rows rejects start
+      → (state : List Bool) → atSetting P atoms o ≡ consIf false (take n state) []
   unfolding consIf
-  model-conflict g d filled e state =
-      at-listed ∙ setting-none P (w .formed) o (λ m sm same. no-conflict (w .formed) (w .table) g (setting-start d) sm same (filled .clash e))
+  model-conflict g d x state =
+      at-listed ∙ setting-none P (w .formed) o (λ m sm same. no-conflict (w .formed) (w .table) g (setting-start d) sm same x)
 
   module _ {rejects : List ℕ} {p early : List Bool} (k : Candidate book rows overridden rejects atoms o p early) (l : length p ≡ 256) where
     size : length (take n p) ≡ P .atoms
@@ -263,8 +263,9 @@ module _ {book rows overridden atoms : List ℕ} {layer n : ℕ} (w : Searchable
 
 -- ---- the filling from the undisputed part of the start
 module _ {book rows rejects : List ℕ} {start assumed : List Bool} (u : Undisputed rejects start assumed) {p q : List Bool} {c : Bool} (filled : Fills book rows rejects assumed p q c) where
-  pub conflict-fills : c ≡ true → Fills book rows rejects start p q c
-  conflict-fills e = fills-wider (u .among) filled (λ f. absurd (true≢false (sym e ∙ f)))
+  -- a conflict from the part is one from all of it
+  pub early-conflict : c ≡ true → Conflict book rows rejects start
+  early-conflict e = fills-wider (u .among) filled (λ f. absurd (true≢false (sym e ∙ f))) .clash e
 
   pub early-marks : Early book rows rejects start q
   unfolding literalMarked

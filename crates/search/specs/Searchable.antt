@@ -1,17 +1,20 @@
 -- What is worked out once a call, before the search: the table of the rules and the branching facts; and what a setting of these
 -- assumes. Assumes nothing.
 use mathlib.Core.Path.{_≡_}
-use mathlib.Core.Bool.{Bool, false, not}
+use mathlib.Core.Logic.{_⊎_}
+use mathlib.Core.Bool.{Bool, false, not, _&&_}
 use mathlib.Core.List.{List, List·Memᴰ}
 use Prim.Native.Nat.{ℕ, _<_, _≤_}
 use lib.Dec.{T}
 use lib.ListN.{length, getD}
 use Rattle.base.specs.Bounds.{maxAtoms, maxRules, maxBranching}
+use Rattle.base.specs.Lists.{any}
+use Rattle.format.specs.Book.{Literal}
 use Rattle.models.specs.StableModels.{Interpretation, atomHolds, negative, WellFormed}
 use Rattle.models.specs.Branching.{branchingAtoms}
 use Rattle.table.specs.Rows.{rowCount}
 use Rattle.table.specs.Table.{programOf, Tabulates}
-use Rattle.filling.specs.Marks.{FollowsFrom, Fills}
+use Rattle.filling.specs.Marks.{literalMarked, FollowsFrom, Apart, Fills}
 use Rattle.tester.specs.Masks.{RejectedMasks}
 
 pub record Searchable (book rows overridden atoms : List ℕ) (layer n : ℕ) : Type 0 where
@@ -37,6 +40,21 @@ pub record Undisputed (rejects : List ℕ) (start assumed : List Bool) : Type 0 
 -- of the first n atoms, those that the start has are marked
 abbrev pub Covered : List ℕ → List Bool → List Bool → ℕ → Type 0
 Covered atoms start q n = (i : ℕ) → i < n → T (atomHolds start (getD atoms i 0)) → T (atomHolds q (getD atoms i 0))
+
+-- one of these atoms is of the start and reached
+unfoldable pub reachesDenied : List ℕ → List Bool → List Bool → Bool
+reachesDenied atoms start p = any (λ f. atomHolds start f && atomHolds p f) atoms
+
+-- the marks q and, of the first n atoms, those that the start has
+pub record Joined (atoms : List ℕ) (start q joined : List Bool) (n : ℕ) : Type 0 where
+  pub sound : (f : ℕ) → T (atomHolds joined f) → T (atomHolds q f) ⊎ T (atomHolds start f)
+  pub keeps : (f : ℕ) → T (atomHolds q f) → T (atomHolds joined f)
+  pub full : Covered atoms start joined n
+
+-- marks from which the filling from a start may go on: they follow from it, and no fact is marked both ways
+pub record Begun (book rows rejects : List ℕ) (start p q : List Bool) : Type 0 where
+  pub sound : (l : Literal) → T (literalMarked p q l) → FollowsFrom book rows rejects start l
+  pub apart : Apart p q
 
 -- Negations that are reached before anything disputed is assumed: they follow from a part of the start of whose facts no rule is
 -- rejected.

@@ -14,11 +14,12 @@ ghost use Rattle.setting.specs.Setting.{settingOf};
 ghost use Rattle.setting.specs.RuleMasks.{RuleMasks};
 ghost use Rattle.nogoods.specs.Nogoods.{Nogoods};
 ghost use Rattle.displacing.specs.Displacing.{Displacing};
-ghost use Rattle.search.specs.Searchable.{Searchable, Denied, Undisputed, Covered, Early, Candidate};
+ghost use Rattle.search.specs.Searchable.{Searchable, Denied, Undisputed, Covered, reachesDenied, Joined, Begun, Early, Candidate};
 ghost use Rattle.search.specs.Decided.{Decided};
 use base::wide;
 use displacing::reject_at;
 use filling::fill;
+use filling::fill_on;
 use insertion::Gap;
 use nogoods::has_nogood;
 use records::atom_bit;
@@ -118,6 +119,39 @@ fn covers(atoms: &[u8], start: &[bool], negative: &[bool]) -> bool
     true
 }
 
+// Whether a branching fact of the start is reached.
+fn reaches_denied(atoms: &[u8], start: &[bool], positive: &[bool]) -> bool
+    ensures { λ r. ⌜ r ≡ reachesDenied (now (atoms .entry)) (now (start .entry)) (now (positive .entry)) ⌝ }
+{
+    let mut i = 0;
+    while i < atoms.len() {
+        let f = wide(atoms[i]);
+        if atom_holds(start, f) {
+            if atom_holds(positive, f) {
+                return true;
+            }
+        }
+        i += 1;
+    }
+    false
+}
+
+// The reached negations, and those of the start.
+fn join(atoms: &[u8], start: [bool; 256], negative: [bool; 256]) -> [bool; 256]
+    ensures { λ r. ⌜ Joined (now (atoms .entry)) start negative r (length (now (atoms .entry))) ⌝ }
+{
+    let mut joined = negative;
+    let mut i = 0;
+    while i < atoms.len() {
+        let f = wide(atoms[i]);
+        if start[f] {
+            joined[f] = true;
+        }
+        i += 1;
+    }
+    joined
+}
+
 // Whether a state gives the branching facts as the setting does.
 fn agrees(atoms: &[u8], state: &[bool], setting: &[bool]) -> bool
     ensures { λ r. ⌜ r ≡ agreeOn (now (atoms .entry)) (now (state .entry)) (now (setting .entry)) ⌝ }
@@ -165,8 +199,9 @@ fn decide(
     }
 }
 
-// The stable model of a setting, if there is one, from all that the setting denies: where filling meets no conflict, the facts that
-// are reached are the only state that can be one.
+// The stable model of a setting, if there is one, from all that the setting denies. What was reached early follows from all of it too,
+// so the filling goes on from there, unless a denied fact is among it and so reached both ways. Where it meets no conflict, the facts
+// that are reached are the only state that can be stable.
 fn model_from(
     book: &[u8],
     layer: usize,
@@ -177,17 +212,26 @@ fn model_from(
     n: usize,
     setting: [bool; 256],
     start: [bool; 256],
-    early: &[bool],
+    positive: [bool; 256],
+    negative: [bool; 256],
     hints: &mut [u16],
 ) -> Found
     requires { ⌜ Searchable (now book) (now rows) (now overridden) (now atoms) layer n ⌝ }
     requires { ⌜ RejectedMasks (now book) (now rows) (now overridden) setting (now rejects) (rowCount (now rows)) ⌝ }
     requires { ⌜ Denied (now atoms) setting start ⌝ }
-    requires { ⌜ Early (now book) (now rows) (now rejects) start (now early) ⌝ }
+    requires { ⌜ Begun (now book) (now rows) (now rejects) start positive negative ⌝ }
+    requires { ⌜ Early (now book) (now rows) (now rejects) start negative ⌝ }
     requires { ⌜ length (now hints) ≡ 2048 ⌝ }
     ensures { λ r. ⌜ atSetting (programOf (now (book .entry)) layer) (now (atoms .entry)) setting ≡ consIf (r .ok) (take n (r .state)) [] ⌝ }
 {
-    let marks = fill(book, rows, rejects, start, hints);
+    if reaches_denied(atoms, &start, &positive) {
+        return Found {
+            ok: false,
+            state: positive,
+        };
+    }
+    let joined = join(atoms, start, negative);
+    let marks = fill_on(book, rows, rejects, positive, joined, hints);
     let state = marks.positive;
     if marks.conflict {
         return Found { ok: false, state };
@@ -202,14 +246,13 @@ fn model_from(
         n,
         setting,
         state,
-        early,
+        &negative,
         hints,
     )
 }
 
 // The stable model of a setting, if there is one. Filling starts from the undisputed part of what the setting denies: the negations
-// that are reached early, before anything disputed is assumed. Where they come to be all that the setting denies, it need not be
-// filled again.
+// that are reached early, before anything disputed is assumed. Where they come to be all that the setting denies, it need not go on.
 pub fn model_at(
     book: &[u8],
     layer: usize,
@@ -263,7 +306,8 @@ pub fn model_at(
         n,
         setting,
         start,
-        &marks.negative,
+        state,
+        marks.negative,
         hints,
     )
 }

@@ -27,9 +27,10 @@ use Rattle.tester.specs.Masks.{RejectedMasks, Uncontested}
 use Rattle.tester.proofs.TestLaws.{rule-in, in-rule, unrejected-alive, alive-unrejected}
 use Rattle.tester.proofs.SettingMarks.{SettingStart}
 
--- A filling from part of a start that comes to mark the whole of it is a filling from the whole.
+-- What follows from part of a start follows from the whole, and a filling from part of it that comes to mark the whole is a filling
+-- from the whole.
 module _ {book rows rejects : List ℕ} {assumed start : List Bool} (under : (f : ℕ) → T (atomHolds assumed f) → T (atomHolds start f)) where
-  follows-wider : (l : Literal) → FollowsFrom book rows rejects assumed l → FollowsFrom book rows rejects start l
+  pub follows-wider : (l : Literal) → FollowsFrom book rows rejects assumed l → FollowsFrom book rows rejects start l
   follows-wider l (from-start f t) = from-start f (under f t)
   follows-wider l (by-row r k a below) = by-row r k a (λ x i. follows-wider x (below x i))
 

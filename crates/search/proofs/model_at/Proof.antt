@@ -1,6 +1,7 @@
 -- A conflict from a part of what the setting denies is one from all of it, and no stable model agrees with the setting. Where the
--- filling comes to mark the rest of what is denied it is the filling from all of that; else `model_from` fills again.
-use Rattle.search.proofs.ModelLaws.{model-conflict, conflict-fills, early-marks, covered-candidate}
+-- filling comes to mark the rest of what is denied it is the filling from all of that; else `model_from` goes on from its marks.
+use Rattle.search.proofs.ModelLaws.{model-conflict, early-conflict, early-marks, covered-candidate}
+use Rattle.search.proofs.GoingOnLaws.{early-begun}
 use borrow.Author.Needs.{needs}
 use Rattle.search.proofs.model_at.Statement.{statement}
 use Rattle.search.proofs.model_at.Tie as tie
@@ -18,7 +19,9 @@ same-length : tie.Need-same-length
 same-length c = search needs
 
 returns : tie.Need-returns
-returns c = let h = c .before .before .before .before .before .before .before .before .before .before .before .before .before .before .pre in model-conflict (h .0) _ (h .1 .0) (c .before .before .before .before .before .before .before .denied .ensures) (conflict-fills (c .before .before .before .before .before .before .undisputed .ensures) (c .before .before .before .before .fill .ensures) (c .if1 .taken)) (c .if1 .taken) _
+returns c =
+    let h = c .before .before .before .before .before .before .before .before .before .before .before .before .before .before .pre in
+    model-conflict (h .0) _ (h .1 .0) (c .before .before .before .before .before .before .before .denied .ensures) (early-conflict (c .before .before .before .before .before .before .undisputed .ensures) (c .before .before .before .before .fill .ensures) (c .if1 .taken)) _
 
 slice-aggregate-covers : tie.Need-slice-aggregate-covers
 slice-aggregate-covers c = search needs
@@ -27,7 +30,9 @@ covers-requires : tie.Need-covers-requires
 covers-requires c κs = search needs
 
 decide-requires : tie.Need-decide-requires
-decide-requires c κs = let h = c .before .before .before .before .before .before .before .before .before .before .before .before .before .before .before .before .before .before .before .before .before .before .before .before .pre in (h .0, (covered-candidate (c .before .before .before .before .before .before .before .before .before .before .before .before .before .before .before .before .undisputed .ensures) (c .before .before .before .before .before .before .before .before .before .before .before .before .before .before .fill .ensures) (h .1 .0) (c .before .before .before .before .before .before .before .before .before .before .before .before .before .before .before .before .before .denied .ensures) (c .before .before .before .before .before .covers .result) (c .before .before .before .before .before .covers .ensures) (c .before .before .before .before .if2 .taken) (c .before .before .before .before .before .before .before .before .before .before .if1 .left), search needs))
+decide-requires c κs =
+    let h = c .before .before .before .before .before .before .before .before .before .before .before .before .before .before .before .before .before .before .before .before .before .before .before .before .pre in
+    (h .0, (covered-candidate (c .before .before .before .before .before .before .before .before .before .before .before .before .before .before .before .before .undisputed .ensures) (c .before .before .before .before .before .before .before .before .before .before .before .before .before .before .fill .ensures) (h .1 .0) (c .before .before .before .before .before .before .before .before .before .before .before .before .before .before .before .before .before .denied .ensures) (c .before .before .before .before .before .covers .result) (c .before .before .before .before .before .covers .ensures) (c .before .before .before .before .if2 .taken) (c .before .before .before .before .before .before .before .before .before .before .if1 .left), search needs))
 
 same-length-2 : tie.Need-same-length-2
 same-length-2 c = search needs
@@ -36,7 +41,11 @@ returns-2 : tie.Need-returns-2
 returns-2 c = search needs
 
 model-from-requires : tie.Need-model-from-requires
-model-from-requires c κs = let h = c .before .before .before .before .before .before .before .before .before .before .before .before .before .before .before .before .before .before .before .before .before .before .before .before .pre in (h .0, (h .1 .0, (c .before .before .before .before .before .before .before .before .before .before .before .before .before .before .before .before .before .denied .ensures, (early-marks (c .before .before .before .before .before .before .before .before .before .before .before .before .before .before .before .before .undisputed .ensures) (c .before .before .before .before .before .before .before .before .before .before .before .before .before .before .fill .ensures), search needs))))
+model-from-requires c κs =
+    let h = c .before .before .before .before .before .before .before .before .before .before .before .before .before .before .before .before .before .before .before .before .before .before .pre in
+    let u = c .before .before .before .before .before .before .before .before .before .before .before .before .before .before .undisputed in
+    let filled = c .before .before .before .before .before .before .before .before .before .before .before .before .fill in
+    (h .0, (h .1 .0, (c .before .before .before .before .before .before .before .before .before .before .before .before .before .before .before .denied .ensures, (early-begun (u .ensures) (filled .ensures) (c .before .before .before .before .before .before .before .before .if1 .left), (early-marks (u .ensures) (filled .ensures), search needs)))))
 
 same-length-3 : tie.Need-same-length-3
 same-length-3 c = search needs
