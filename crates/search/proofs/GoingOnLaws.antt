@@ -14,7 +14,6 @@ use lib.ListN.{length, getD, set, drop, drop-of-length-le}
 use lib.Seq.{drop-cons, getD-set-same, getD-set-other}
 use Rattle.base.specs.Lists.{any}
 use Rattle.base.proofs.Members.{and-left, and-right, and-both, any-at, any-of}
-use Rattle.format.specs.Book.{Literal}
 use Rattle.models.specs.StableModels.{Interpretation, atomHolds, positive, negative, complement}
 use Rattle.filling.specs.Marks.{literalMarked, FollowsFrom, from-start, Apart, Conflict, FilledOn, Fills}
 use Rattle.filling.proofs.GrowingLaws.{SoundMarks}

@@ -3,9 +3,9 @@
 -- Assumes nothing.
 use mathlib.Core.Path.{_≡_, refl, sym, ap, subst, _∙_}
 use mathlib.Core.Logic.{_⊎_, inl, inr}
-use mathlib.Core.Bool.{Bool, true, false, not, _&&_, Bool·beq, true≢false, false≢true}
+use mathlib.Core.Bool.{Bool, true, false, not, _&&_, Bool·beq, true≢false}
 use mathlib.Core.List.{List, [], _∷_, List·Memᴰ·cases-cons, List·Memᴰ·not-nil}
-use Prim.Native.Nat.{ℕ, zero, suc, _+_, _-_, _<_, _≤_}
+use Prim.Native.Nat.{ℕ, suc, _+_, _-_, _<_, _≤_}
 use native.Mathlib.Decide.{decLt, ℕ-discrete}
 use native.Mathlib.Numerals.{add-one}
 use native.Mathlib.Omega.{arith}
@@ -14,16 +14,17 @@ use lib.Dec.{T}
 use lib.ListN.{length, getD, set, take, drop, length-set, replicate, length-replicate, drop-of-length-le}
 use lib.Seq.{drop-cons, ext-getD, getD-set-same, getD-set-other, getD-take, length-take-le}
 use Rattle.base.specs.Lists.{consIf, all, upTo}
+use Rattle.base.proofs.MapLaws.{constant-at}
 use Rattle.base.proofs.Members.{_∈_, all-at, filter-from}
 use Rattle.base.proofs.UpTo.{passed, upTo-lt}
 use Rattle.models.specs.Program.{Program}
 use Rattle.models.specs.StableModels.{Interpretation, atomHolds, negative, stable, StableModel}
 use Rattle.models.specs.Branching.{branching, branchingAtoms}
+use Rattle.models.proofs.LeastLaws.{beq-same}
 use Rattle.table.specs.Rows.{rowCount}
 use Rattle.table.specs.Table.{programOf}
 use Rattle.filling.specs.Marks.{literalMarked, Conflict, Fills}
 use Rattle.tester.specs.Masks.{RejectedMasks, Uncontested}
-use Rattle.tester.proofs.TestLaws.{beq-same}
 use Rattle.tester.proofs.UncontestedLaws.{fills-wider, uncontested-stable}
 use Rattle.tester.proofs.SettingMarks.{SettingStart, no-conflict, marks-found}
 use Rattle.insertion.proofs.SortedLaws.{getD-member}
@@ -39,17 +40,12 @@ pub record DeniedTo (atoms : List ℕ) (setting : Interpretation) (i : ℕ) (sta
   pub sound : (f : ℕ) → T (atomHolds start f) → (k : ℕ) × (k < i) × (getD atoms k 0 ≡ f) × T (not (atomHolds setting f))
   pub full : (k : ℕ) → k < i → T (not (atomHolds setting (getD atoms k 0))) → T (atomHolds start (getD atoms k 0))
 
-none : (n f : ℕ) → getD {A = Bool} (replicate n false) f false ≡ false
-none zero f = refl
-none (suc n) zero = refl
-none (suc n) (suc f) = none n f
-
 pub denied-start : (atoms : List ℕ) (setting : Interpretation) → DeniedTo atoms setting 0 (replicate {A = Bool} 256 false)
 unfolding atomHolds
 denied-start atoms setting = record {
   inside = omega arith;
   size = length-replicate {A = Bool} 256 false;
-  sound = λ f t. absurd (subst T (none 256 f) t);
+  sound = λ f t. absurd (subst T (constant-at false 256 f) t);
   full = λ k h. absurd (omega arith);
 }
 
@@ -105,7 +101,7 @@ denied-end atoms setting i start w h = record {
 -- ---- the undisputed part of the start, and what covers the rest
 pub undisputed-start : (rejects : List ℕ) (start : List Bool) → Undisputed rejects start (replicate {A = Bool} 256 false)
 unfolding atomHolds
-undisputed-start rejects start = record { among = λ f t. absurd (subst T (none 256 f) t); clear = λ f t. absurd (subst T (none 256 f) t) }
+undisputed-start rejects start = record { among = λ f t. absurd (subst T (constant-at false 256 f) t); clear = λ f t. absurd (subst T (constant-at false 256 f) t) }
 
 pub undisputed-more : {rejects : List ℕ} {start assumed : List Bool} → Undisputed rejects start assumed → length assumed ≡ 256 → (f : ℕ) → f < 256 → getD rejects f 0 ≡ 0 → Undisputed rejects start (set assumed f (getD start f false))
 unfolding atomHolds

@@ -1,7 +1,7 @@
 -- From the table to the definition: rows that are alive are the rules that are not rejected, the atoms that are not supported are
 -- the defaults, so what follows is what is derived; then the comparison of the marks with the interpretation decides stability.
 -- Used by is_stable; SettingMarks uses the first half. Assumes nothing.
-use mathlib.Core.Path.{_≡_, refl, sym, ap, subst, _∙_}
+use mathlib.Core.Path.{_≡_, sym, ap, subst, _∙_}
 use mathlib.Core.Bool.{Bool, true, false, not, _&&_, Bool·beq}
 use mathlib.Core.List.{List}
 use Prim.Native.Nat.{ℕ, _<_, _≤_}
@@ -15,7 +15,7 @@ use Rattle.models.specs.Program.{Program}
 use Rattle.models.specs.StableModels.{Interpretation, atomHolds, positive, negative, complement, sameLiteral, signed, holds, bodyHolds, overrides, rejected, default, stable, Derived, by-default, by-rule, StableModel, WellFormed}
 use Rattle.base.proofs.Members.{_∈_, and-left, and-right, and-both, all-at, all-of, any-at, any-of, same-test}
 use Rattle.base.proofs.UpTo.{failed, upTo-lt, upTo-has}
-use Rattle.models.proofs.LeastLaws.{beq-refl, literal-same, literal-refl, stable-sound, stable-complete}
+use Rattle.models.proofs.LeastLaws.{beq-refl, literal-same, literal-refl, stable-sound, stable-complete, beq-same}
 use Rattle.table.specs.Names.{literalNamed, nameOf}
 use Rattle.table.specs.Rows.{rowCount, headName, rowAt, rowsOf}
 use Rattle.table.specs.Table.{Tabulates}
@@ -34,12 +34,6 @@ holds-one m f p q = T-not (atomHolds m f) q p
 pub derived-lt : (P : Program) → WellFormed P → (m : Interpretation) (l : Literal) → Derived P m l → l .atom < P .atoms
 derived-lt P w m l (by-default f h d) = h
 derived-lt P w m l (by-rule r k u below) = w .heads r k
-
-pub beq-same : (a b : Bool) → T (Bool·beq a b) → a ≡ b
-beq-same true true t = refl
-beq-same true false t = absurd t
-beq-same false true t = absurd t
-beq-same false false t = refl
 
 beq-of : (a b : Bool) → a ≡ b → T (Bool·beq a b)
 beq-of a b e = subst (λ (x : Bool). T (Bool·beq a x)) e (beq-refl a)
