@@ -132,7 +132,7 @@ fn head_unless(denials: u32, head: u32) -> u64
     head as u64 * weight
 }
 
-// Whether each atom that stands is the head of a rule of whose body no literal is denied.
+// Whether each atom that stands is the head of a rule of whose body no literal is denied. Most often the first rules show it.
 pub fn headed(masks: &[u32], standing: u32, denied: u32) -> bool
     ensures { λ r. ⌜ (Headed (now (masks .entry)) (length (now (masks .entry)) / 3) standing denied → r ≡ true) ⌝ }
 {
@@ -140,6 +140,9 @@ pub fn headed(masks: &[u32], standing: u32, denied: u32) -> bool
     let mut heads: u64 = 0;
     let mut j = 0;
     while j < count {
+        if standing as u64 | heads == heads {
+            return true;
+        }
         let denials = masks[3 * j] & denied | masks[3 * j + 1] & standing;
         heads = heads | head_unless(denials, masks[3 * j + 2]);
         j += 1;

@@ -1,5 +1,4 @@
--- `headed` meets its contract: the heads of the open entries passed are collected; if they have every bit of `standing`, it says so.
--- Assumes nothing.
+-- The heads of the open entries passed are collected; if they have every bit of `standing`, it says so. The entries left fall.
 use mathlib.Core.Path.{_≡_, refl}
 use Prim.Native.Nat.{_-_, _/_, _≤_}
 use lib.ListN.{length}
@@ -18,6 +17,9 @@ abbrev μ-loop : tie.MeasureT-loop
 
 loop-holds : tie.Need-loop-holds Inv-loop μ-loop
 loop-holds c = let a = c .before .args in (refl, omega arith, heads-start (a .masks .now) (a .standing) (a .denied))
+
+returns : tie.Need-returns Inv-loop μ-loop
+returns c = λ h. refl
 
 mul-denials : tie.Need-mul-denials Inv-loop μ-loop
 mul-denials c = search needs
@@ -63,12 +65,12 @@ loop-less c = search needs
 
 loop-again : tie.Need-loop-again Inv-loop μ-loop
 loop-again c =
-    let a = c .before .before .before .before .before .before .before .args in
-    let l = c .before .before .before .before .before .loop in
+    let a = c .before .before .before .before .before .before .before .before .args in
+    let l = c .before .before .before .before .before .before .loop in
     (l .inv .0, omega arith, heads-more (a .masks .now) (a .standing) (a .denied) (l .j) (l .heads) (l .inv .2) (c .head-unless .result) (c .head-unless .ensures))
 
-returns : tie.Need-returns Inv-loop μ-loop
-returns c = let a = c .before .before .before .args in λ h. eq-eqb _ _ (heads-end (a .masks .now) (a .standing) (a .denied) (c .before .loop .j) (c .before .loop .heads) (c .before .loop .inv .2) (length (a .masks .now) / 3) (omega (arith, c .before .loop .inv .0, c .loop-test .left)) h)
+returns-2 : tie.Need-returns-2 Inv-loop μ-loop
+returns-2 c = let a = c .before .before .before .args in λ h. eq-eqb _ _ (heads-end (a .masks .now) (a .standing) (a .denied) (c .before .loop .j) (c .before .loop .heads) (c .before .loop .inv .2) (length (a .masks .now) / 3) (omega (arith, c .before .loop .inv .0, c .loop-test .left)) h)
 
 pub headed-spec : {M : Type 1} → statement M
 headed-spec =
@@ -77,6 +79,7 @@ headed-spec =
     Inv-loop
     μ-loop
     loop-holds
+    returns
     mul-denials
     mul-denials-2
     shared-slice-read-denials
@@ -92,4 +95,4 @@ headed-spec =
     add-j
     loop-less
     loop-again
-    returns)
+    returns-2)
