@@ -340,6 +340,8 @@ fn longest_searches() {
     long_list_row("slowest, unstable", &known::slowest(rng, 18, Unstable));
     long_list_row("ring, stable", &known::ring(rng, 19, Stable));
     long_list_row("both ways, stable", &known::both_ways(rng, 19, Stable));
+    long_list_row("blocks, stable", &known::blocks(rng, 19, Stable));
+    long_list_row("blocks, doubtful", &known::blocks(rng, 18, Doubtful));
     let displaced = known::displaced(19, 200, Stable);
     long_list_row("displaced, and a chain, stable", &displaced);
     long_list_row("worst order for filling", &known::chained(19));

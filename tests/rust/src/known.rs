@@ -642,6 +642,7 @@ fn linked(
     rng: &mut Rng,
     choices: u16,
     ending: Ending,
+    failing: &[Literal],
     links: impl Fn(Range<u16>) -> Vec<Link>,
 ) -> Known {
     // One that has no rule at all, and before the range one that always stands.
@@ -657,7 +658,7 @@ fn linked(
     let book = Book::new(256, 2).arrow(0, 1).rule(0, plain(base), &[]);
     let mut book = ended(full_free_facts(book, choices, || full(&[])), ending);
     while book.rules.len() + links.len() < 1024 {
-        book = book.rule(0, plain(STOP), &full(&[plain(STOP)]));
+        book = book.rule(0, plain(STOP), &full(failing));
     }
     for (atom, last) in links {
         book = book.rule(0, plain(atom), &full(&last));
@@ -668,17 +669,26 @@ fn linked(
 /// The slowest book that we know for an engine which makes passes over the rules: each setting adds
 /// one fact a pass over a chain that stands in reverse.
 pub fn slowest(rng: &mut Rng, choices: u16, ending: Ending) -> Known {
-    linked(rng, choices, ending, |chain| {
+    linked(rng, choices, ending, &[plain(STOP)], |chain| {
         let link = |atom| (atom, vec![plain(atom - 1)]);
         chain.rev().map(link).collect()
     })
+}
+
+/// The literals by which these facts tell a number.
+fn telling_literals(telling: &Range<u16>, number: usize) -> Vec<Literal> {
+    let literals = telling.clone().enumerate().map(|(at, atom)| Literal {
+        atom,
+        negated: !bit(number, at),
+    });
+    literals.collect()
 }
 
 /// A ring that stands in reverse, each fact following the one before it. The last choices say at
 /// which of up to 16 places it is entered, so that no one order of the rules suits all settings.
 pub fn ring(rng: &mut Rng, choices: u16, ending: Ending) -> Known {
     let telling = choices.saturating_sub(4)..choices;
-    linked(rng, choices, ending, |ring| {
+    linked(rng, choices, ending, &[plain(STOP)], |ring| {
         let before = |atom| match atom == ring.start {
             true => ring.end - 1,
             false => atom - 1,
@@ -686,11 +696,7 @@ pub fn ring(rng: &mut Rng, choices: u16, ending: Ending) -> Known {
         let entrances = 1 << telling.len();
         let entrance = |number: usize| {
             let place = ring.start + (number * ring.len() / entrances) as u16;
-            let tells = telling.clone().enumerate().map(|(at, atom)| Literal {
-                atom,
-                negated: !bit(number, at),
-            });
-            (place, tells.collect())
+            (place, telling_literals(&telling, number))
         };
         let links = ring
             .clone()
@@ -704,11 +710,45 @@ pub fn ring(rng: &mut Rng, choices: u16, ending: Ending) -> Known {
 /// an order of the rules that suits one setting is the worst for the next.
 pub fn both_ways(rng: &mut Rng, choices: u16, ending: Ending) -> Known {
     let forward = choices - 1;
-    linked(rng, choices, ending, |chain| {
+    linked(rng, choices, ending, &[plain(STOP)], |chain| {
         let mut links = vec![(chain.end - 1, vec![not(forward)])];
         for atom in chain.rev() {
             links.push((atom, vec![plain(forward), plain(atom - 1)]));
             links.push((atom - 1, vec![not(forward), plain(atom)]));
+        }
+        links
+    })
+}
+
+/// A chain of eight blocks, each in reverse, in one of up to 16 orders of these that the last choices
+/// tell; and rules that fail late, at another literal at the next setting. Neither an order of the
+/// rules nor the literal that a rule failed at serves for long.
+pub fn blocks(rng: &mut Rng, choices: u16, ending: Ending) -> Known {
+    const BLOCKS: u16 = 8;
+    let telling = choices.saturating_sub(4)..choices;
+    let (last, other) = (choices - 1, choices.max(2) - 2);
+    let orders: Vec<Vec<u8>> = (0..1 << telling.len())
+        .map(|_| hidden_order(rng, BLOCKS.into()))
+        .collect();
+    let failing = [plain(last), not(other), plain(STOP)];
+    linked(rng, choices, ending, &failing, |chain| {
+        let size = chain.len() as u16 / BLOCKS;
+        let start = |block: u8| chain.start + size * u16::from(block);
+        let end = |block: u8| match u16::from(block) == BLOCKS - 1 {
+            true => chain.end,
+            false => start(block + 1),
+        };
+        let mut links = Vec::new();
+        for block in 0..BLOCKS as u8 {
+            let inner = (start(block) + 1..end(block)).rev();
+            links.extend(inner.map(|atom| (atom, vec![plain(atom - 1)])));
+        }
+        for (number, order) in orders.iter().enumerate() {
+            for (at, &block) in order.iter().enumerate() {
+                let mut body = telling_literals(&telling, number);
+                body.extend(order[..at].last().map(|&before| plain(end(before) - 1)));
+                links.push((start(block), body));
+            }
         }
         links
     })
@@ -743,6 +783,7 @@ pub fn every_slow(rng: &mut Rng, choices: u16) -> Vec<(String, Known)> {
             ("slowest", slowest(rng, choices, ending)),
             ("ring", ring(rng, choices, ending)),
             ("both ways", both_ways(rng, choices, ending)),
+            ("blocks", blocks(rng, choices, ending)),
             ("displaced", displaced(choices, 0, ending)),
             ("displaced, and a chain", displaced(choices, 200, ending)),
         ]
