@@ -726,11 +726,11 @@ pub fn both_ways(rng: &mut Rng, choices: u16, ending: Ending) -> Known {
 pub fn blocks(rng: &mut Rng, choices: u16, ending: Ending) -> Known {
     const BLOCKS: u16 = 8;
     let telling = choices.saturating_sub(4)..choices;
-    let (last, other) = (choices - 1, choices.max(2) - 2);
+    let last = choices - 1;
     let orders: Vec<Vec<u8>> = (0..1 << telling.len())
         .map(|_| hidden_order(rng, BLOCKS.into()))
         .collect();
-    let failing = [plain(last), not(other), plain(STOP)];
+    let failing = [plain(last), not(last)];
     linked(rng, choices, ending, &failing, |chain| {
         let size = chain.len() as u16 / BLOCKS;
         let start = |block: u8| chain.start + size * u16::from(block);
