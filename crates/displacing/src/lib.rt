@@ -1,5 +1,5 @@
 // Which rules are rejected at a setting, by masks over the branching facts. All facts of a body that can reject branch, so two masks say
-// at which settings it holds: they are made once a call, and no body is read at a setting.
+// at which settings it holds: they are made once a pass, and no body is read at a setting.
 ghost use mathlib.Core.Path.{_≡_};
 ghost use Prim.Native.Nat.{_*_, _/_, _≤_};
 ghost use lib.ListN.{length, replicate};

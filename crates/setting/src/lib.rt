@@ -1,5 +1,5 @@
 // A quick test of what is decided about the branching facts, before anything is filled: a fact that stands has to be the head of a
-// rule of whose body no literal is denied. It reads masks over the branching facts, three a rule, made once a call. Other tests read
+// rule of whose body no literal is denied. It reads masks over the branching facts, three a rule, made once a pass. Other tests read
 // the masks of bodies too.
 ghost use mathlib.Core.Path.{_≡_};
 ghost use mathlib.Core.Bool.{true};
