@@ -105,3 +105,8 @@ module _ (s : List ℕ) (e : IsAccepted s) where
         let v : (x : List ℕ) × x ∈ ruleRecords s × (ruleOf x ≡ r) = rule-from layer r k in
         good-rule (v .0) (v .1) .body-low l (subst (λ (t : Rule). l ∈ t .body) (sym (v .2)) i);
   }
+
+-- the book's facts are those of its program at any layer
+pub program-atoms : (book : List ℕ) (layer n : ℕ) → n ≡ bookOf book .atoms → n ≡ programOf book layer .atoms
+unfolding programAt
+program-atoms book layer n e = e

@@ -1,9 +1,17 @@
 -- The bounds of document 01, each named once. Assumes nothing.
-use Prim.Native.Nat.{ℕ}
+use Prim.Native.Nat.{ℕ, _+_, _*_, _/_}
 
 -- facts of a book
 abbrev pub maxAtoms : ℕ
 maxAtoms = 256
+
+-- "f" and "not f" of each fact
+abbrev pub maxNames : ℕ
+maxNames = 2 * maxAtoms
+
+-- bytes of a record: a bit a fact
+abbrev pub maxRecord : ℕ
+maxRecord = (maxAtoms + 7) / 8
 
 abbrev pub maxLayers : ℕ
 maxLayers = 32

@@ -4,6 +4,10 @@ ghost use Prim.Native.Nat.{_<_};
 
 pub const MAX_ATOMS: usize = 256;
 
+pub const MAX_NAMES: usize = 2 * MAX_ATOMS;
+
+pub const MAX_RECORD: usize = (MAX_ATOMS + 7) / 8;
+
 pub const MAX_LAYERS: usize = 32;
 
 pub const MAX_ARROWS: usize = 496;

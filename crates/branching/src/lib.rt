@@ -3,14 +3,16 @@ ghost use mathlib.Core.Path.{_≡_};
 ghost use mathlib.Core.Bool.{_&&_, _||_};
 ghost use Prim.Native.Nat.{_%_, _<_, _≤_};
 ghost use lib.Dec.{leb, ltb};
-ghost use Rattle.table.specs.Table.{programOf, Tabulates};
+ghost use Rattle.table.specs.Table.{Tabulates};
+ghost use Rattle.table.specs.Tabled.{tabled};
 ghost use Rattle.branching.specs.Marks.{BodyMarked, BranchingMarks, Listed};
+use base::MAX_ATOMS;
 use base::wide;
 use table::row_body;
 
 // The branching facts, in the first `count` places.
 pub struct Atoms {
-    pub atoms: [u8; 256],
+    pub atoms: [u8; MAX_ATOMS],
     pub count: usize,
 }
 
@@ -28,7 +30,7 @@ fn branches(v: usize, rejecting: bool) -> bool
 }
 
 // Marks the facts of a body that branch.
-fn mark_body(body: &[u8], rejecting: bool, marks: [bool; 256]) -> [bool; 256]
+fn mark_body(body: &[u8], rejecting: bool, marks: [bool; MAX_ATOMS]) -> [bool; MAX_ATOMS]
     ensures { λ r. ⌜ BodyMarked (now (body .entry)) rejecting marks r ⌝ }
 {
     let mut r = marks;
@@ -44,12 +46,12 @@ fn mark_body(body: &[u8], rejecting: bool, marks: [bool; 256]) -> [bool; 256]
 }
 
 // Marks the branching facts: a rule can displace exactly where its mask of overridden layers is not empty.
-pub fn mark_branching(book: &[u8], layer: usize, rows: &[u16], overridden: &[u32]) -> [bool; 256]
-    requires { ⌜ Tabulates (programOf (now book) layer) (now book) (now rows) (now overridden) ⌝ }
-    ensures { λ r. ⌜ BranchingMarks (programOf (now (book .entry)) layer) r ⌝ }
+pub fn mark_branching(book: &[u8], rows: &[u16], overridden: &[u32], n: usize) -> [bool; MAX_ATOMS]
+    requires { ⌜ Tabulates (tabled (now book) (now rows) (now overridden) n) (now book) (now rows) (now overridden) ⌝ }
+    ensures { λ r. ⌜ BranchingMarks (tabled (now (book .entry)) (now (rows .entry)) (now (overridden .entry)) n) r ⌝ }
 {
     let count = rows.len() / 4;
-    let mut marks: [bool; 256] = [false; 256];
+    let mut marks: [bool; MAX_ATOMS] = [false; MAX_ATOMS];
     let mut j = 0;
     while j < count {
         let next = mark_body(row_body(book, rows, j), overridden[j] != 0, marks);
@@ -60,19 +62,13 @@ pub fn mark_branching(book: &[u8], layer: usize, rows: &[u16], overridden: &[u32
 }
 
 // The branching facts, rising.
-pub fn branching_atoms(
-    book: &[u8],
-    layer: usize,
-    rows: &[u16],
-    overridden: &[u32],
-    n: usize,
-) -> Atoms
-    requires { ⌜ Tabulates (programOf (now book) layer) (now book) (now rows) (now overridden) ⌝ }
-    requires { ⌜ (n ≡ programOf (now book) layer .atoms) × (n ≤ 256) ⌝ }
-    ensures { λ r. ⌜ Listed (programOf (now (book .entry)) layer) (r .atoms) (r .count) ⌝ }
+pub fn branching_atoms(book: &[u8], rows: &[u16], overridden: &[u32], n: usize) -> Atoms
+    requires { ⌜ Tabulates (tabled (now book) (now rows) (now overridden) n) (now book) (now rows) (now overridden) ⌝ }
+    requires { ⌜ (n ≤ 256) ⌝ }
+    ensures { λ r. ⌜ Listed (tabled (now (book .entry)) (now (rows .entry)) (now (overridden .entry)) n) (r .atoms) (r .count) ⌝ }
 {
-    let marks = mark_branching(book, layer, rows, overridden);
-    let mut atoms: [u8; 256] = [0; 256];
+    let marks = mark_branching(book, rows, overridden, n);
+    let mut atoms: [u8; MAX_ATOMS] = [0; MAX_ATOMS];
     let mut count = 0;
     let mut f = 0;
     while f < n {

@@ -23,7 +23,8 @@ use Rattle.models.specs.Branching.{canReject, branching, branchingAtoms}
 use Rattle.models.proofs.BranchingLaws.{branch}
 use Rattle.table.specs.Names.{literalNamed}
 use Rattle.table.specs.Rows.{rowCount, rowAt}
-use Rattle.table.specs.Table.{programOf, Tabulates}
+use Rattle.table.specs.Table.{Tabulates}
+use Rattle.table.specs.Tabled.{tabled}
 use Rattle.table.proofs.NameLaws.{one-name}
 use Rattle.table.proofs.RowLaws.{row-in}
 use Rattle.tester.specs.Masks.{Rejection, RejectedMasks}
@@ -81,10 +82,10 @@ none-stand a b h = go (ℕ-discrete (bitAnd a b) 0)
     go (no n) = let x : (i : ℕ) × (bitOf (bitAnd a b) i ≡ 1) = some-bit (suc (bitAnd a b)) (bitAnd a b) (omega arith) (omega arith) in absurd (h (x .0) (and-first a b (x .0) (x .1)) (and-second a b (x .0) (x .1)))
 
 -- ---- the table of a program, and its branching atoms
-module _ {book rows overridden atoms : List ℕ} (layer : ℕ) (formed : WellFormed (programOf book layer)) (few : programOf book layer .atoms ≤ 256)
-    (table : Tabulates (programOf book layer) book rows overridden) (listed : atoms ≡ branchingAtoms (programOf book layer)) where
+module _ {book rows overridden atoms : List ℕ} (n : ℕ) (formed : WellFormed (tabled book rows overridden n)) (few : tabled book rows overridden n .atoms ≤ 256)
+    (table : Tabulates (tabled book rows overridden n) book rows overridden) (listed : atoms ≡ branchingAtoms (tabled book rows overridden n)) where
   abbrev P : Program
-  P = programOf book layer
+  P = tabled book rows overridden n
 
   once : (i j : ℕ) → i < length atoms → j < length atoms → getD atoms i 0 ≡ getD atoms j 0 → i ≡ j
   unfolding branchingAtoms

@@ -1,11 +1,12 @@
 -- The listing call, step by step: the size of the listing, each refusal, and the buffer once all is written. Assumes nothing.
 use mathlib.Core.Path.{_≡_, refl, sym, ap, ap₂, subst, _∙_}
-use mathlib.Core.List.{List, _∷_, _++_, map}
+use mathlib.Core.List.{List, [], _∷_, _++_, map}
 use Prim.Native.Nat.{ℕ, _+_, _-_, _*_, _^_, _<_, _≤_}
 use native.Mathlib.Nat.{pow-le-pow-right}
 use native.Mathlib.Omega.{arith}
 use borrow.Author.Tests.{lt-ltb, le-ltb}
 use borrow.Rule.Slice.PartMut.{putMid}
+use lib.Dec.{ltb}
 use lib.ListN.{length, take, drop, length-drop}
 use lib.Seq.{length-take-le}
 use Rattle.base.specs.Bounds.{maxAtoms, maxBranching}
@@ -15,29 +16,30 @@ use Rattle.book.specs.declared.Cause.{Cause}
 use Rattle.book.specs.declared.Cause.the-variants.{TooManyBranching, BufferTooShort}
 use Rattle.book.specs.declared.Verdict.{Verdict}
 use Rattle.book.specs.declared.Verdict.the-variants.{Accepted, Refused}
+use Rattle.format.specs.Book.{bookOf}
 use Rattle.models.specs.Program.{Program}
 use Rattle.models.specs.Branching.{branchingCount}
 use Rattle.models.specs.Listing.{stableModels, recordSize, recordOf, be16, be32, listingOf, listing}
 use Rattle.models.proofs.RecordLaws.{listing-length}
+use Rattle.models.proofs.AlikeLaws.{Alike, alike-models, alike-count, alike-listing}
 use Rattle.table.specs.Table.{programOf, TableMade}
+use Rattle.table.specs.Tabled.{tabled}
 use Rattle.accepted.specs.Accepted.{IsAccepted}
 use Rattle.accepted.specs.Driven.{layerTests}
 use Rattle.accepted.proofs.FirstLaws.{first-append, first-refused}
 use Rattle.branching.specs.Marks.{Listed}
 use Rattle.records.proofs.WrittenLaws.{records-fit, head-written}
-use Rattle.search.specs.declared.Goal.the-variants.{All}
 use Rattle.search.specs.Searchable.{Searchable}
-use Rattle.passes.specs.Tallied.{Tallied}
-use Rattle.passes.proofs.PassLaws.{models-le, tallied-all}
-use Rattle.passes.proofs.SetUpLaws.{too-many, not-too-many}
+use Rattle.passes.proofs.PassLaws.{models-le}
+use Rattle.passes.proofs.SetUpLaws.{set-up-alike, too-many, not-too-many}
 use Rattle.list_call.specs.declared.ListReply.{ListReply}
 use Rattle.list_call.specs.declared.ListReply.the-variants as reply
 use Rattle.list_call.specs.Reply.{roomTests, searchTests, listTests, replyOf, bufferOf, listReply, listBuffer, Answers}
 
 -- ---- counting and writing
-module _ {book rows overridden atoms : List ℕ} {layer n : ℕ} (w : Searchable book rows overridden atoms layer n) where
+module _ {book rows overridden atoms : List ℕ} {n : ℕ} (w : Searchable book rows overridden atoms n) where
   abbrev P : Program
-  P = programOf book layer
+  P = tabled book rows overridden n
 
   atoms-few : P .atoms ≤ maxAtoms
   atoms-few = subst (λ (k : ℕ). k ≤ maxAtoms) (w .size) (w .few)
@@ -46,10 +48,7 @@ module _ {book rows overridden atoms : List ℕ} {layer n : ℕ} (w : Searchable
   unfolding branchingCount
   g-is = ap length (w .listed)
 
-  module _ {k standing : ℕ} (t : Tallied P All 0 k standing) where
-    k-is : k ≡ length (stableModels P)
-    k-is = tallied-all P (w .formed) atoms-few 0 k standing t
-
+  module _ {k : ℕ} (k-is : k ≡ length (stableModels P)) where
     k-le : k ≤ 2 ^ maxBranching
     k-le = omega (arith, k-is, models-le P (w .formed) atoms-few, pow-le-pow-right {n = 2} (omega arith) (subst (λ (x : ℕ). x ≤ maxBranching) g-is (w .atoms-few)))
 
@@ -90,6 +89,30 @@ module _ {book rows overridden atoms : List ℕ} {layer n : ℕ} (w : Searchable
                     ∙ ap₂ (λ (x y : ℕ). listingOf x (stableModels P) ++ drop y old) (w .size) size-is);
               }
 
+-- ---- the program that the table stands for, and the driven layer's
+module _ {P Q : Program} (a : Alike P Q) where
+  room-same : (room : ℕ) → roomTests P room ≡ roomTests Q room
+  unfolding roomTests
+  room-same room = ap (λ (s : List ℕ). record { cause = BufferTooShort; applies = ltb room (length s) } ∷ []) (alike-listing a)
+
+  reply-same : (v : Verdict) → replyOf v P ≡ replyOf v Q
+  unfolding replyOf
+  reply-same (Refused c) = refl
+  reply-same Accepted = ap₂ reply.Listed (ap length (alike-models a)) (alike-count a)
+
+  buffer-same : (v : Verdict) (old : List ℕ) → bufferOf v P old ≡ bufferOf v Q old
+  unfolding bufferOf
+  buffer-same (Refused c) old = refl
+  buffer-same Accepted old = ap (λ (s : List ℕ). s ++ drop (length s) old) (alike-listing a)
+
+  answers-over : {old new : List ℕ} {r : ListReply} → Answers (firstOf (roomTests Q (length old))) Q old r new → Answers (firstOf (roomTests P (length old))) P old r new
+  answers-over {old} x =
+      let e : firstOf (roomTests Q (length old)) ≡ firstOf (roomTests P (length old)) = sym (ap firstOf (room-same (length old))) in
+      record {
+        reply-is = x .reply-is ∙ ap (λ (v : Verdict). replyOf v Q) e ∙ sym (reply-same (firstOf (roomTests P (length old))));
+        buffer-is = x .buffer-is ∙ ap (λ (v : Verdict). bufferOf v Q old) e ∙ sym (buffer-same (firstOf (roomTests P (length old))) old);
+      }
+
 -- ---- cause 12
 module _ (book : List ℕ) (layer : ℕ) (ok : IsAccepted book) {rows overridden : List ℕ} {count : ℕ} (made : TableMade (programOf book layer) book rows overridden count)
     {atoms : List ℕ} {g : ℕ} (l : Listed (programOf book layer) atoms g) where
@@ -100,10 +123,15 @@ module _ (book : List ℕ) (layer : ℕ) (ok : IsAccepted book) {rows overridden
         let e : firstOf (searchTests (programOf book layer) (length old)) ≡ Refused TooManyBranching = rw (too-many book layer ok made l h) refl in
         record { reply-is = rw e refl; buffer-is = rw e refl }
 
-    pub branching-passes : g ≤ 20 → (r : ListReply) (new : List ℕ) → Answers (firstOf (roomTests (programOf book layer) (length old))) (programOf book layer) old r new
+    passes-over : g ≤ 20 → (r : ListReply) (new : List ℕ) → Answers (firstOf (roomTests (programOf book layer) (length old))) (programOf book layer) old r new
         → Answers (firstOf (searchTests (programOf book layer) (length old))) (programOf book layer) old r new
     unfolding firstOf verdictIf searchTests
-    branching-passes h r new a = rw (not-too-many book layer ok made l h) a
+    passes-over h r new a = rw (not-too-many book layer ok made l h) a
+
+    pub branching-passes : g ≤ 20 → {n : ℕ} → n ≡ bookOf book .atoms → (r : ListReply) (new : List ℕ)
+        → Answers (firstOf (roomTests (tabled book (take (4 * count - 0) rows) (take (count - 0) overridden) n) (length old))) (tabled book (take (4 * count - 0) rows) (take (count - 0) overridden) n) old r new
+        → Answers (firstOf (searchTests (programOf book layer) (length old))) (programOf book layer) old r new
+    branching-passes h e r new a = passes-over h r new (answers-over (set-up-alike book layer ok made l e) a)
 
 -- ---- the call
 module _ (book : List ℕ) (layer : ℕ) (old : List ℕ) (v : Verdict) (e : v ≡ firstOf (layerTests book layer)) where

@@ -7,3 +7,4 @@ pub mod RecordOrder
 pub mod LeafLaws
 pub mod ListingLaws
 pub mod ExampleLaws
+pub mod AlikeLaws

@@ -1,11 +1,12 @@
 -- The call for one state, step by step: each refusal, and the buffer once a record is written. Assumes nothing.
-use mathlib.Core.Path.{_≡_, refl, sym, ap, ap₂, _∙_}
+use mathlib.Core.Path.{_≡_, refl, sym, ap, ap₂, subst, _∙_}
 use mathlib.Core.Bool.{Bool, true, false}
 use mathlib.Core.List.{List, [], _∷_, _++_, List·Memᴰ·head, Memᴰ·append-right}
-use Prim.Native.Nat.{ℕ, _-_, _<_, _≤_}
+use Prim.Native.Nat.{ℕ, _-_, _*_, _<_, _≤_}
 use native.Mathlib.Omega.{arith}
 use borrow.Author.Tests.{lt-ltb, le-ltb, ltb-false}
 use borrow.Rule.Slice.PartMut.{putMid}
+use lib.Dec.{eqb, ltb}
 use lib.ListN.{length, take, drop, take-append-drop}
 use lib.Seq.{length-take-le}
 use Rattle.base.specs.Bounds.{maxBranching}
@@ -14,27 +15,30 @@ use Rattle.book.specs.declared.Cause.{Cause}
 use Rattle.book.specs.declared.Cause.the-variants.{TooManyBranching, BufferTooShort, NoStableState}
 use Rattle.book.specs.declared.Verdict.{Verdict}
 use Rattle.book.specs.declared.Verdict.the-variants.{Accepted, Refused}
+use Rattle.format.specs.Book.{bookOf}
 use Rattle.models.specs.Program.{Program}
 use Rattle.models.specs.StableModels.{Interpretation}
 use Rattle.models.specs.Branching.{branchingCount}
 use Rattle.models.specs.Listing.{recordSize, recordOf}
+use Rattle.models.proofs.AlikeLaws.{Alike, flip, alike-model, alike-models, alike-count}
 use Rattle.table.specs.Table.{programOf, TableMade}
+use Rattle.table.specs.Tabled.{tabled}
 use Rattle.accepted.specs.Accepted.{IsAccepted}
 use Rattle.accepted.specs.Driven.{layerTests}
 use Rattle.accepted.proofs.FirstLaws.{accepted-none, first-append, first-refused}
 use Rattle.branching.specs.Marks.{Listed}
 use Rattle.search.specs.Searchable.{Searchable}
-use Rattle.passes.specs.Limit.{hasTooManyBranching}
+use Rattle.passes.specs.Limit.{hasTooManyBranching, hasNoStableState}
 use Rattle.passes.specs.First.{FirstWritten}
-use Rattle.passes.proofs.SetUpLaws.{too-many, not-too-many}
+use Rattle.passes.proofs.SetUpLaws.{set-up-alike, too-many, not-too-many}
 use Rattle.one_call.specs.declared.OneReply.{OneReply}
 use Rattle.one_call.specs.declared.OneReply.the-variants as reply
-use Rattle.one_call.specs.Reply.{roomTests, searchTests, oneTests, replyOf, oneReply, OneBuffer, Answers}
+use Rattle.one_call.specs.Reply.{roomTests, searchTests, oneTests, replyOf, BufferOf, oneReply, OneBuffer, Answers}
 
 -- ---- room and search
-module _ {book rows overridden atoms : List ℕ} {layer n : ℕ} (w : Searchable book rows overridden atoms layer n) (size : ℕ) (e : size ≡ recordSize n) (old : List ℕ) where
+module _ {book rows overridden atoms : List ℕ} {n : ℕ} (w : Searchable book rows overridden atoms n) (size : ℕ) (e : size ≡ recordSize n) (old : List ℕ) where
   abbrev P : Program
-  P = programOf book layer
+  P = tabled book rows overridden n
 
   g-is : length atoms ≡ branchingCount P
   unfolding branchingCount
@@ -78,6 +82,38 @@ module _ {book rows overridden atoms : List ℕ} {layer n : ℕ} (w : Searchable
             buffer-is = record { state = m; stable = s .1 .1; bytes = back part ∙ ap₂ (λ (x : List ℕ) (k : ℕ). x ++ drop k old) r size-is };
           })
 
+-- ---- the program that the table stands for, and the driven layer's
+module _ {P Q : Program} (a : Alike P Q) where
+  none-same : hasNoStableState P ≡ hasNoStableState Q
+  unfolding hasNoStableState
+  none-same = ap (λ (ms : List Interpretation). eqb (length ms) 0) (alike-models a)
+
+  room-same : (room : ℕ) → roomTests P room ≡ roomTests Q room
+  unfolding roomTests
+  room-same room =
+      ap₂ (λ (n : ℕ) (b : Bool). record { cause = BufferTooShort; applies = ltb room (recordSize n) } ∷ record { cause = NoStableState; applies = b } ∷ []) (a .atoms-same) none-same
+
+  reply-same : (v : Verdict) → replyOf v P ≡ replyOf v Q
+  unfolding replyOf
+  reply-same (Refused c) = refl
+  reply-same Accepted = ap reply.Written (alike-count a)
+
+  buffer-from : (v : Verdict) (old new : List ℕ) → BufferOf v Q old new → BufferOf v P old new
+  buffer-from (Refused c) old new e = e
+  buffer-from Accepted old new h = record {
+    state = h .state;
+    stable = alike-model (flip a) (h .state) (h .stable);
+    bytes = h .bytes ∙ sym (ap (λ (n : ℕ). recordOf n (h .state) ++ drop (recordSize n) old) (a .atoms-same));
+  }
+
+  answers-over : {old new : List ℕ} {r : OneReply} → Answers (firstOf (roomTests Q (length old))) Q old r new → Answers (firstOf (roomTests P (length old))) P old r new
+  answers-over {old} {new} x =
+      let e : firstOf (roomTests Q (length old)) ≡ firstOf (roomTests P (length old)) = sym (ap firstOf (room-same (length old))) in
+      record {
+        reply-is = x .reply-is ∙ ap (λ (v : Verdict). replyOf v Q) e ∙ sym (reply-same (firstOf (roomTests P (length old))));
+        buffer-is = buffer-from (firstOf (roomTests P (length old))) old new (subst (λ (v : Verdict). BufferOf v Q old new) e (x .buffer-is));
+      }
+
 -- ---- cause 12
 module _ (book : List ℕ) (layer : ℕ) (ok : IsAccepted book) {rows overridden : List ℕ} {count : ℕ} (made : TableMade (programOf book layer) book rows overridden count)
     {atoms : List ℕ} {g : ℕ} (l : Listed (programOf book layer) atoms g) where
@@ -88,10 +124,15 @@ module _ (book : List ℕ) (layer : ℕ) (ok : IsAccepted book) {rows overridden
         let e : firstOf (searchTests (programOf book layer) (length old)) ≡ Refused TooManyBranching = rw (too-many book layer ok made l h) refl in
         rw e (record { reply-is = refl; buffer-is = refl })
 
-    pub branching-passes : g ≤ 20 → (r : OneReply) (new : List ℕ) → Answers (firstOf (roomTests (programOf book layer) (length old))) (programOf book layer) old r new
+    passes-over : g ≤ 20 → (r : OneReply) (new : List ℕ) → Answers (firstOf (roomTests (programOf book layer) (length old))) (programOf book layer) old r new
         → Answers (firstOf (searchTests (programOf book layer) (length old))) (programOf book layer) old r new
     unfolding firstOf verdictIf searchTests
-    branching-passes h r new a = rw (not-too-many book layer ok made l h) a
+    passes-over h r new a = rw (not-too-many book layer ok made l h) a
+
+    pub branching-passes : g ≤ 20 → {n : ℕ} → n ≡ bookOf book .atoms → (r : OneReply) (new : List ℕ)
+        → Answers (firstOf (roomTests (tabled book (take (4 * count - 0) rows) (take (count - 0) overridden) n) (length old))) (tabled book (take (4 * count - 0) rows) (take (count - 0) overridden) n) old r new
+        → Answers (firstOf (searchTests (programOf book layer) (length old))) (programOf book layer) old r new
+    branching-passes h e r new a = passes-over h r new (answers-over (set-up-alike book layer ok made l e) a)
 
 -- ---- the call
 module _ (book : List ℕ) (layer : ℕ) (old : List ℕ) (v : Verdict) (e : v ≡ firstOf (layerTests book layer)) where

@@ -6,6 +6,7 @@ ghost use Rattle.layers.specs.Masks.{LowerMasks};
 ghost use Rattle.format.specs.Book.{arrowsOf, bookOf};
 ghost use Rattle.book.specs.Causes.{firstOf};
 ghost use Rattle.table.specs.Table.{programOf};
+ghost use Rattle.table.specs.Tabled.{tabled};
 ghost use Rattle.accepted.specs.Accepted.{IsAccepted};
 ghost use Rattle.search.specs.Searchable.{Searchable};
 ghost use Rattle.one_call.specs.Reply.{roomTests, searchTests, oneReply, OneBuffer, Answers};
@@ -27,29 +28,20 @@ pub enum OneReply {
 // Room for a record comes first: a short buffer is 13 whether or not there is a state. The search stops at the first state.
 fn one_found(
     book: &[u8],
-    layer: usize,
     rows: &[u16],
     overridden: &[u32],
     atoms: &[u8],
     n: usize,
     buffer: &mut [u8],
 ) -> OneReply
-    requires { ⌜ Searchable (now book) (now rows) (now overridden) (now atoms) layer n ⌝ }
-    ensures { λ r. ⌜ Answers (firstOf (roomTests (programOf (now (book .entry)) layer) (length (now (buffer .entry))))) (programOf (now (book .entry)) layer) (now (buffer .entry)) r (now (buffer .exit)) ⌝ }
+    requires { ⌜ Searchable (now book) (now rows) (now overridden) (now atoms) n ⌝ }
+    ensures { λ r. ⌜ Answers (firstOf (roomTests (tabled (now (book .entry)) (now (rows .entry)) (now (overridden .entry)) n) (length (now (buffer .entry))))) (tabled (now (book .entry)) (now (rows .entry)) (now (overridden .entry)) n) (now (buffer .entry)) r (now (buffer .exit)) ⌝ }
 {
     let size = record_size(n);
     if buffer.len() < size {
         return OneReply::Refused(Cause::BufferTooShort);
     }
-    let found = write_first(
-        book,
-        layer,
-        rows,
-        overridden,
-        atoms,
-        n,
-        &mut buffer[0..size],
-    );
+    let found = write_first(book, rows, overridden, atoms, n, &mut buffer[0..size]);
     if found {
         return OneReply::Written(atoms.len());
     }
@@ -75,7 +67,6 @@ fn one_at(book: &[u8], layer: usize, lower: [u32; 32], buffer: &mut [u8]) -> One
     }
     one_found(
         book,
-        layer,
         &rows[0..4 * count],
         &overridden[0..count],
         &atoms[0..g],

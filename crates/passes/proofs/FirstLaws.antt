@@ -18,7 +18,7 @@ use Rattle.models.specs.StableModels.{Interpretation}
 use Rattle.models.specs.Listing.{recordSize, recordOf}
 use Rattle.records.specs.Written.{before, sorted}
 use Rattle.records.proofs.OrderLaws.{sorted-length}
-use Rattle.table.specs.Table.{programOf}
+use Rattle.table.specs.Tabled.{tabled}
 use Rattle.search.specs.declared.Goal.{Goal}
 use Rattle.search.specs.declared.Visit.{Visit}
 use Rattle.search.specs.Visits.{Visits, done}
@@ -46,9 +46,9 @@ sorted-from n ms m k = go (insertAll-from (before n) ms [] m k)
     go (inl j) = j
     go (inr j) = absurd (List·Memᴰ·not-nil j)
 
-module _ {book rows overridden atoms : List ℕ} {layer n : ℕ} (w : Searchable book rows overridden atoms layer n) where
+module _ {book rows overridden atoms : List ℕ} {n : ℕ} (w : Searchable book rows overridden atoms n) where
   abbrev P : Program
-  P = programOf book layer
+  P = tabled book rows overridden n
 
   few : P .atoms ≤ maxAtoms
   few = subst (λ (k : ℕ). k ≤ maxAtoms) (w .size) (w .few)

@@ -1,3 +1,4 @@
+pub mod PlanLaws
 pub mod PassLaws
 pub mod SetUpLaws
 pub mod StateLaws

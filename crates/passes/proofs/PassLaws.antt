@@ -19,7 +19,7 @@ use Rattle.records.specs.Written.{sorted}
 use Rattle.records.proofs.OrderLaws.{sorted-length, sorted-listed}
 use Rattle.records.proofs.RoomLaws.{whole-gap}
 use Rattle.records.proofs.WrittenLaws.{least-written}
-use Rattle.table.specs.Table.{programOf}
+use Rattle.table.specs.Tabled.{tabled}
 use Rattle.search.specs.declared.Goal.{Goal}
 use Rattle.search.specs.declared.Goal.the-variants.{All}
 use Rattle.search.specs.declared.Visit.{Visit}
@@ -56,9 +56,9 @@ module _ (P : Program) (w : WellFormed P) (few : P .atoms ≤ maxAtoms) where
   models-le = subst (λ (k : ℕ). k ≤ 2 ^ branchingCount P) searched-length (found-count P w (replicate 256 false) 256 unset few)
 
 -- the call of the search
-module _ {book rows overridden atoms : List ℕ} {layer n : ℕ} (w : Searchable book rows overridden atoms layer n) where
+module _ {book rows overridden atoms : List ℕ} {n : ℕ} (w : Searchable book rows overridden atoms n) where
   abbrev P : Program
-  P = programOf book layer
+  P = tabled book rows overridden n
 
   pub found-is : foundBy (atSetting P atoms) atoms (settingOf atoms 0) ≡ searched P
   unfolding searched
@@ -110,6 +110,9 @@ module _ {book rows overridden atoms : List ℕ} {layer n : ℕ} (w : Searchable
           ap (λ (l : List Interpretation). sorted n l) all-seen ∙ ap (λ (k : ℕ). sorted k (searched P)) (w .size)
           ∙ searched-sorted P (w .formed) (subst (λ (k : ℕ). k ≤ maxAtoms) (w .size) (w .few))
 
+      pub all-counted : end .count ≡ length (stableModels P)
+      all-counted = visits-count n (s .seen) start part end part′ (s .visits) ∙ omega (arith, sorted-length n (s .seen), ap length all-sorted)
+
       pub all-written : hi ≡ length part → length part ≡ length (stableModels P) * recordSize n → part′ ≡ flat (map (recordOf n) (stableModels P))
       all-written h e =
           pass-written (length (stableModels P)) h e (omega (arith, sorted-length n (s .seen), ap length all-sorted))
@@ -119,9 +122,3 @@ module _ {book rows overridden atoms : List ℕ} {layer n : ℕ} (w : Searchable
 -- a part without room is all the records, if it has just the room for them
 pub none-written : (n : ℕ) (ms : List Interpretation) (part : List ℕ) → length part ≡ length ms * recordSize n → length part ≡ 0 → part ≡ flat (map (recordOf n) ms)
 none-written n ms part e z = empty part z ∙ sym (empty (flat (map (recordOf n) ms)) (records-length n ms ∙ sym e ∙ z))
-
--- a pass that never stops early has met them all
-pub tallied-all : (P : Program) → WellFormed P → P .atoms ≤ maxAtoms → (atom count standing : ℕ) → Tallied P All atom count standing → count ≡ length (stableModels P)
-unfolding reaches
-tallied-all P w few atom count standing t =
-    t .count-is ∙ ap length (sym (append-nil (t .seen)) ∙ ap (λ (l : List Interpretation). t .seen ++ l) (sym (t .whole refl)) ∙ sym (t .split)) ∙ searched-length P w few

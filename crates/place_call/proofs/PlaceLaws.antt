@@ -8,26 +8,29 @@ use Prim.Native.Nat.{ℕ, suc, _<_, _≤_}
 use native.Mathlib.Decide.{decLt}
 use native.Mathlib.Omega.{arith}
 use borrow.Author.Tests.{lt-ltb, le-ltb, ltb-false}
-use lib.Dec.{T, T-not, not-T, ltb}
+use lib.Dec.{T, T-not, not-T, eqb, ltb}
 use lib.ListN.{length}
 use Rattle.base.specs.Bounds.{maxAtoms, maxBranching}
 use Rattle.base.specs.Lists.{consIf, all, any, filter}
 use Rattle.base.proofs.Members.{_∈_, test, filter-from, filter-into, all-at, all-of, any-of, any-at}
 use Rattle.base.proofs.ClosureLaws.{filter-lt, filter-length}
 use Rattle.base.proofs.UpTo.{passed, failed}
-use Rattle.book.specs.Causes.{verdictIf, firstOf}
+use Rattle.book.specs.Causes.{Test, verdictIf, firstOf}
 use Rattle.book.specs.declared.Cause.{Cause}
 use Rattle.book.specs.declared.Cause.the-variants.{NoSuchFact, TooManyBranching, NoStableState}
 use Rattle.book.specs.declared.Verdict.{Verdict}
 use Rattle.book.specs.declared.Verdict.the-variants.{Accepted, Refused}
 use Rattle.format.specs.Book.{bookOf}
-use Rattle.models.specs.Program.{Program, programAt}
+use Rattle.models.specs.Program.{Program}
 use Rattle.models.specs.StableModels.{Interpretation, atomHolds, StableModel}
 use Rattle.models.specs.Branching.{branchingCount}
 use Rattle.models.specs.Listing.{stableModels}
+use Rattle.models.proofs.AlikeLaws.{Alike, alike-models, alike-count}
 use Rattle.table.specs.Table.{programOf}
+use Rattle.table.specs.Tabled.{tabled}
 use Rattle.accepted.specs.Driven.{layerTests}
 use Rattle.accepted.proofs.FirstLaws.{first-append, first-refused, accepted-none}
+use Rattle.accepted.proofs.RecordFacts.{program-atoms}
 use Rattle.search.specs.declared.Goal.the-variants.{Settle}
 use Rattle.search.specs.Searchable.{Searchable}
 use Rattle.search.specs.Visits.{reaches}
@@ -104,9 +107,9 @@ and-false : (b : Bool) → (b && false) ≡ false
 and-false true = refl
 and-false false = refl
 
-module _ {book rows overridden atoms : List ℕ} {layer n : ℕ} (w : Searchable book rows overridden atoms layer n) {fact count standing : ℕ} (t : Tallied (programOf book layer) Settle fact count standing) where
+module _ {book rows overridden atoms : List ℕ} {n : ℕ} (w : Searchable book rows overridden atoms n) {fact count standing : ℕ} (t : Tallied (tabled book rows overridden n) Settle fact count standing) where
   abbrev P : Program
-  P = programOf book layer
+  P = tabled book rows overridden n
 
   few : P .atoms ≤ maxAtoms
   few = subst (λ (k : ℕ). k ≤ maxAtoms) (w .size) (w .few)
@@ -148,14 +151,31 @@ module _ {book rows overridden atoms : List ℕ} {layer n : ℕ} (w : Searchable
     placed-every h =
         placed Every (place-every P fact (λ m k. pass-all (λ m. atomHolds m fact) (t .seen) (omega (arith, t .standing-is, t .count-is)) m (seen-into P (w .formed) few t (unsettled (inr h)) m k)))
 
+-- ---- the program that the table stands for, and the driven layer's
+module _ {P Q : Program} (a : Alike P Q) (fact : ℕ) where
+  state-same : stateTests P ≡ stateTests Q
+  unfolding stateTests hasNoStableState
+  state-same = ap (λ (ms : List Interpretation). record { cause = NoStableState; applies = eqb (length ms) 0 } ∷ []) (alike-models a)
+
+  place-same : placeIn P fact ≡ placeIn Q fact
+  unfolding placeIn
+  place-same = ap (λ (ms : List Interpretation). placeBy (all (λ m. atomHolds m fact) ms) (any (λ m. atomHolds m fact) ms)) (alike-models a)
+
+  reply-same : (v : Verdict) → replyOf v P fact ≡ replyOf v Q fact
+  unfolding replyOf
+  reply-same (Refused c) = refl
+  reply-same Accepted = ap₂ reply.Placed place-same (alike-count a)
+
+  pub reply-over : (r : PlaceReply) → r ≡ replyOf (firstOf (stateTests Q)) Q fact → r ≡ replyOf (firstOf (stateTests P)) P fact
+  reply-over r e = e ∙ sym (reply-same (firstOf (stateTests Q))) ∙ sym (ap (λ (ts : List Test). replyOf (firstOf ts) P fact) state-same)
+
 -- ---- causes 11 and 12
 module _ (book : List ℕ) (layer fact n : ℕ) (e : n ≡ bookOf book .atoms) where
   abbrev R : Program
   R = programOf book layer
 
   atoms-is : n ≡ programOf book layer .atoms
-  unfolding programAt
-  atoms-is = e
+  atoms-is = program-atoms book layer n e
 
   pub fact-refused : n ≤ fact → reply.Refused NoSuchFact ≡ replyOf (firstOf (factTests R fact)) R fact
   unfolding firstOf verdictIf factTests isNoSuchFact replyOf

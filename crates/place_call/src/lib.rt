@@ -7,6 +7,7 @@ ghost use Rattle.layers.specs.Masks.{LowerMasks};
 ghost use Rattle.format.specs.Book.{arrowsOf, bookOf};
 ghost use Rattle.book.specs.Causes.{firstOf};
 ghost use Rattle.table.specs.Table.{programOf};
+ghost use Rattle.table.specs.Tabled.{tabled};
 ghost use Rattle.accepted.specs.Accepted.{IsAccepted};
 ghost use Rattle.search.specs.Searchable.{Searchable};
 ghost use Rattle.place_call.specs.Reply.{stateTests, factTests, replyOf, placeReply};
@@ -34,17 +35,16 @@ pub enum PlaceReply {
 // One pass of the search, which stops once the fact stands in some but not in all of the stable models met.
 fn place_found(
     book: &[u8],
-    layer: usize,
     rows: &[u16],
     overridden: &[u32],
     atoms: &[u8],
     n: usize,
     fact: usize,
 ) -> PlaceReply
-    requires { ⌜ Searchable (now book) (now rows) (now overridden) (now atoms) layer n ⌝ }
-    ensures { λ r. ⌜ r ≡ replyOf (firstOf (stateTests (programOf (now (book .entry)) layer))) (programOf (now (book .entry)) layer) fact ⌝ }
+    requires { ⌜ Searchable (now book) (now rows) (now overridden) (now atoms) n ⌝ }
+    ensures { λ r. ⌜ r ≡ replyOf (firstOf (stateTests (tabled (now (book .entry)) (now (rows .entry)) (now (overridden .entry)) n))) (tabled (now (book .entry)) (now (rows .entry)) (now (overridden .entry)) n) fact ⌝ }
 {
-    let counts = tally(book, layer, rows, overridden, atoms, n, Goal::Settle, fact);
+    let counts = tally(book, rows, overridden, atoms, n, Goal::Settle, fact);
     let count = counts.count;
     let standing = counts.standing;
     if count == 0 {
@@ -81,7 +81,6 @@ fn place_at(book: &[u8], layer: usize, lower: [u32; 32], fact: usize) -> PlaceRe
     }
     place_found(
         book,
-        layer,
         &rows[0..4 * count],
         &overridden[0..count],
         &atoms[0..g],

@@ -22,7 +22,7 @@ use Rattle.models.specs.StableModels.{Interpretation, atomHolds, negative, stab
 use Rattle.models.specs.Branching.{branching, branchingAtoms}
 use Rattle.models.proofs.LeastLaws.{beq-same}
 use Rattle.table.specs.Rows.{rowCount}
-use Rattle.table.specs.Table.{programOf}
+use Rattle.table.specs.Tabled.{tabled}
 use Rattle.filling.specs.Marks.{literalMarked, Conflict, Fills}
 use Rattle.tester.specs.Masks.{RejectedMasks, Uncontested}
 use Rattle.tester.proofs.UncontestedLaws.{fills-wider, uncontested-stable}
@@ -165,9 +165,9 @@ module _ (atoms : List ℕ) (m o : Interpretation) where
   agree-end i h w = sym (w ∙ ap (λ (l : List ℕ). agreeOn l m o) (drop-of-length-le atoms {i = i} h))
 
 -- ---- the model
-module _ {book rows overridden atoms : List ℕ} {layer n : ℕ} (w : Searchable book rows overridden atoms layer n) (o : Interpretation) where
+module _ {book rows overridden atoms : List ℕ} {n : ℕ} (w : Searchable book rows overridden atoms n) (o : Interpretation) where
   abbrev P : Program
-  P = programOf book layer
+  P = tabled book rows overridden n
 
   at-listed : atSetting P atoms o ≡ atSetting P (branchingAtoms P) o
   at-listed = ap (λ (l : List ℕ). atSetting P l o) (w .listed)

@@ -20,7 +20,7 @@ use Rattle.models.specs.StableModels.{Interpretation, atomHolds, positive, nega
 use Rattle.models.specs.Branching.{branchingAtoms}
 use Rattle.table.specs.Names.{literalNamed, nameOf}
 use Rattle.table.specs.Rows.{rowCount, headName, rowAt}
-use Rattle.table.specs.Table.{programOf}
+use Rattle.table.specs.Tabled.{tabled}
 use Rattle.table.proofs.NameLaws.{name-back, complement-twice}
 use Rattle.table.proofs.RowLaws.{row-in, row-of}
 use Rattle.table.proofs.TableLaws.{overrides-heads}
@@ -45,10 +45,10 @@ none-set a none = go (ℕ-discrete a 0)
     go (yes e) = e
     go (no n) = let x : (i : ℕ) × (bitOf a i ≡ 1) = some-bit (suc a) a (omega arith) (omega arith) in absurd (none (x .0) (x .1))
 
-module _ {book rows overridden atoms : List ℕ} {layer n : ℕ} (w : Searchable book rows overridden atoms layer n) {masks : List ℕ}
+module _ {book rows overridden atoms : List ℕ} {n : ℕ} (w : Searchable book rows overridden atoms n) {masks : List ℕ}
     (k : RuleMasks book rows atoms masks) {undecided : List ℕ} (o : Interpretation) {standing denied : ℕ} (s : Decided atoms undecided o standing denied) where
   abbrev P : Program
-  P = programOf book layer
+  P = tabled book rows overridden n
 
   module _ (m : Interpretation) (sm : StableModel P m) (same : (f : ℕ) → f ∈ branchingAtoms P → (f ∈ undecided → ⊥) → atomHolds m f ≡ atomHolds o f) where
     listed-at : (i : ℕ) → i < length atoms → getD atoms i 0 ∈ branchingAtoms P
@@ -190,8 +190,8 @@ module _ {book rows overridden atoms : List ℕ} {layer n : ℕ} (w : Searchable
   none-allowed g r told e = nothing-found (λ m sm same. no-nogood m sm same g (told e))
 
 -- ---- what is decided, from call to call
-pub listed-once : {book rows overridden atoms : List ℕ} {layer n : ℕ} → Searchable book rows overridden atoms layer n → Once atoms
-listed-once {book} {layer = layer} w = subst Once (sym (w .listed)) (branching-once (programOf book layer) (w .formed))
+pub listed-once : {book rows overridden atoms : List ℕ} {n : ℕ} → Searchable book rows overridden atoms n → Once atoms
+listed-once {book} {rows} {overridden} {n = n} w = subst Once (sym (w .listed)) (branching-once (tabled book rows overridden n) (w .formed))
 
 pub decided-start : (atoms : List ℕ) → Decided atoms atoms (settingOf atoms 0) 0 0
 decided-start atoms = record {
@@ -322,10 +322,10 @@ module _ (atoms : List ℕ) (once : Once atoms) (few : length atoms ≤ 20) (und
       (decided-true atoms once few undecided X standing denied s some f refl bf)
 
 -- an undecided atom is one of 256
-pub first-small : {book rows overridden atoms : List ℕ} {layer n : ℕ} (w : Searchable book rows overridden atoms layer n) (undecided : List ℕ) (o : Interpretation) (standing denied : ℕ)
+pub first-small : {book rows overridden atoms : List ℕ} {n : ℕ} (w : Searchable book rows overridden atoms n) (undecided : List ℕ) (o : Interpretation) (standing denied : ℕ)
     → Decided atoms undecided o standing denied → (length undecided ≡ 0 → ⊥) → getD undecided 0 0 < 256
-first-small {book} {atoms = atoms} {layer = layer} w undecided o standing denied s some =
+first-small {book} {rows} {overridden} {atoms = atoms} {n = n} w undecided o standing denied s some =
     let h : length atoms - length undecided < length atoms = omega (arith, s .few) in
     let e : getD undecided 0 0 ≡ getD atoms (length atoms - length undecided) 0 = ap (λ (l : List ℕ). getD l 0 0) (s .last ∙ drop-cons atoms (length atoms - length undecided) 0 h) in
-    let m : getD atoms (length atoms - length undecided) 0 ∈ branchingAtoms (programOf book layer) = subst (λ (l : List ℕ). getD atoms (length atoms - length undecided) 0 ∈ l) (w .listed) (getD-member atoms (length atoms - length undecided) 0 h) in
-    omega (arith, branching-small (programOf book layer) (w .formed) (getD atoms (length atoms - length undecided) 0) m, w .size, w .few)
+    let m : getD atoms (length atoms - length undecided) 0 ∈ branchingAtoms (tabled book rows overridden n) = subst (λ (l : List ℕ). getD atoms (length atoms - length undecided) 0 ∈ l) (w .listed) (getD-member atoms (length atoms - length undecided) 0 h) in
+    omega (arith, branching-small (tabled book rows overridden n) (w .formed) (getD atoms (length atoms - length undecided) 0) m, w .size, w .few)

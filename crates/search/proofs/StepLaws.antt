@@ -14,7 +14,7 @@ use Rattle.search.specs.declared.Visit.{Visit}
 use Rattle.search.specs.Found.{atSetting, foundBy}
 use Rattle.search.specs.Visits.{Kept, Met, Searched}
 use Rattle.table.specs.Rows.{rowCount}
-use Rattle.table.specs.Table.{programOf}
+use Rattle.table.specs.Tabled.{tabled}
 use Rattle.tester.specs.Masks.{RejectedMasks}
 use Rattle.setting.specs.Setting.{settingOf}
 use Rattle.displacing.specs.Displacing.{Displacing, RejectsAt}
@@ -27,8 +27,8 @@ use Rattle.search.proofs.VisitLaws.{searched-none, searched-one, search
 abbrev pub limit : ℕ
 limit = 4294967296
 
-abbrev pub leafOf : List ℕ → List ℕ → ℕ → Interpretation → List Interpretation
-leafOf book atoms layer = atSetting (programOf book layer) atoms
+abbrev pub leafOf : List ℕ → List ℕ → List ℕ → ℕ → List ℕ → Interpretation → List Interpretation
+leafOf book rows overridden n atoms = atSetting (tabled book rows overridden n) atoms
 
 kept-yes : (ok : Bool) (m : Interpretation) → ok ≡ true → consIf ok m [] ≡ m ∷ []
 unfolding consIf
@@ -44,10 +44,10 @@ at-leaf leaf [] o e = refl
 at-leaf leaf (f ∷ fs) o e = absurd (omega arith)
 
 -- what the masks of the displacing rules say of the setting of a mask
-pub setting-rejects : {book rows overridden atoms displacing rejects : List ℕ} {layer n : ℕ} → Searchable book rows overridden atoms layer n → (standing : ℕ) (o : Interpretation) → o ≡ settingOf atoms standing
+pub setting-rejects : {book rows overridden atoms displacing rejects : List ℕ} {n : ℕ} → Searchable book rows overridden atoms n → (standing : ℕ) (o : Interpretation) → o ≡ settingOf atoms standing
     → Displacing book rows overridden atoms displacing → RejectsAt displacing standing rejects (length displacing / 4) → RejectedMasks book rows overridden o rejects (rowCount rows)
-setting-rejects {book} {rows} {overridden} {rejects = rejects} {layer = layer} w standing o e d r =
-    subst (λ (x : Interpretation). RejectedMasks book rows overridden x rejects (rowCount rows)) (sym e) (rejected-at layer (w .formed) (omega (arith, w .size, w .few)) (w .table) (w .listed) standing d r)
+setting-rejects {book} {rows} {overridden} {rejects = rejects} {n = n} w standing o e d r =
+    subst (λ (x : Interpretation). RejectedMasks book rows overridden x rejects (rowCount rows)) (sym e) (rejected-at n (w .formed) (omega (arith, w .size, w .few)) (w .table) (w .listed) standing d r)
 
 -- a setting whose model is known, or that has none
 module _ (n : ℕ) (ms : List Interpretation) (ok : Bool) (m : Interpretation) (is : ms ≡ consIf ok m []) where
@@ -118,9 +118,9 @@ module _ (n : ℕ) (leaf : Interpretation → List Interpretation) (undecided : 
           )
 
 -- at most one model for each setting, in the code's words
-pub leaf-one : (book rows overridden atoms : List ℕ) (layer n : ℕ) → Searchable book rows overridden atoms layer n → (o : Interpretation) → length (leafOf book atoms layer o) ≤ 1
-leaf-one book rows overridden atoms layer n w o =
-    subst (λ (fs : List ℕ). length (atSetting (programOf book layer) fs o) ≤ 1) (sym (w .listed)) (setting-one (programOf book layer) (w .formed) o)
+pub leaf-one : (book rows overridden atoms : List ℕ) (n : ℕ) → Searchable book rows overridden atoms n → (o : Interpretation) → length (leafOf book rows overridden n atoms o) ≤ 1
+leaf-one book rows overridden atoms n w o =
+    subst (λ (fs : List ℕ). length (atSetting (tabled book rows overridden n) fs o) ≤ 1) (sym (w .listed)) (setting-one (tabled book rows overridden n) (w .formed) o)
 
 pub count-fits : (c k : ℕ) → c + 2 ^ k ≤ limit → c < limit
 count-fits c k h = omega (arith, pow-pos k)

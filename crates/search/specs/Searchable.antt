@@ -13,17 +13,18 @@ use Rattle.format.specs.Book.{Literal}
 use Rattle.models.specs.StableModels.{Interpretation, atomHolds, negative, WellFormed}
 use Rattle.models.specs.Branching.{branchingAtoms}
 use Rattle.table.specs.Rows.{rowCount}
-use Rattle.table.specs.Table.{programOf, Tabulates}
+use Rattle.table.specs.Table.{Tabulates}
+use Rattle.table.specs.Tabled.{tabled}
 use Rattle.filling.specs.Marks.{literalMarked, FollowsFrom, Apart, Fills}
 use Rattle.tester.specs.Masks.{RejectedMasks}
 
-pub record Searchable (book rows overridden atoms : List ℕ) (layer n : ℕ) : Type 0 where
-  pub formed : WellFormed (programOf book layer)
-  pub table : Tabulates (programOf book layer) book rows overridden
-  pub listed : atoms ≡ branchingAtoms (programOf book layer)
+pub record Searchable (book rows overridden atoms : List ℕ) (n : ℕ) : Type 0 where
+  pub formed : WellFormed (tabled book rows overridden n)
+  pub table : Tabulates (tabled book rows overridden n) book rows overridden
+  pub listed : atoms ≡ branchingAtoms (tabled book rows overridden n)
   pub rows-few : rowCount rows ≤ maxRules
   pub atoms-few : length atoms ≤ maxBranching
-  pub size : n ≡ programOf book layer .atoms
+  pub size : n ≡ tabled book rows overridden n .atoms
   pub some : 0 < n
   pub few : n ≤ maxAtoms
 

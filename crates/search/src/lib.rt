@@ -8,7 +8,7 @@ ghost use Rattle.base.specs.Lists.{consIf};
 ghost use Rattle.search.specs.Found.{agreeOn, atSetting, foundBy};
 ghost use Rattle.search.specs.Visits.{stopped, Kept, Met, Searched};
 ghost use Rattle.table.specs.Rows.{rowCount};
-ghost use Rattle.table.specs.Table.{programOf};
+ghost use Rattle.table.specs.Tabled.{tabled};
 ghost use Rattle.tester.specs.Masks.{RejectedMasks};
 ghost use Rattle.setting.specs.Setting.{settingOf};
 ghost use Rattle.setting.specs.RuleMasks.{RuleMasks};
@@ -171,7 +171,6 @@ fn agrees(atoms: &[u8], state: &[bool], setting: &[bool]) -> bool
 // settings. Then it needs no further test where no rejected rule is contested.
 fn decide(
     book: &[u8],
-    layer: usize,
     rows: &[u16],
     overridden: &[u32],
     rejects: &[u32],
@@ -182,10 +181,10 @@ fn decide(
     early: &[bool],
     hints: &mut [u16],
 ) -> Found
-    requires { ⌜ Searchable (now book) (now rows) (now overridden) (now atoms) layer n ⌝ }
+    requires { ⌜ Searchable (now book) (now rows) (now overridden) (now atoms) n ⌝ }
     requires { ⌜ Candidate (now book) (now rows) (now overridden) (now rejects) (now atoms) setting state (now early) ⌝ }
     requires { ⌜ length (now hints) ≡ 2048 ⌝ }
-    ensures { λ r. ⌜ atSetting (programOf (now (book .entry)) layer) (now (atoms .entry)) setting ≡ consIf (r .ok) (take n (r .state)) [] ⌝ }
+    ensures { λ r. ⌜ atSetting (tabled (now (book .entry)) (now (rows .entry)) (now (overridden .entry)) n) (now (atoms .entry)) setting ≡ consIf (r .ok) (take n (r .state)) [] ⌝ }
 {
     if !agrees(atoms, &state[0..n], &setting) {
         return Found { ok: false, state };
@@ -194,7 +193,7 @@ fn decide(
         return Found { ok: true, state };
     }
     Found {
-        ok: is_stable(book, rows, overridden, layer, &state[0..n], n, hints),
+        ok: is_stable(book, rows, overridden, &state[0..n], n, hints),
         state,
     }
 }
@@ -204,7 +203,6 @@ fn decide(
 // that are reached are the only state that can be stable.
 fn model_from(
     book: &[u8],
-    layer: usize,
     rows: &[u16],
     overridden: &[u32],
     rejects: &[u32],
@@ -216,13 +214,13 @@ fn model_from(
     negative: [bool; 256],
     hints: &mut [u16],
 ) -> Found
-    requires { ⌜ Searchable (now book) (now rows) (now overridden) (now atoms) layer n ⌝ }
+    requires { ⌜ Searchable (now book) (now rows) (now overridden) (now atoms) n ⌝ }
     requires { ⌜ RejectedMasks (now book) (now rows) (now overridden) setting (now rejects) (rowCount (now rows)) ⌝ }
     requires { ⌜ Denied (now atoms) setting start ⌝ }
     requires { ⌜ Begun (now book) (now rows) (now rejects) start positive negative ⌝ }
     requires { ⌜ Early (now book) (now rows) (now rejects) start negative ⌝ }
     requires { ⌜ length (now hints) ≡ 2048 ⌝ }
-    ensures { λ r. ⌜ atSetting (programOf (now (book .entry)) layer) (now (atoms .entry)) setting ≡ consIf (r .ok) (take n (r .state)) [] ⌝ }
+    ensures { λ r. ⌜ atSetting (tabled (now (book .entry)) (now (rows .entry)) (now (overridden .entry)) n) (now (atoms .entry)) setting ≡ consIf (r .ok) (take n (r .state)) [] ⌝ }
 {
     if reaches_denied(atoms, &start, &positive) {
         return Found {
@@ -238,7 +236,6 @@ fn model_from(
     }
     decide(
         book,
-        layer,
         rows,
         overridden,
         rejects,
@@ -255,7 +252,6 @@ fn model_from(
 // that are reached early, before anything disputed is assumed. Where they come to be all that the setting denies, it need not go on.
 pub fn model_at(
     book: &[u8],
-    layer: usize,
     rows: &[u16],
     overridden: &[u32],
     rejects: &[u32],
@@ -264,10 +260,10 @@ pub fn model_at(
     setting: [bool; 256],
     hints: &mut [u16],
 ) -> Found
-    requires { ⌜ Searchable (now book) (now rows) (now overridden) (now atoms) layer n ⌝ }
+    requires { ⌜ Searchable (now book) (now rows) (now overridden) (now atoms) n ⌝ }
     requires { ⌜ RejectedMasks (now book) (now rows) (now overridden) setting (now rejects) (rowCount (now rows)) ⌝ }
     requires { ⌜ length (now hints) ≡ 2048 ⌝ }
-    ensures { λ r. ⌜ atSetting (programOf (now (book .entry)) layer) (now (atoms .entry)) setting ≡ consIf (r .ok) (take n (r .state)) [] ⌝ }
+    ensures { λ r. ⌜ atSetting (tabled (now (book .entry)) (now (rows .entry)) (now (overridden .entry)) n) (now (atoms .entry)) setting ≡ consIf (r .ok) (take n (r .state)) [] ⌝ }
 {
     let start = denied(atoms, setting);
     let marks = fill(
@@ -284,7 +280,6 @@ pub fn model_at(
     if covers(atoms, &start, &marks.negative) {
         return decide(
             book,
-            layer,
             rows,
             overridden,
             rejects,
@@ -298,7 +293,6 @@ pub fn model_at(
     }
     model_from(
         book,
-        layer,
         rows,
         overridden,
         rejects,
@@ -333,7 +327,6 @@ pub fn meet(state: [bool; 256], n: usize, part: &mut [u8], v: Visit) -> Visit
 // Visits the stable model of one setting, if there is one. It is a function of its own so that the recursion's frames stay small.
 pub fn visit_setting(
     book: &[u8],
-    layer: usize,
     rows: &[u16],
     overridden: &[u32],
     displacing: &[u32],
@@ -344,25 +337,15 @@ pub fn visit_setting(
     part: &mut [u8],
     v: Visit,
 ) -> Visit
-    requires { ⌜ Searchable (now book) (now rows) (now overridden) (now atoms) layer n × Kept n v (now part) × (v .count < 4294967296) × (stopped v ≡ false) ⌝ }
+    requires { ⌜ Searchable (now book) (now rows) (now overridden) (now atoms) n × Kept n v (now part) × (v .count < 4294967296) × (stopped v ≡ false) ⌝ }
     requires { ⌜ Displacing (now book) (now rows) (now overridden) (now atoms) (now displacing) ⌝ }
     requires { ⌜ length (now hints) ≡ 2048 ⌝ }
-    ensures { λ r. ⌜ Searched n (atSetting (programOf (now (book .entry)) layer) (now (atoms .entry)) (settingOf (now (atoms .entry)) standing)) v (now (part .entry)) r (now (part .exit)) ⌝ }
+    ensures { λ r. ⌜ Searched n (atSetting (tabled (now (book .entry)) (now (rows .entry)) (now (overridden .entry)) n) (now (atoms .entry)) (settingOf (now (atoms .entry)) standing)) v (now (part .entry)) r (now (part .exit)) ⌝ }
 {
     let setting = setting_of(atoms, standing);
     let mut rejects: [u32; 512] = [0; 512];
     reject_at(displacing, standing, &mut rejects);
-    let found = model_at(
-        book,
-        layer,
-        rows,
-        overridden,
-        &rejects,
-        atoms,
-        n,
-        setting,
-        hints,
-    );
+    let found = model_at(book, rows, overridden, &rejects, atoms, n, setting, hints);
     let state = found.state;
     if found.ok {
         return meet(state, n, part, v);
@@ -377,7 +360,6 @@ pub fn visit_setting(
 // through.
 pub fn search(
     book: &[u8],
-    layer: usize,
     rows: &[u16],
     overridden: &[u32],
     masks: &[u32],
@@ -392,11 +374,11 @@ pub fn search(
     part: &mut [u8],
     v: Visit,
 ) -> Visit
-    requires { ⌜ Searchable (now book) (now rows) (now overridden) (now atoms) layer n × Kept n v (now part) × (v .count + 2 ^ length (now undecided) ≤ 4294967296) × RuleMasks (now book) (now rows) (now atoms) (now masks) × Decided (now atoms) (now undecided) (settingOf (now atoms) standing) standing denied ⌝ }
+    requires { ⌜ Searchable (now book) (now rows) (now overridden) (now atoms) n × Kept n v (now part) × (v .count + 2 ^ length (now undecided) ≤ 4294967296) × RuleMasks (now book) (now rows) (now atoms) (now masks) × Decided (now atoms) (now undecided) (settingOf (now atoms) standing) standing denied ⌝ }
     requires { ⌜ Nogoods (now book) (now rows) (now overridden) (now atoms) (now nogoods) (length (now nogoods) / 2) ⌝ }
     requires { ⌜ Displacing (now book) (now rows) (now overridden) (now atoms) (now displacing) ⌝ }
     requires { ⌜ length (now hints) ≡ 2048 ⌝ }
-    ensures { λ r. ⌜ Searched n (foundBy (atSetting (programOf (now (book .entry)) layer) (now (atoms .entry))) (now (undecided .entry)) (settingOf (now (atoms .entry)) standing)) v (now (part .entry)) r (now (part .exit)) ⌝ }
+    ensures { λ r. ⌜ Searched n (foundBy (atSetting (tabled (now (book .entry)) (now (rows .entry)) (now (overridden .entry)) n) (now (atoms .entry))) (now (undecided .entry)) (settingOf (now (atoms .entry)) standing)) v (now (part .entry)) r (now (part .exit)) ⌝ }
 {
     if stops(v) {
         return v;
@@ -410,7 +392,6 @@ pub fn search(
     if undecided.len() == 0 {
         return visit_setting(
             book,
-            layer,
             rows,
             overridden,
             displacing,
@@ -426,7 +407,6 @@ pub fn search(
     let bit = 1 << ((atoms.len() - rest) as u32);
     let half = search(
         book,
-        layer,
         rows,
         overridden,
         masks,
@@ -443,7 +423,6 @@ pub fn search(
     );
     search(
         book,
-        layer,
         rows,
         overridden,
         masks,

@@ -4,3 +4,4 @@ pub mod RowLaws
 pub mod WalkLaws
 pub mod OverridingLaws
 pub mod TableLaws
+pub mod TabledLaws

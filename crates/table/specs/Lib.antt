@@ -2,3 +2,4 @@ pub mod Names
 pub mod Rows
 pub mod Overriding
 pub mod Table
+pub mod Tabled

@@ -3,17 +3,20 @@
 use mathlib.Core.Path.{_≡_, refl, sym, ap, ap₂, subst, _∙_}
 use mathlib.Core.Bool.{Bool, true, false}
 use mathlib.Core.List.{List, [], _∷_}
-use Prim.Native.Nat.{ℕ, _-_}
+use Prim.Native.Nat.{ℕ, _-_, _*_}
 use native.Mathlib.Omega.{arith}
 use lib.Dec.{T}
 use lib.ListN.{length, take}
 use Rattle.base.proofs.UpTo.{passed, failed}
 use Rattle.format.specs.Book.{bookOf}
-use Rattle.models.specs.Program.{programAt}
+use Rattle.models.specs.Program.{Program}
 use Rattle.models.specs.StableModels.{Interpretation, stable, StableModel}
 use Rattle.models.specs.Listing.{interpretationOf}
 use Rattle.models.proofs.LeastLaws.{stable-sound, stable-complete}
-use Rattle.table.specs.Table.{programOf}
+use Rattle.models.proofs.AlikeLaws.{alike-stable}
+use Rattle.table.specs.Table.{programOf, TableMade}
+use Rattle.table.specs.Tabled.{tabled}
+use Rattle.table.proofs.TabledLaws.{lent-alike}
 use Rattle.book.specs.Causes.{verdictIf, firstOf}
 use Rattle.book.specs.declared.Cause.{Cause}
 use Rattle.book.specs.declared.Cause.the-variants.{BadCandidate}
@@ -21,6 +24,7 @@ use Rattle.book.specs.declared.Verdict.{Verdict}
 use Rattle.book.specs.declared.Verdict.the-variants.{Accepted, Refused}
 use Rattle.accepted.specs.Driven.{layerTests}
 use Rattle.accepted.proofs.FirstLaws.{first-append, first-refused, accepted-none}
+use Rattle.accepted.proofs.RecordFacts.{program-atoms}
 use Rattle.candidate.specs.Candidate.{isBadCandidate}
 use Rattle.candidate.proofs.CandidateLaws.{read-length}
 use Rattle.test_call.specs.Reply.{testTests, replyOf, testReply, NoCause, YesExactly, NoExactly}
@@ -35,9 +39,12 @@ module _ (n : ℕ) (s : List ℕ) (m : List Bool) (e : take n m ≡ interpretati
   pub lent-size : length (take (n - 0) m) ≡ n
   lent-size = ap (length {A = Bool}) lent-state ∙ read-length n s
 
-pub program-atoms : (book : List ℕ) (layer n : ℕ) → n ≡ bookOf book .atoms → n ≡ programOf book layer .atoms
-unfolding programAt
-program-atoms book layer n e = e
+-- the test of the lent table is that of the driven layer's program
+pub stable-over : {P : Program} {book rows overridden : List ℕ} {count : ℕ} → TableMade P book rows overridden count → {n : ℕ} → n ≡ P .atoms
+    → (s : List ℕ) (m : List Bool) → take n m ≡ interpretationOf n s → (r : Bool)
+    → r ≡ stable (tabled book (take (4 * count - 0) rows) (take (count - 0) overridden) n) (take (n - 0) m) → r ≡ stable P (interpretationOf n s)
+stable-over {P} made {n} e s m q r t =
+    t ∙ sym (alike-stable (lent-alike made e) (take (n - 0) m) (lent-size n s m q ∙ e)) ∙ ap (λ (o : Interpretation). stable P o) (lent-state n s m q)
 
 module _ (book : List ℕ) (layer : ℕ) (candidate : List ℕ) where
   -- the verdict on the book and the layer, as the code holds it

@@ -45,7 +45,6 @@ fn candidate_stable(book: &[u8], layer: usize, lower: [u32; 32], candidate: &[u8
         book,
         &rows[0..4 * count],
         &overridden[0..count],
-        layer,
         &m[0..n],
         n,
         &mut hints,

@@ -1,4 +1,4 @@
-// The candidate test: is this interpretation a stable model of the book at the driven layer? What depends on the candidate alone
+// The candidate test: is this interpretation a stable model of the table's program? What depends on the candidate alone
 // (which rows are rejected, which atoms are supported) is worked out once; then the marks are filled from the defaults and compared
 // with the candidate. At the end stands `contested`, by which the search does without the second filling.
 ghost use mathlib.Core.Path.{_≡_};
@@ -9,7 +9,8 @@ ghost use Rattle.base.specs.Lists.{all, upTo};
 ghost use Rattle.models.specs.StableModels.{holds, bodyHolds, stable, WellFormed};
 ghost use Rattle.table.specs.Names.{literalNamed};
 ghost use Rattle.table.specs.Rows.{rowCount, rowAt, RowsFit};
-ghost use Rattle.table.specs.Table.{programOf, Tabulates};
+ghost use Rattle.table.specs.Table.{Tabulates};
+ghost use Rattle.table.specs.Tabled.{tabled};
 ghost use Rattle.tester.specs.Agreement.{marksAgree};
 ghost use Rattle.tester.specs.Masks.{RejectedMasks, Supports, Decided, Uncontested, Others};
 use filling::fill;
@@ -149,18 +150,17 @@ pub fn is_stable(
     book: &[u8],
     rows: &[u16],
     overridden: &[u32],
-    layer: usize,
     m: &[bool],
     n: usize,
     hints: &mut [u16],
 ) -> bool
-    requires { ⌜ WellFormed (programOf (now book) layer) ⌝ }
-    requires { ⌜ Tabulates (programOf (now book) layer) (now book) (now rows) (now overridden) ⌝ }
-    requires { ⌜ n ≡ programOf (now book) layer .atoms ⌝ }
+    requires { ⌜ WellFormed (tabled (now book) (now rows) (now overridden) n) ⌝ }
+    requires { ⌜ Tabulates (tabled (now book) (now rows) (now overridden) n) (now book) (now rows) (now overridden) ⌝ }
+    requires { ⌜ n ≡ tabled (now book) (now rows) (now overridden) n .atoms ⌝ }
     requires { ⌜ n ≤ 256 ⌝ }
     requires { ⌜ length (now m) ≡ n ⌝ }
     requires { ⌜ length (now hints) ≡ 2048 ⌝ }
-    ensures { λ r. ⌜ r ≡ stable (programOf (now (book .entry)) layer) (now (m .entry)) ⌝ }
+    ensures { λ r. ⌜ r ≡ stable (tabled (now (book .entry)) (now (rows .entry)) (now (overridden .entry)) n) (now (m .entry)) ⌝ }
 {
     let mut rejects: [u32; 512] = [0; 512];
     reject(book, rows, overridden, m, &mut rejects);

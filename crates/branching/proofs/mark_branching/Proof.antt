@@ -2,7 +2,7 @@
 use mathlib.Core.Path.{_≡_, refl}
 use Prim.Native.Nat.{_-_, _/_}
 use lib.ListN.{length}
-use Rattle.table.specs.Table.{programOf}
+use Rattle.table.specs.Tabled.{tabled}
 use Rattle.branching.proofs.RowMarkLaws.{RowsMarked, rows-start, rows-more, rows-end}
 use borrow.Author.Needs.{needs}
 use native.Mathlib.Omega.{arith}
@@ -10,13 +10,13 @@ use Rattle.branching.proofs.mark_branching.Statement.{statement}
 use Rattle.branching.proofs.mark_branching.Tie as tie
 
 abbrev Inv-loop : tie.InvT-loop
-Inv-loop book layer rows overridden count marks₀ j₀ marks j = (count ≡ length rows / 4) × RowsMarked (programOf book layer) book rows j marks
+Inv-loop book rows overridden n count marks₀ j₀ marks j = (count ≡ length rows / 4) × RowsMarked (tabled book rows overridden n) book rows j marks
 
 abbrev μ-loop : tie.MeasureT-loop
-μ-loop book layer rows overridden count marks₀ j₀ marks j = count - j
+μ-loop book rows overridden n count marks₀ j₀ marks j = count - j
 
 loop-holds : tie.Need-loop-holds Inv-loop μ-loop
-loop-holds c = let a = c .before .before .before .args in (refl, rows-start (programOf (a .book .now) (a .layer)) (a .book .now) (a .rows .now))
+loop-holds c = let a = c .before .before .before .args in (refl, rows-start (tabled (a .book .now) (a .rows .now) (a .overridden .now) (a .n)) (a .book .now) (a .rows .now))
 
 row-body-requires : tie.Need-row-body-requires Inv-loop μ-loop
 row-body-requires c κs = search needs
@@ -40,12 +40,12 @@ loop-again : tie.Need-loop-again Inv-loop μ-loop
 loop-again c =
     let a = c .before .before .before .before .before .before .before .before .args in
     let l = c .before .before .before .before .loop in
-    (l .inv .0, rows-more (programOf (a .book .now) (a .layer)) (a .book .now) (a .rows .now) (a .overridden .now) (c .before .before .before .before .before .before .before .before .pre) (l .j) (omega (arith, c .before .before .before .loop-test .taken, l .inv .0)) (l .marks) _ (l .inv .1) _ (c .before .before .row-body .ensures) _ refl (c .mark-body .ensures))
+    (l .inv .0, rows-more (tabled (a .book .now) (a .rows .now) (a .overridden .now) (a .n)) (a .book .now) (a .rows .now) (a .overridden .now) (c .before .before .before .before .before .before .before .before .pre) (l .j) (omega (arith, c .before .before .before .loop-test .taken, l .inv .0)) (l .marks) _ (l .inv .1) _ (c .before .before .row-body .ensures) _ refl (c .mark-body .ensures))
 
 returns : tie.Need-returns Inv-loop μ-loop
 returns c =
     let a = c .before .before .before .before .before .args in
-    rows-end (programOf (a .book .now) (a .layer)) (a .book .now) (a .rows .now) (a .overridden .now) (c .before .before .before .before .before .pre) (c .before .loop .j) (c .before .loop .marks) (omega (arith, c .loop-test .left, c .before .loop .inv .0)) (c .before .loop .inv .1)
+    rows-end (tabled (a .book .now) (a .rows .now) (a .overridden .now) (a .n)) (a .book .now) (a .rows .now) (a .overridden .now) (c .before .before .before .before .before .pre) (c .before .loop .j) (c .before .loop .marks) (omega (arith, c .loop-test .left, c .before .loop .inv .0)) (c .before .loop .inv .1)
 
 pub mark-branching-spec : {M : Type 1} → statement M
 mark-branching-spec =

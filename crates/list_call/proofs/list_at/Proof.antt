@@ -21,44 +21,44 @@ set-up-requires c κs = let s = c .before .before .before .before .before .pre i
 returns : tie.Need-returns
 returns c = let a = c .before .before .before .before .before .before .before .before .before .before .args in branching-refused (a .book .now) (a .layer) (c .before .before .before .before .before .before .before .before .before .before .pre .0) (c .before .before .before .before .set-up .ensures .table) (c .before .before .before .before .set-up .ensures .listed) (a .buffer .now) (c .if1 .taken)
 
-mul-list-models : tie.Need-mul-list-models
-mul-list-models c = search needs
+mul-list-table : tie.Need-mul-list-table
+mul-list-table c = search needs
 
-sub-list-models : tie.Need-sub-list-models
-sub-list-models c = search needs
+sub-list-table : tie.Need-sub-list-table
+sub-list-table c = search needs
 
-part-list-models-start : tie.Need-part-list-models-start
-part-list-models-start c = search needs
+part-list-table-start : tie.Need-part-list-table-start
+part-list-table-start c = search needs
 
-part-list-models-end : tie.Need-part-list-models-end
-part-list-models-end c = search needs
+part-list-table-end : tie.Need-part-list-table-end
+part-list-table-end c = search needs
 
-sub-list-models-2 : tie.Need-sub-list-models-2
-sub-list-models-2 c = search needs
+sub-list-table-2 : tie.Need-sub-list-table-2
+sub-list-table-2 c = search needs
 
-part-list-models-start-2 : tie.Need-part-list-models-start-2
-part-list-models-start-2 c = search needs
+part-list-table-start-2 : tie.Need-part-list-table-start-2
+part-list-table-start-2 c = search needs
 
-part-list-models-end-2 : tie.Need-part-list-models-end-2
-part-list-models-end-2 c = search needs
+part-list-table-end-2 : tie.Need-part-list-table-end-2
+part-list-table-end-2 c = search needs
 
-sub-list-models-3 : tie.Need-sub-list-models-3
-sub-list-models-3 c = search needs
+sub-list-table-3 : tie.Need-sub-list-table-3
+sub-list-table-3 c = search needs
 
-part-list-models-start-3 : tie.Need-part-list-models-start-3
-part-list-models-start-3 c = search needs
+part-list-table-start-3 : tie.Need-part-list-table-start-3
+part-list-table-start-3 c = search needs
 
-part-list-models-end-3 : tie.Need-part-list-models-end-3
-part-list-models-end-3 c = search needs
+part-list-table-end-3 : tie.Need-part-list-table-end-3
+part-list-table-end-3 c = search needs
 
-list-models-requires : tie.Need-list-models-requires
-list-models-requires c κs = let a = c .before .before .before .before .before .before .before .before .before .before .before .before .before .before .before .before .before .args in searchable (a .book .now) (a .layer) (c .before .before .before .before .before .before .before .before .before .before .before .before .before .before .before .before .before .pre .0) (c .before .before .before .before .before .before .before .before .before .before .before .set-up .ensures .table) (c .before .before .before .before .before .before .before .before .before .before .before .set-up .ensures .listed) (c .before .before .before .before .before .before .before .if1 .left) (c .before .before .before .before .before .before .before .before .before .before .before .before .before .before .atom-count .result) (c .before .before .before .before .before .before .before .before .before .before .before .before .before .before .atom-count .ensures .0) (c .before .before .before .before .before .before .before .before .before .before .before .before .before .before .atom-count .ensures .1) (c .before .before .before .before .before .before .before .before .before .before .before .before .before .before .atom-count .ensures .2)
+list-table-requires : tie.Need-list-table-requires
+list-table-requires c κs = let a = c .before .before .before .before .before .before .before .before .before .before .before .before .before .before .before .before .before .args in searchable (a .book .now) (a .layer) (c .before .before .before .before .before .before .before .before .before .before .before .before .before .before .before .before .before .pre .0) (c .before .before .before .before .before .before .before .before .before .before .before .set-up .ensures .table) (c .before .before .before .before .before .before .before .before .before .before .before .set-up .ensures .listed) (c .before .before .before .before .before .before .before .if1 .left) (c .before .before .before .before .before .before .before .before .before .before .before .before .before .before .atom-count .result) (c .before .before .before .before .before .before .before .before .before .before .before .before .before .before .atom-count .ensures .0) (c .before .before .before .before .before .before .before .before .before .before .before .before .before .before .atom-count .ensures .1) (c .before .before .before .before .before .before .before .before .before .before .before .before .before .before .atom-count .ensures .2)
 
 same-length : tie.Need-same-length
 same-length c = search needs
 
 returns-2 : tie.Need-returns-2
-returns-2 c = let a = c .before .before .before .before .before .before .before .before .before .before .before .before .before .before .before .before .before .before .before .before .args in branching-passes (a .book .now) (a .layer) (c .before .before .before .before .before .before .before .before .before .before .before .before .before .before .before .before .before .before .before .before .pre .0) (c .before .before .before .before .before .before .before .before .before .before .before .before .before .before .set-up .ensures .table) (c .before .before .before .before .before .before .before .before .before .before .before .before .before .before .set-up .ensures .listed) (a .buffer .now) (c .before .before .before .before .before .before .before .before .before .before .if1 .left) _ _ (c .before .before .list-models .ensures)
+returns-2 c = let a = c .before .before .before .before .before .before .before .before .before .before .before .before .before .before .before .before .before .before .before .before .args in branching-passes (a .book .now) (a .layer) (c .before .before .before .before .before .before .before .before .before .before .before .before .before .before .before .before .before .before .before .before .pre .0) (c .before .before .before .before .before .before .before .before .before .before .before .before .before .before .set-up .ensures .table) (c .before .before .before .before .before .before .before .before .before .before .before .before .before .before .set-up .ensures .listed) (a .buffer .now) (c .before .before .before .before .before .before .before .before .before .before .if1 .left) (c .before .before .before .before .before .before .before .before .before .before .before .before .before .before .before .before .before .atom-count .ensures .0) _ _ (c .before .before .list-table .ensures)
 
 pub list-at-spec : {M : Type 1} → statement M
 list-at-spec =
@@ -69,16 +69,16 @@ list-at-spec =
     slice-aggregate-set-up-2
     set-up-requires
     returns
-    mul-list-models
-    sub-list-models
-    part-list-models-start
-    part-list-models-end
-    sub-list-models-2
-    part-list-models-start-2
-    part-list-models-end-2
-    sub-list-models-3
-    part-list-models-start-3
-    part-list-models-end-3
-    list-models-requires
+    mul-list-table
+    sub-list-table
+    part-list-table-start
+    part-list-table-end
+    sub-list-table-2
+    part-list-table-start-2
+    part-list-table-end-2
+    sub-list-table-3
+    part-list-table-start-3
+    part-list-table-end-3
+    list-table-requires
     same-length
     returns-2)

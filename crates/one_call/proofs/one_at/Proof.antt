@@ -58,7 +58,7 @@ same-length : tie.Need-same-length
 same-length c = search needs
 
 returns-2 : tie.Need-returns-2
-returns-2 c = let a = c .before .before .before .before .before .before .before .before .before .before .before .before .before .before .before .before .before .before .before .before .args in branching-passes (a .book .now) (a .layer) (c .before .before .before .before .before .before .before .before .before .before .before .before .before .before .before .before .before .before .before .before .pre .0) (c .before .before .before .before .before .before .before .before .before .before .before .before .before .before .set-up .ensures .table) (c .before .before .before .before .before .before .before .before .before .before .before .before .before .before .set-up .ensures .listed) (a .buffer .now) (c .before .before .before .before .before .before .before .before .before .before .if1 .left) _ _ (c .before .before .one-found .ensures)
+returns-2 c = let a = c .before .before .before .before .before .before .before .before .before .before .before .before .before .before .before .before .before .before .before .before .args in branching-passes (a .book .now) (a .layer) (c .before .before .before .before .before .before .before .before .before .before .before .before .before .before .before .before .before .before .before .before .pre .0) (c .before .before .before .before .before .before .before .before .before .before .before .before .before .before .set-up .ensures .table) (c .before .before .before .before .before .before .before .before .before .before .before .before .before .before .set-up .ensures .listed) (a .buffer .now) (c .before .before .before .before .before .before .before .before .before .before .if1 .left) (c .before .before .before .before .before .before .before .before .before .before .before .before .before .before .before .before .before .atom-count .ensures .0) _ _ (c .before .before .one-found .ensures)
 
 pub one-at-spec : {M : Type 1} → statement M
 one-at-spec =

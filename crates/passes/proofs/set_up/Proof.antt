@@ -1,6 +1,7 @@
 -- `set_up` meets its contract: the table is what the branching facts are listed from. Assumes nothing.
-use Rattle.models.specs.Program.{programAt}
-use Rattle.table.proofs.TableLaws.{lent-table}
+use Rattle.table.proofs.TabledLaws.{lent-tabled}
+use Rattle.accepted.proofs.RecordFacts.{program-atoms}
+use Rattle.passes.proofs.SetUpLaws.{listed-over}
 use borrow.Author.Needs.{needs}
 use Rattle.passes.proofs.set_up.Statement.{statement}
 use Rattle.passes.proofs.set_up.Tie as tie
@@ -33,8 +34,10 @@ part-branching-atoms-end-2 : tie.Need-part-branching-atoms-end-2
 part-branching-atoms-end-2 c = search needs
 
 branching-atoms-requires : tie.Need-branching-atoms-requires
-unfolding programAt
-branching-atoms-requires c κs = (lent-table (c .before .before .before .before .before .before .before .before .prepare .ensures), (c .before .before .before .before .before .before .before .before .before .before .before .atom-count .ensures .0, c .before .before .before .before .before .before .before .before .before .before .before .atom-count .ensures .2))
+branching-atoms-requires c κs =
+    let s = c .before .before .before .before .before .before .before .before .before .before .before .before .before .before .before in
+    let n = c .before .before .before .before .before .before .before .before .before .before .before .atom-count in
+    (lent-tabled (c .before .before .before .before .before .before .before .before .prepare .ensures) (program-atoms (s .args .book .now) (s .args .layer) (n .result) (n .ensures .0)), n .ensures .2)
 
 same-length : tie.Need-same-length
 same-length c = search needs
@@ -43,7 +46,11 @@ same-length-2 : tie.Need-same-length-2
 same-length-2 c = search needs
 
 returns : tie.Need-returns
-returns c = record { table = c .before .before .before .before .before .before .before .before .before .before .prepare .ensures; listed = c .before .branching-atoms .ensures }
+returns c =
+    let s = c .before .before .before .before .before .before .before .before .before .before .before .before .before .before .before .before .before in
+    let n = c .before .before .before .before .before .before .before .before .before .before .before .before .before .atom-count in
+    let made = c .before .before .before .before .before .before .before .before .before .before .prepare .ensures in
+    record { table = made; listed = listed-over made (program-atoms (s .args .book .now) (s .args .layer) (n .result) (n .ensures .0)) (c .before .branching-atoms .ensures) }
 
 pub set-up-spec : {M : Type 1} → statement M
 set-up-spec =

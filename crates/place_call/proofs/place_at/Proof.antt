@@ -1,7 +1,7 @@
 -- `place_at` meets its contract: cause 11, then cause 12, and where neither applies the table and the branching facts make the
 -- search possible. Assumes nothing.
-use Rattle.passes.proofs.SetUpLaws.{searchable, too-many, not-too-many}
-use Rattle.place_call.proofs.PlaceLaws.{fact-refused, branching-refused, branching-passes}
+use Rattle.passes.proofs.SetUpLaws.{set-up-alike, searchable, too-many, not-too-many}
+use Rattle.place_call.proofs.PlaceLaws.{fact-refused, branching-refused, branching-passes, reply-over}
 use borrow.Author.Needs.{needs}
 use Rattle.place_call.proofs.place_at.Statement.{statement}
 use Rattle.place_call.proofs.place_at.Tie as tie
@@ -58,7 +58,7 @@ place-found-requires : tie.Need-place-found-requires
 place-found-requires c κs = let a = c .before .before .before .before .before .before .before .before .before .before .before .before .before .before .before .before .args in searchable (a .book .now) (a .layer) (c .before .before .before .before .before .before .before .before .before .before .before .before .before .before .before .before .pre .0) (c .before .before .before .before .before .before .before .before .before .before .set-up .ensures .table) (c .before .before .before .before .before .before .before .before .before .before .set-up .ensures .listed) (c .before .before .before .before .before .before .if2 .left) (c .before .before .before .before .before .before .before .before .before .before .before .before .before .before .atom-count .result) (c .before .before .before .before .before .before .before .before .before .before .before .before .before .before .atom-count .ensures .0) (c .before .before .before .before .before .before .before .before .before .before .before .before .before .before .atom-count .ensures .1) (c .before .before .before .before .before .before .before .before .before .before .before .before .before .before .atom-count .ensures .2)
 
 returns-3 : tie.Need-returns-3
-returns-3 c = let a = c .before .before .before .before .before .before .before .before .before .before .before .before .before .before .before .before .before .args in branching-passes (a .book .now) (a .layer) (a .fact) (c .before .before .before .before .before .before .before .before .before .before .before .before .before .before .before .atom-count .result) (c .before .before .before .before .before .before .before .before .before .before .before .before .before .before .before .atom-count .ensures .0) (c .before .before .before .before .before .before .before .before .before .before .before .before .before .before .if1 .left) (not-too-many (a .book .now) (a .layer) (c .before .before .before .before .before .before .before .before .before .before .before .before .before .before .before .before .before .pre .0) (c .before .before .before .before .before .before .before .before .before .before .before .set-up .ensures .table) (c .before .before .before .before .before .before .before .before .before .before .before .set-up .ensures .listed) (c .before .before .before .before .before .before .before .if2 .left)) _ (c .place-found .ensures)
+returns-3 c = let a = c .before .before .before .before .before .before .before .before .before .before .before .before .before .before .before .before .before .args in branching-passes (a .book .now) (a .layer) (a .fact) (c .before .before .before .before .before .before .before .before .before .before .before .before .before .before .before .atom-count .result) (c .before .before .before .before .before .before .before .before .before .before .before .before .before .before .before .atom-count .ensures .0) (c .before .before .before .before .before .before .before .before .before .before .before .before .before .before .if1 .left) (not-too-many (a .book .now) (a .layer) (c .before .before .before .before .before .before .before .before .before .before .before .before .before .before .before .before .before .pre .0) (c .before .before .before .before .before .before .before .before .before .before .before .set-up .ensures .table) (c .before .before .before .before .before .before .before .before .before .before .before .set-up .ensures .listed) (c .before .before .before .before .before .before .before .if2 .left)) _ (reply-over (set-up-alike (a .book .now) (a .layer) (c .before .before .before .before .before .before .before .before .before .before .before .before .before .before .before .before .before .pre .0) (c .before .before .before .before .before .before .before .before .before .before .before .set-up .ensures .table) (c .before .before .before .before .before .before .before .before .before .before .before .set-up .ensures .listed) (c .before .before .before .before .before .before .before .before .before .before .before .before .before .before .before .atom-count .ensures .0)) (a .fact) _ (c .place-found .ensures))
 
 pub place-at-spec : {M : Type 1} → statement M
 place-at-spec =

@@ -1,12 +1,11 @@
 -- `candidate_stable` meets its contract: the candidate's state is what is read from it, and the table is the program's, so the test of
 -- the table is the test of the state. Assumes nothing.
-use mathlib.Core.Path.{ap, _∙_}
-use Rattle.models.specs.StableModels.{Interpretation, stable}
-use Rattle.table.specs.Table.{programOf}
-use Rattle.table.proofs.TableLaws.{lent-table}
-use Rattle.accepted.proofs.RecordFacts.{accepted-formed}
+use mathlib.Core.Path.{sym}
+use Rattle.models.proofs.AlikeLaws.{alike-formed}
+use Rattle.table.proofs.TabledLaws.{tabled-atoms, lent-alike, lent-tabled}
+use Rattle.accepted.proofs.RecordFacts.{accepted-formed, program-atoms}
 use Rattle.candidate.proofs.CandidateLaws.{ok-length}
-use Rattle.test_call.proofs.ReplyLaws.{lent-state, lent-size, program-atoms}
+use Rattle.test_call.proofs.ReplyLaws.{lent-size, stable-over}
 use native.Mathlib.Omega.{arith}
 use borrow.Author.Needs.{needs}
 use Rattle.test_call.proofs.candidate_stable.Statement.{statement}
@@ -61,15 +60,19 @@ is-stable-requires : tie.Need-is-stable-requires
 is-stable-requires c κs =
     let e = c .before .before .before .before .before .before .before .before .before .before .before .before .before .before .before .args in
     let h = c .before .before .before .before .before .before .before .before .before .before .before .before .before .before .before .pre in
-    let m = c .before .before .before .before .before .before .before .before .before .before .before .before .read-candidate in (
-      accepted-formed (e .book .now) (h .0) (e .layer),
-      (lent-table (c .before .before .before .before .before .before .before .before .before .prepare .ensures), (program-atoms (e .book .now) (e .layer) (e .n) (h .1 .1 .1 .0 .0), (h .1 .1 .1 .0 .1, (lent-size (e .n) (e .candidate .now) (m .result) (m .ensures), search needs)))),
+    let m = c .before .before .before .before .before .before .before .before .before .before .before .before .read-candidate in
+    let t = c .before .before .before .before .before .before .before .before .before .prepare .ensures in
+    let q = program-atoms (e .book .now) (e .layer) (e .n) (h .1 .1 .1 .0 .0) in (
+      alike-formed (lent-alike t q) (accepted-formed (e .book .now) (h .0) (e .layer)),
+      (lent-tabled t q, (sym (tabled-atoms _ _ _ (e .n)), (h .1 .1 .1 .0 .1, (lent-size (e .n) (e .candidate .now) (m .result) (m .ensures), search needs)))),
     )
 
 returns : tie.Need-returns
 returns c =
     let e = c .before .before .before .before .before .before .before .before .before .before .before .before .before .before .before .before .before .args in
-    c .before .is-stable .ensures ∙ ap (λ (m : Interpretation). stable (programOf (e .book .now) (e .layer)) m) (lent-state (e .n) (e .candidate .now) (c .before .before .before .before .before .before .before .before .before .before .before .before .before .before .read-candidate .result) (c .before .before .before .before .before .before .before .before .before .before .before .before .before .before .read-candidate .ensures))
+    let h = c .before .before .before .before .before .before .before .before .before .before .before .before .before .before .before .before .before .pre in
+    let m = c .before .before .before .before .before .before .before .before .before .before .before .before .before .before .read-candidate in
+    stable-over (c .before .before .before .before .before .before .before .before .before .before .before .prepare .ensures) (program-atoms (e .book .now) (e .layer) (e .n) (h .1 .1 .1 .0 .0)) (e .candidate .now) (m .result) (m .ensures) _ (c .before .is-stable .ensures)
 
 pub candidate-stable-spec : {M : Type 1} → statement M
 candidate-stable-spec =

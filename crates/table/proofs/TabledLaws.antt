@@ -1,0 +1,117 @@
+-- A table of a program is also one of the program that it stands for by itself, and the two are alike. Used where a call hands its
+-- table to what searches it, which then knows neither arrows nor the driven layer. Assumes nothing.
+use mathlib.Core.Path.{_≡_, refl, sym, subst}
+use mathlib.Core.Bool.{Bool, _&&_}
+use mathlib.Core.List.{List}
+use Prim.Native.Nat.{ℕ, _-_, _*_, _<_}
+use lib.Dec.{T, eqb, eqb-refl, eqb→eq}
+use lib.ListN.{getD, take}
+use Rattle.base.specs.Lists.{any, upTo}
+use Rattle.base.proofs.Members.{_∈_, and-left, and-right, and-both, any-at, any-of, same-test}
+use Rattle.base.proofs.UpTo.{upTo-lt, upTo-has}
+use Rattle.layers.specs.Masks.{bitOf}
+use Rattle.format.specs.Book.{Rule}
+use Rattle.models.specs.Program.{Program}
+use Rattle.models.specs.StableModels.{complement, sameLiteral, overrides}
+use Rattle.models.proofs.AlikeLaws.{Alike}
+use Rattle.table.specs.Rows.{rowCount, rowLayer, rowAt, rowsOf}
+use Rattle.table.specs.Table.{Tabulates, TableMade}
+use Rattle.table.specs.Tabled.{tabled}
+use Rattle.table.proofs.RowLaws.{row-in, row-of}
+use Rattle.table.proofs.TableLaws.{lent-table}
+
+pub tabled-atoms : (book rows overridden : List ℕ) (n : ℕ) → tabled book rows overridden n .atoms ≡ n
+unfolding tabled
+tabled-atoms book rows overridden n = refl
+
+module _ {P : Program} {book rows overridden : List ℕ} (w : Tabulates P book rows overridden) where
+  abbrev Q : Program
+  Q = tabled book rows overridden (P .atoms)
+
+  abbrev says : ℕ → ℕ → ℕ → Bool
+  says i j k = eqb (rowLayer rows k) j && eqb (bitOf (getD overridden k 0) i) 1
+
+  -- what the masks say is so
+  below-from : (i j : ℕ) → T (any (says i j) (upTo (rowCount rows))) → T (P .below i j)
+  unfolding rowAt
+  below-from i j t =
+      let v : (k : ℕ) × k ∈ upTo (rowCount rows) × T (says i j k) = any-at (says i j) (upTo (rowCount rows)) t in
+      let e : rowLayer rows (v .0) ≡ j = eqb→eq (rowLayer rows (v .0)) j (and-left (eqb (rowLayer rows (v .0)) j) (eqb (bitOf (getD overridden (v .0) 0) i) 1) (v .2)) in
+      let b : bitOf (getD overridden (v .0) 0) i ≡ 1 = eqb→eq (bitOf (getD overridden (v .0) 0) i) 1 (and-right (eqb (rowLayer rows (v .0)) j) (eqb (bitOf (getD overridden (v .0) 0) i) 1) (v .2)) in
+      subst (λ (x : ℕ). T (P .below i x)) e (w .sound (v .0) (upTo-lt (rowCount rows) (v .0) (v .1)) i b)
+
+  below-into : (i k : ℕ) → k < rowCount rows → bitOf (getD overridden k 0) i ≡ 1 → T (any (says i (rowLayer rows k)) (upTo (rowCount rows)))
+  below-into i k h b =
+      any-of (says i (rowLayer rows k)) (upTo-has (rowCount rows) k h)
+      (and-both (eqb (rowLayer rows k) (rowLayer rows k)) (eqb (bitOf (getD overridden k 0) i) 1) (eqb-refl (rowLayer rows k)) (subst (λ (x : ℕ). T (eqb x 1)) (sym b) tt))
+
+  overrides-from : (t r : Rule) → T (overrides Q t r) → T (overrides P t r)
+  unfolding overrides tabled
+  overrides-from t r o =
+      and-both (P .below (r .layer) (t .layer)) (sameLiteral (t .head) (complement (r .head)))
+      (below-from (r .layer) (t .layer) (and-left (any (says (r .layer) (t .layer)) (upTo (rowCount rows))) (sameLiteral (t .head) (complement (r .head))) o))
+      (and-right (any (says (r .layer) (t .layer)) (upTo (rowCount rows))) (sameLiteral (t .head) (complement (r .head))) o)
+
+  overrides-into : (k : ℕ) → k < rowCount rows → (r : Rule) → r ∈ rowsOf book rows → T (overrides P (rowAt book rows k) r) → T (overrides Q (rowAt book rows k) r)
+  unfolding overrides tabled rowAt
+  overrides-into k h r m o =
+      and-both (any (says (r .layer) (rowLayer rows k)) (upTo (rowCount rows))) (sameLiteral (rowAt book rows k .head) (complement (r .head)))
+      (below-into (r .layer) k h (w .full k h r m o))
+      (and-right (P .below (r .layer) (rowLayer rows k)) (sameLiteral (rowAt book rows k .head) (complement (r .head))) o)
+
+  overrides-same : (t r : Rule) → t ∈ P .rules → r ∈ P .rules → overrides P t r ≡ overrides Q t r
+  overrides-same t r k j =
+      let v : (i : ℕ) × (i < rowCount rows) × (rowAt book rows i ≡ t) = row-of book rows t (subst (λ (rs : List Rule). t ∈ rs) (sym (w .rules)) k) in
+      same-test (overrides P t r) (overrides Q t r)
+      (λ o. subst (λ (x : Rule). T (overrides Q x r)) (v .2)
+      (overrides-into (v .0) (v .1) r (subst (λ (rs : List Rule). r ∈ rs) (sym (w .rules)) j) (subst (λ (x : Rule). T (overrides P x r)) (sym (v .2)) o)))
+      (overrides-from t r)
+
+  pub tabled-alike : Alike P Q
+  unfolding tabled
+  tabled-alike = record {
+    atoms-same = refl;
+    to = λ r k. subst (λ (rs : List Rule). r ∈ rs) (sym (w .rules)) k;
+    from = λ r k. subst (λ (rs : List Rule). r ∈ rs) (w .rules) k;
+    overrides-same = overrides-same;
+  }
+
+  pub tabled-table : Tabulates Q book rows overridden
+  unfolding tabled rowAt
+  tabled-table = record {
+    fits = w .fits;
+    rules = refl;
+    size = w .size;
+    sound = λ j h i b. below-into i j h b;
+    full = λ j h r k o. w .full j h r k (overrides-from (rowAt book rows j) r o);
+    exact = λ j h i b. let x = w .exact j h i b in (x .0, x .1, x .2, overrides-into j h (x .0) (x .1) (x .3));
+  }
+
+-- the table as the code lends it, with n for the facts of its program
+module _ {P : Program} {book rows overridden : List ℕ} {count : ℕ} (made : TableMade P book rows overridden count) {n : ℕ} (e : n ≡ P .atoms) where
+  pub lent-alike : Alike P (tabled book (take (4 * count - 0) rows) (take (count - 0) overridden) n)
+  lent-alike = subst (λ (k : ℕ). Alike P (tabled book (take (4 * count - 0) rows) (take (count - 0) overridden) k)) (sym e) (tabled-alike (lent-table made))
+
+  pub lent-tabled : Tabulates (tabled book (take (4 * count - 0) rows) (take (count - 0) overridden) n) book (take (4 * count - 0) rows) (take (count - 0) overridden)
+  lent-tabled =
+      subst (λ (k : ℕ). Tabulates (tabled book (take (4 * count - 0) rows) (take (count - 0) overridden) k) book (take (4 * count - 0) rows) (take (count - 0) overridden)) (sym e)
+      (tabled-table (lent-table made))
+
+-- What is worked out once names rows j and k: k's layer is in j's mask, and the heads are opposite.
+unfoldable pub named : List ℕ → List ℕ → List ℕ → ℕ → ℕ → Bool
+named book rows overridden j k =
+    eqb (bitOf (getD overridden j 0) (rowAt book rows k .layer)) 1 && sameLiteral (rowAt book rows j .head) (complement (rowAt book rows k .head))
+
+-- Two rules are named exactly when they meet all that displacement asks, but for the body.
+module _ {P : Program} {book rows overridden : List ℕ} (w : Tabulates P book rows overridden) where
+  pub named-exactly : (j k : ℕ) → j < rowCount rows → k < rowCount rows → named book rows overridden j k ≡ overrides P (rowAt book rows j) (rowAt book rows k)
+  unfolding named overrides
+  named-exactly j k a b =
+      same-test (eqb (bitOf (getD overridden j 0) (rowAt book rows k .layer)) 1 && sameLiteral (rowAt book rows j .head) (complement (rowAt book rows k .head)))
+      (P .below (rowAt book rows k .layer) (rowAt book rows j .layer) && sameLiteral (rowAt book rows j .head) (complement (rowAt book rows k .head)))
+      (λ t. and-both (P .below (rowAt book rows k .layer) (rowAt book rows j .layer)) (sameLiteral (rowAt book rows j .head) (complement (rowAt book rows k .head)))
+      (w .sound j a (rowAt book rows k .layer) (eqb→eq (bitOf (getD overridden j 0) (rowAt book rows k .layer)) 1 (and-left (eqb (bitOf (getD overridden j 0) (rowAt book rows k .layer)) 1) (sameLiteral (rowAt book rows j .head) (complement (rowAt book rows k .head))) t)))
+      (and-right (eqb (bitOf (getD overridden j 0) (rowAt book rows k .layer)) 1) (sameLiteral (rowAt book rows j .head) (complement (rowAt book rows k .head))) t))
+      (λ o. and-both (eqb (bitOf (getD overridden j 0) (rowAt book rows k .layer)) 1) (sameLiteral (rowAt book rows j .head) (complement (rowAt book rows k .head)))
+      (subst (λ (x : ℕ). T (eqb x 1)) (sym (w .full j a (rowAt book rows k) (row-in book rows k b) o)) tt)
+      (and-right (P .below (rowAt book rows k .layer) (rowAt book rows j .layer)) (sameLiteral (rowAt book rows j .head) (complement (rowAt book rows k .head))) o))
