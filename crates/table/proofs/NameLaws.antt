@@ -6,28 +6,29 @@ use Prim.Native.Nat.{ℕ, _+_, _*_, _-_, _%_, _<_, _≤_}
 use native.Mathlib.Omega.{arith}
 use borrow.Author.Tests.{le-leb, lt-leb}
 use lib.Dec.{T, leb, leb→le}
+use Rattle.base.specs.Bounds.{maxAtoms, maxNames}
 use Rattle.format.specs.Book.{Literal, literalOf}
 use Rattle.models.specs.StableModels.{positive, negative, complement}
 use Rattle.table.specs.Names.{literalNamed, nameOf}
 
-pub name-low : (h : ℕ) → h < 256 → literalNamed h ≡ positive h
+pub name-low : (h : ℕ) → h < maxAtoms → literalNamed h ≡ positive h
 unfolding literalNamed
-name-low h k = ap (λ (c : Bool). record { atom = cond c (h - 256) h; negated = c }) (lt-leb 256 h k)
+name-low h k = ap (λ (c : Bool). record { atom = cond c (h - maxAtoms) h; negated = c }) (lt-leb maxAtoms h k)
 
-pub name-high : (h : ℕ) → 256 ≤ h → literalNamed h ≡ negative (h - 256)
+pub name-high : (h : ℕ) → maxAtoms ≤ h → literalNamed h ≡ negative (h - maxAtoms)
 unfolding literalNamed
-name-high h k = ap (λ (c : Bool). record { atom = cond c (h - 256) h; negated = c }) (le-leb 256 h k)
+name-high h k = ap (λ (c : Bool). record { atom = cond c (h - maxAtoms) h; negated = c }) (le-leb maxAtoms h k)
 
-pub opposite-low : (h : ℕ) → h < 256 → literalNamed (h + 256) ≡ complement (literalNamed h)
+pub opposite-low : (h : ℕ) → h < maxAtoms → literalNamed (h + maxAtoms) ≡ complement (literalNamed h)
 unfolding complement
 opposite-low h k =
-    name-high (h + 256) (omega arith)
-    ∙ ap negative {x = h + 256 - 256} {y = h} (omega arith)
+    name-high (h + maxAtoms) (omega arith)
+    ∙ ap negative {x = h + maxAtoms - maxAtoms} {y = h} (omega arith)
     ∙ ap complement (sym (name-low h k))
 
-pub opposite-high : (h : ℕ) → 256 ≤ h → h < 512 → literalNamed (h - 256) ≡ complement (literalNamed h)
+pub opposite-high : (h : ℕ) → maxAtoms ≤ h → h < maxNames → literalNamed (h - maxAtoms) ≡ complement (literalNamed h)
 unfolding complement
-opposite-high h k b = name-low (h - 256) (omega arith) ∙ ap complement (sym (name-high h k))
+opposite-high h k b = name-low (h - maxAtoms) (omega arith) ∙ ap complement (sym (name-high h k))
 
 pub complement-twice : (l : Literal) → complement (complement l) ≡ l
 unfolding complement
@@ -40,28 +41,29 @@ complement-twice l = ap (λ (c : Bool). record { atom = l .atom; negated = c }) 
 -- a literal has one name
 pub name-back : (h : ℕ) → nameOf (literalNamed h) ≡ h
 unfolding nameOf literalNamed
-name-back h = go (leb 256 h) (λ t. leb→le 256 h t)
+name-back h = go (leb maxAtoms h) (λ t. leb→le maxAtoms h t)
   where
-    go : (c : Bool) → (T c → 256 ≤ h) → cond c (cond c (h - 256) h + 256) (cond c (h - 256) h) ≡ h
-    go true f = let u : 256 ≤ h = f tt in omega arith
+    go : (c : Bool) → (T c → maxAtoms ≤ h) → cond c (cond c (h - maxAtoms) h + maxAtoms) (cond c (h - maxAtoms) h) ≡ h
+    go true f = let u : maxAtoms ≤ h = f tt in omega arith
     go false f = refl
 
 pub one-name : (h o : ℕ) → literalNamed h ≡ literalNamed o → h ≡ o
 one-name h o e = sym (name-back h) ∙ ap nameOf e ∙ name-back o
 
--- the name of two bytes
-pub name-plain : (a b : ℕ) → a < 128 → b < 256 → literalOf a b .atom < 256 → literalNamed b ≡ literalOf a b
+-- the name of two bytes: their value, or what it is above 32,768 and the bound on facts
+pub name-plain : (a b : ℕ) → a * 256 + b < 32768 → literalOf a b .atom < maxAtoms → (literalNamed (a * 256 + b) ≡ literalOf a b) × (a * 256 + b < maxNames)
 unfolding literalOf
-name-plain a b h k f =
-    let e : b ≡ (a * 256 + b) % 32768 = omega arith in
-    name-low b k
+name-plain a b h f =
+    let e : a * 256 + b ≡ (a * 256 + b) % 32768 = omega arith in
+    (name-low (a * 256 + b) (omega arith)
     ∙ ap positive e
-    ∙ ap (λ (c : Bool). record { atom = (a * 256 + b) % 32768; negated = c }) (sym (lt-leb 32768 (a * 256 + b) (omega arith)))
+    ∙ ap (λ (c : Bool). record { atom = (a * 256 + b) % 32768; negated = c }) (sym (lt-leb 32768 (a * 256 + b) h)), omega arith)
 
-pub name-negated : (a b : ℕ) → 128 ≤ a → a < 256 → b < 256 → literalOf a b .atom < 256 → literalNamed (b + 256) ≡ literalOf a b
+pub name-negated : (a b : ℕ) → 32768 ≤ a * 256 + b → a * 256 + b < 65536 → literalOf a b .atom < maxAtoms
+    → (literalNamed (a * 256 + b - 32768 + maxAtoms) ≡ literalOf a b) × (a * 256 + b - 32768 + maxAtoms < maxNames)
 unfolding literalOf
-name-negated a b h i k f =
-    let e : b + 256 - 256 ≡ (a * 256 + b) % 32768 = omega arith in
-    name-high (b + 256) (omega arith)
+name-negated a b h k f =
+    let e : a * 256 + b - 32768 + maxAtoms - maxAtoms ≡ (a * 256 + b) % 32768 = omega arith in
+    (name-high (a * 256 + b - 32768 + maxAtoms) (omega arith)
     ∙ ap negative e
-    ∙ ap (λ (c : Bool). record { atom = (a * 256 + b) % 32768; negated = c }) (sym (le-leb 32768 (a * 256 + b) (omega arith)))
+    ∙ ap (λ (c : Bool). record { atom = (a * 256 + b) % 32768; negated = c }) (sym (le-leb 32768 (a * 256 + b) h)), omega arith)

@@ -1,31 +1,33 @@
 -- The masks of layers, row by row: in which layers a head stands, and which layers a row overrides. Used by head_layers and
 -- overridden_layers. Assumes nothing.
-use mathlib.Core.Path.{_≡_, sym, ap, subst, _∙_}
+use mathlib.Core.Path.{_≡_, refl, sym, ap, subst, _∙_}
 use mathlib.Core.Logic.{⊎-elim}
 use mathlib.Core.List.{List}
-use Prim.Native.Nat.{ℕ, _+_, _*_, _%_, _^_, _<_}
+use Prim.Native.Nat.{ℕ, _+_, _*_, _/_, _%_, _^_, _<_}
 use native.Mathlib.Decide.{decLt, ℕ-discrete}
 use native.Mathlib.Omega.{arith}
 use lib.Bits.{bitAnd, bitOr}
 use lib.ListN.{length, getD, set, length-set, replicate, length-replicate}
 use lib.Seq.{getD-set-same, getD-set-other}
+use Rattle.base.specs.Bounds.{maxNames, maxLayers}
 use Rattle.layers.specs.Masks.{bitOf}
 use Rattle.models.specs.StableModels.{complement}
 use Rattle.layers.proofs.BitLaws.{pow-fits, bit-same, bit-other, no-bit, no-bits, or-cases, or-left, or-right, and-first, and-second, and-both}
 use Rattle.table.specs.Names.{literalNamed}
-use Rattle.table.specs.Rows.{rowCount, headName, rowLayer}
+use Rattle.table.specs.Rows.{rowSize, rowCount, headName, rowLayer, overridden, withMask, SameRules}
 use Rattle.table.specs.Overriding.{HeadAt, HeadLayers, OpposedAt, Overridden}
+use Rattle.table.proofs.RowLaws.{count-same}
 use Rattle.table.proofs.NameLaws.{one-name}
 
-pub heads-start : (rows : List ℕ) → HeadLayers rows (replicate {A = ℕ} 512 0) 0
+pub heads-start : (rows : List ℕ) → HeadLayers rows (replicate {A = ℕ} maxNames 0) 0
 heads-start rows = record {
-  size = length-replicate {A = ℕ} 512 0;
-  sound = λ h i z. absurd (no-bit i (subst (λ (x : ℕ). bitOf x i ≡ 1) (no-bits 512 h) z));
+  size = length-replicate {A = ℕ} maxNames 0;
+  sound = λ h i z. absurd (no-bit i (subst (λ (x : ℕ). bitOf x i ≡ 1) (no-bits maxNames h) z));
   full = λ h i x. absurd (omega (arith, x .before));
 }
 
 -- one row on: bit `layer` of the mask at its head's name h
-module _ (rows masks : List ℕ) (j h layer : ℕ) (w : HeadLayers rows masks j) (eh : h ≡ headName rows j) (bh : h < 512) (el : layer ≡ rowLayer rows j) (bl : layer < 32) where
+module _ (rows masks : List ℕ) (j h layer : ℕ) (w : HeadLayers rows masks j) (eh : h ≡ headName rows j) (bh : h < maxNames) (el : layer ≡ rowLayer rows j) (bl : layer < maxLayers) where
   abbrev added : ℕ
   added = bitOr (getD masks h 0) (1 * 2 ^ layer % 4294967296)
 
@@ -69,45 +71,115 @@ module _ (rows masks : List ℕ) (j h layer : ℕ) (w : HeadLayers rows masks j)
           (or-right (getD masks h 0) (1 * 2 ^ layer % 4294967296) i
           (subst (λ (z : ℕ). bitOf z i ≡ 1) (sym (pow-fits layer bl)) (subst (λ (k : ℕ). bitOf (2 ^ layer) k ≡ 1) f (bit-same layer))))
 
-pub overridden-start : (rows lower masks : List ℕ) → Overridden rows lower masks 0
-overridden-start rows lower masks = record { sound = λ j b. absurd (omega arith); opposed = λ j b. absurd (omega arith); full = λ j b. absurd (omega arith) }
+pub overridden-start : (rows lower table : List ℕ) → Overridden rows lower table 0
+overridden-start rows lower table = record { sound = λ j b. absurd (omega arith); opposed = λ j b. absurd (omega arith); full = λ j b. absurd (omega arith) }
+
+pub rules-start : (rows : List ℕ) → SameRules rows rows
+rules-start rows = record { size = refl; same = λ j c h. refl }
+
+-- a row's mask is written, in two halves
+module _ (rows table : List ℕ) (r : SameRules rows table) (j mask : ℕ) (b : j < rowCount rows) where
+  abbrev masked : List ℕ
+  masked = withMask table j mask
+
+  kept : (i : ℕ) → (i ≡ rowSize * j + 4 → ⊥) → (i ≡ rowSize * j + 5 → ⊥) → getD masked i 0 ≡ getD table i 0
+  kept i m n =
+      getD-set-other (set table (rowSize * j + 4) (mask / 65536)) (rowSize * j + 5) i (mask % 65536) 0 n
+      ∙ getD-set-other table (rowSize * j + 4) i (mask / 65536) 0 m
+
+  -- the other numbers of the rows are as they were
+  pub rules-more : SameRules rows masked
+  rules-more = record {
+    size = length-set (set table (rowSize * j + 4) (mask / 65536)) (rowSize * j + 5) (mask % 65536) ∙ length-set table (rowSize * j + 4) (mask / 65536) ∙ r .size;
+    same = λ x c h. kept (rowSize * x + c) (λ e. omega arith) (λ e. omega arith) ∙ r .same x c h;
+  }
+
+  at-high : getD masked (rowSize * j + 4) 0 ≡ mask / 65536
+  at-high =
+      getD-set-other (set table (rowSize * j + 4) (mask / 65536)) (rowSize * j + 5) (rowSize * j + 4) (mask % 65536) 0 (omega arith)
+      ∙ getD-set-same table (rowSize * j + 4) (mask / 65536) 0 (omega (arith, r .size))
+
+  at-low : getD masked (rowSize * j + 5) 0 ≡ mask % 65536
+  at-low =
+      getD-set-same (set table (rowSize * j + 4) (mask / 65536)) (rowSize * j + 5) (mask % 65536) 0
+      (simp length-set (omega (arith, r .size)))
+
+  mask-here : (x : ℕ) → x ≡ j → overridden masked x ≡ mask
+  mask-here x e = ap (overridden masked) e ∙ omega (arith, at-high, at-low)
+
+  mask-there : (x : ℕ) → x < j → overridden masked x ≡ overridden table x
+  mask-there x h =
+      omega (arith, kept (rowSize * x + 4) (λ e. omega arith) (λ e. omega arith), kept (rowSize * x + 5) (λ e. omega arith) (λ e. omega arith))
 
 -- one row on: of the layers below the row's, those in which the opposite name o stands
-module _ (rows lower heads masks : List ℕ) (j h o layer : ℕ) (w : Overridden rows lower masks j) (b : j < length masks)
+module _ (rows lower heads table : List ℕ) (r : SameRules rows table) (j h o layer : ℕ) (w : Overridden rows lower table j) (b : j < rowCount rows)
     (hl : HeadLayers rows heads (rowCount rows)) (eh : h ≡ headName rows j) (eo : literalNamed o ≡ complement (literalNamed h)) (el : layer ≡ rowLayer rows j) where
   abbrev mask : ℕ
   mask = bitAnd (getD heads o 0) (getD lower layer 0)
 
-  at-j : (x : ℕ) → x ≡ j → getD (set masks j mask) x 0 ≡ mask
-  at-j x e = ap (λ (t : ℕ). getD (set masks j mask) t 0) e ∙ getD-set-same masks j mask 0 b
+  abbrev next : List ℕ
+  next = withMask table j mask
 
-  pub overridden-more : Overridden rows lower (set masks j mask) (j + 1)
+  pub overridden-more : Overridden rows lower next (j + 1)
   overridden-more = record { sound = λ x k. sound-at x k (decLt x j); opposed = λ x k. opposed-at x k (decLt x j); full = λ x k. full-at x k (decLt x j) }
     where
-      sound-at : (x : ℕ) → x < j + 1 → Dec (x < j) → (i : ℕ) → bitOf (getD (set masks j mask) x 0) i ≡ 1 → bitOf (getD lower (rowLayer rows x) 0) i ≡ 1
-      sound-at x k (yes a) i z = w .sound x a i (subst (λ (u : ℕ). bitOf u i ≡ 1) (getD-set-other masks j x mask 0 (omega arith)) z)
+      here : (x : ℕ) → x ≡ j → overridden next x ≡ mask
+      here x e = mask-here rows table r j mask b x e
+
+      there : (x : ℕ) → x < j → overridden next x ≡ overridden table x
+      there x a = mask-there rows table r j mask b x a
+
+      sound-at : (x : ℕ) → x < j + 1 → Dec (x < j) → (i : ℕ) → bitOf (overridden next x) i ≡ 1 → bitOf (getD lower (rowLayer rows x) 0) i ≡ 1
+      sound-at x k (yes a) i z = w .sound x a i (subst (λ (u : ℕ). bitOf u i ≡ 1) (there x a) z)
       sound-at x k (no a) i z =
           let q : x ≡ j = omega arith in
           subst (λ (t : ℕ). bitOf (getD lower t 0) i ≡ 1) (el ∙ ap (rowLayer rows) (sym q))
-          (and-second (getD heads o 0) (getD lower layer 0) i (subst (λ (t : ℕ). bitOf t i ≡ 1) (at-j x q) z))
+          (and-second (getD heads o 0) (getD lower layer 0) i (subst (λ (t : ℕ). bitOf t i ≡ 1) (here x q) z))
 
-      opposed-at : (x : ℕ) → x < j + 1 → Dec (x < j) → (i : ℕ) → bitOf (getD (set masks j mask) x 0) i ≡ 1 → OpposedAt rows (headName rows x) i
-      opposed-at x k (yes a) i z = w .opposed x a i (subst (λ (u : ℕ). bitOf u i ≡ 1) (getD-set-other masks j x mask 0 (omega arith)) z)
+      opposed-at : (x : ℕ) → x < j + 1 → Dec (x < j) → (i : ℕ) → bitOf (overridden next x) i ≡ 1 → OpposedAt rows (headName rows x) i
+      opposed-at x k (yes a) i z = w .opposed x a i (subst (λ (u : ℕ). bitOf u i ≡ 1) (there x a) z)
       opposed-at x k (no a) i z =
           let q : x ≡ j = omega arith in
           record {
             name = o;
             opposite-is = eo ∙ ap (λ (t : ℕ). complement (literalNamed t)) (eh ∙ ap (headName rows) (sym q));
-            head-at = hl .sound o i (and-first (getD heads o 0) (getD lower layer 0) i (subst (λ (t : ℕ). bitOf t i ≡ 1) (at-j x q) z));
+            head-at = hl .sound o i (and-first (getD heads o 0) (getD lower layer 0) i (subst (λ (t : ℕ). bitOf t i ≡ 1) (here x q) z));
           }
 
       full-at : (x : ℕ) → x < j + 1 → Dec (x < j) → (i g : ℕ) → literalNamed g ≡ complement (literalNamed (headName rows x)) → HeadAt rows (rowCount rows) g i
-          → bitOf (getD lower (rowLayer rows x) 0) i ≡ 1 → bitOf (getD (set masks j mask) x 0) i ≡ 1
-      full-at x k (yes a) i g e p z = subst (λ (u : ℕ). bitOf u i ≡ 1) (sym (getD-set-other masks j x mask 0 (omega arith))) (w .full x a i g e p z)
+          → bitOf (getD lower (rowLayer rows x) 0) i ≡ 1 → bitOf (overridden next x) i ≡ 1
+      full-at x k (yes a) i g e p z = subst (λ (u : ℕ). bitOf u i ≡ 1) (sym (there x a)) (w .full x a i g e p z)
       full-at x k (no a) i g e p z =
           let q : x ≡ j = omega arith in
           let s : g ≡ o = one-name g o (e ∙ ap (λ (t : ℕ). complement (literalNamed (headName rows t))) q ∙ ap (λ (t : ℕ). complement (literalNamed t)) (sym eh) ∙ sym eo) in
-          subst (λ (t : ℕ). bitOf t i ≡ 1) (sym (at-j x q))
+          subst (λ (t : ℕ). bitOf t i ≡ 1) (sym (here x q))
           (and-both (getD heads o 0) (getD lower layer 0) i
           (subst (λ (t : ℕ). bitOf (getD heads t 0) i ≡ 1) s (hl .full g i p))
           (subst (λ (t : ℕ). bitOf (getD lower t 0) i ≡ 1) (ap (rowLayer rows) q ∙ sym el) z))
+
+-- the heads and layers of the rows are those of the table that has the masks
+module _ {rows table : List ℕ} (r : SameRules rows table) where
+  head-to : {n h i : ℕ} → HeadAt rows n h i → HeadAt table n h i
+  head-to x = record { row = x .row; before = x .before; name-is = r .same (x .row) 2 (omega arith) ∙ x .name-is; layer-is = r .same (x .row) 3 (omega arith) ∙ x .layer-is }
+
+  head-from : {n h i : ℕ} → HeadAt table n h i → HeadAt rows n h i
+  head-from x = record { row = x .row; before = x .before; name-is = sym (r .same (x .row) 2 (omega arith)) ∙ x .name-is; layer-is = sym (r .same (x .row) 3 (omega arith)) ∙ x .layer-is }
+
+  pub overridden-same : {lower : List ℕ} → Overridden rows lower table (rowCount rows) → Overridden table lower table (rowCount table)
+  overridden-same {lower} w = record {
+    sound = λ j h i z. subst (λ (t : ℕ). bitOf (getD lower t 0) i ≡ 1) (sym (r .same j 3 (omega arith))) (w .sound j (low j h) i z);
+    opposed = λ j h i z.
+        let o : OpposedAt rows (headName rows j) i = w .opposed j (low j h) i z in
+        record {
+          name = o .name;
+          opposite-is = o .opposite-is ∙ ap (λ (t : ℕ). complement (literalNamed t)) (sym (r .same j 2 (omega arith)));
+          head-at = subst (λ (n : ℕ). HeadAt table n (o .name) i) (sym (count-same r)) (head-to (o .head-at));
+        };
+    full = λ j h i g e p z.
+        w .full j (low j h) i g (e ∙ ap (λ (t : ℕ). complement (literalNamed t)) (r .same j 2 (omega arith)))
+        (head-from (subst (λ (n : ℕ). HeadAt table n g i) (count-same r) p))
+        (subst (λ (t : ℕ). bitOf (getD lower t 0) i ≡ 1) (r .same j 3 (omega arith)) z);
+  }
+    where
+      low : (j : ℕ) → j < rowCount table → j < rowCount rows
+      low j h = subst (λ (n : ℕ). j < n) (count-same r) h

@@ -1,16 +1,17 @@
 -- Rows and the rules that they stand for: which rules are there, a row's body as the code cuts it, and when two rows are the same.
 -- Used by every loop over rows. Assumes nothing.
-use mathlib.Core.Path.{_≡_, ap, _∙_}
-use mathlib.Core.List.{List, Memᴰ·map, Memᴰ·of-map}
-use Prim.Native.Nat.{ℕ, _+_, _*_, _-_, _<_}
+use mathlib.Core.Path.{_≡_, ap, subst, _∙_}
+use mathlib.Core.List.{List, map, Memᴰ·map, Memᴰ·of-map}
+use Prim.Native.Nat.{ℕ, _+_, _*_, _-_, _/_, _<_}
 use native.Mathlib.Omega.{arith}
 use lib.ListN.{getD, take, drop}
 use Rattle.base.specs.Lists.{upTo}
 use Rattle.format.specs.Book.{Rule, literalsOf}
 use Rattle.base.proofs.Members.{_∈_}
+use Rattle.base.proofs.MapLaws.{map-same}
 use Rattle.base.proofs.UpTo.{upTo-lt, upTo-has}
 use Rattle.table.specs.Names.{literalNamed}
-use Rattle.table.specs.Rows.{rowCount, rowAt, rowsOf}
+use Rattle.table.specs.Rows.{rowSize, rowCount, rowAt, rowsOf, RowsBounded, RowsFit, SameRules}
 
 module _ (book rows : List ℕ) where
   pub row-in : (j : ℕ) → j < rowCount rows → rowAt book rows j ∈ rowsOf book rows
@@ -24,18 +25,44 @@ module _ (book rows : List ℕ) where
       (w .0, upTo-lt (rowCount rows) (w .0) (w .1), w .2)
 
   -- a row's body, as the code cuts it
-  pub body-part : (j a e : ℕ) → a ≡ getD rows (4 * j) 0 → e ≡ getD rows (4 * j + 1) 0
-      → take (a + e - a) (drop a book) ≡ take (getD rows (4 * j + 1) 0) (drop (getD rows (4 * j) 0) book)
+  pub body-part : (j a e : ℕ) → a ≡ getD rows (rowSize * j) 0 → e ≡ getD rows (rowSize * j + 1) 0
+      → take (a + e - a) (drop a book) ≡ take (getD rows (rowSize * j + 1) 0) (drop (getD rows (rowSize * j) 0) book)
   body-part j a e p q =
-      ap (λ (k : ℕ). take k (drop a book)) {x = a + e - a} {y = getD rows (4 * j + 1) 0} (omega (arith, q))
-      ∙ ap (λ (k : ℕ). take (getD rows (4 * j + 1) 0) (drop k book)) p
+      ap (λ (k : ℕ). take k (drop a book)) {x = a + e - a} {y = getD rows (rowSize * j + 1) 0} (omega (arith, q))
+      ∙ ap (λ (k : ℕ). take (getD rows (rowSize * j + 1) 0) (drop k book)) p
 
--- rows read the same where their four numbers are the same
-pub row-same : (book rows other : List ℕ) (j : ℕ) → ((c : ℕ) → c < 4 → getD rows (4 * j + c) 0 ≡ getD other (4 * j + c) 0) → rowAt book rows j ≡ rowAt book other j
+-- rows stand for the same rule where the first four of their numbers are the same
+pub row-same : (book rows other : List ℕ) (j : ℕ) → ((c : ℕ) → c < 4 → getD rows (rowSize * j + c) 0 ≡ getD other (rowSize * j + c) 0) → rowAt book rows j ≡ rowAt book other j
 unfolding rowAt
 row-same book rows other j h =
-    ap (λ (x : ℕ). record { layer = x; head = literalNamed (getD rows (4 * j + 2) 0); body = literalsOf (take (getD rows (4 * j + 1) 0) (drop (getD rows (4 * j) 0) book)) }) (h 3 (omega arith))
-    ∙ ap (λ (x : ℕ). record { layer = getD other (4 * j + 3) 0; head = literalNamed x; body = literalsOf (take (getD rows (4 * j + 1) 0) (drop (getD rows (4 * j) 0) book)) }) (h 2 (omega arith))
-    ∙ ap (λ (x : ℕ). record { layer = getD other (4 * j + 3) 0; head = literalNamed (getD other (4 * j + 2) 0); body = literalsOf (take x (drop (getD rows (4 * j) 0) book)) }) (h 1 (omega arith))
-    ∙ ap (λ (x : ℕ). record { layer = getD other (4 * j + 3) 0; head = literalNamed (getD other (4 * j + 2) 0); body = literalsOf (take (getD other (4 * j + 1) 0) (drop x book)) })
-    (ap (λ (i : ℕ). getD rows i 0) {x = 4 * j} {y = 4 * j + 0} (omega arith) ∙ h 0 (omega arith) ∙ ap (λ (i : ℕ). getD other i 0) {x = 4 * j + 0} {y = 4 * j} (omega arith))
+    ap (λ (x : ℕ). record { layer = x; head = literalNamed (getD rows (rowSize * j + 2) 0); body = literalsOf (take (getD rows (rowSize * j + 1) 0) (drop (getD rows (rowSize * j) 0) book)) }) (h 3 (omega arith))
+    ∙ ap (λ (x : ℕ). record { layer = getD other (rowSize * j + 3) 0; head = literalNamed x; body = literalsOf (take (getD rows (rowSize * j + 1) 0) (drop (getD rows (rowSize * j) 0) book)) }) (h 2 (omega arith))
+    ∙ ap (λ (x : ℕ). record { layer = getD other (rowSize * j + 3) 0; head = literalNamed (getD other (rowSize * j + 2) 0); body = literalsOf (take x (drop (getD rows (rowSize * j) 0) book)) }) (h 1 (omega arith))
+    ∙ ap (λ (x : ℕ). record { layer = getD other (rowSize * j + 3) 0; head = literalNamed (getD other (rowSize * j + 2) 0); body = literalsOf (take (getD other (rowSize * j + 1) 0) (drop x book)) })
+    (ap (λ (i : ℕ). getD rows i 0) {x = rowSize * j} {y = rowSize * j + 0} (omega arith) ∙ h 0 (omega arith) ∙ ap (λ (i : ℕ). getD other i 0) {x = rowSize * j + 0} {y = rowSize * j} (omega arith))
+
+-- so do tables that are the same but for the masks
+module _ {rows table : List ℕ} (r : SameRules rows table) where
+  pub count-same : rowCount table ≡ rowCount rows
+  count-same = ap (λ (n : ℕ). n / rowSize) (r .size)
+
+  pub bounded-same : RowsBounded rows → RowsBounded table
+  bounded-same w = record {
+    name = λ j h. omega (arith, r .same j 2 (omega arith), w .name j (omega (arith, count-same)));
+    layer-low = λ j h. omega (arith, r .same j 3 (omega arith), w .layer-low j (omega (arith, count-same)));
+  }
+
+  pub fits-same : {book : List ℕ} → RowsFit book rows → RowsFit book table
+  fits-same w = record {
+    bounded = bounded-same (w .bounded);
+    part = λ j h. omega (arith, start-same j, r .same j 1 (omega arith), w .part j (omega (arith, count-same)));
+  }
+    where
+      start-same : (j : ℕ) → getD table (rowSize * j) 0 ≡ getD rows (rowSize * j) 0
+      start-same j = subst (λ (i : ℕ). getD table i 0 ≡ getD rows i 0) {x = rowSize * j + 0} {y = rowSize * j} (omega arith) (r .same j 0 (omega arith))
+
+  pub rows-same : (book : List ℕ) → rowsOf book table ≡ rowsOf book rows
+  unfolding rowsOf
+  rows-same book =
+      ap (λ (n : ℕ). map (rowAt book table) (upTo n)) count-same
+      ∙ map-same (rowAt book table) (rowAt book rows) (rowCount rows) (λ j h. row-same book table rows j (λ c d. r .same j c d))

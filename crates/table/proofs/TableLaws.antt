@@ -3,14 +3,16 @@
 use mathlib.Core.Path.{_≡_, refl, sym, ap, ap₂, subst, _∙_}
 use mathlib.Core.Logic.{⊎-elim}
 use mathlib.Core.Bool.{Bool, _||_}
-use mathlib.Core.List.{List, [], _∷_, map, List·Memᴰ·head, List·Memᴰ·tail, Memᴰ·of-map}
+use mathlib.Core.List.{List, [], _∷_, _++_, map, List·Memᴰ·head, List·Memᴰ·tail, Memᴰ·of-map}
 use Prim.Native.Nat.{ℕ, _*_, _-_, _/_, _%_, _^_, _<_, _≤_}
 use native.Mathlib.Decide.{ℕ-discrete}
 use native.Mathlib.Omega.{arith}
 use lib.Bits.{bitOr}
 use lib.Dec.{T, eqb, eqb-refl, eqb→eq}
 use lib.ListN.{length, getD, take, drop, length-take}
-use lib.Seq.{getD-take}
+use lib.Seq.{take-append-seam}
+use borrow.Rule.Slice.PartMut.{putMid, same-len-mid}
+use Rattle.base.specs.Bounds.{maxLayers}
 use Rattle.base.specs.Lists.{consIf, filter}
 use Rattle.layers.specs.Layers.{below}
 use Rattle.layers.specs.Masks.{bitOf}
@@ -21,11 +23,12 @@ use Rattle.base.proofs.Members.{_∈_, and-left, and-right, and-both, or-cases,
 use Rattle.layers.proofs.BitLaws as bits
 use Rattle.models.proofs.LeastLaws.{literal-same, literal-refl}
 use Rattle.table.specs.Names.{literalNamed}
-use Rattle.table.specs.Rows.{rowCount, headName, rowLayer, rowAt, rowsOf, inMask, RowsBounded, RowsFit}
+use Rattle.table.specs.Rows.{rowSize, rowCount, headName, rowLayer, overridden, rowAt, rowsOf, inMask, RowsBounded, RowsFit, SameRules}
 use Rattle.table.specs.Overriding.{OpposedAt, Overridden}
 use Rattle.table.specs.Table.{programOf, Prepared, RowsMade, Tabulates, TableMade}
 use Rattle.table.proofs.NameLaws.{complement-twice}
-use Rattle.table.proofs.RowLaws.{row-in, row-of}
+use Rattle.table.proofs.RowLaws.{row-in, row-of, rows-same, fits-same}
+use Rattle.table.proofs.OverridingLaws.{overridden-same}
 
 filter-same : (p q : Rule → Bool) (xs : List Rule) → ((x : Rule) → x ∈ xs → p x ≡ q x) → filter p xs ≡ filter q xs
 unfolding filter
@@ -41,14 +44,14 @@ unfolding overrides
 overrides-heads P t r o = literal-same (t .head) (complement (r .head)) (and-right (P .below (r .layer) (t .layer)) (sameLiteral (t .head) (complement (r .head))) o)
 
 -- the mask of the relevant layers: the driven layer, and those below it
-module _ (book : List ℕ) (first : ℕ) (lower : List ℕ) (w : Prepared book first lower) (layer : ℕ) (h : layer < 32) where
+module _ (book : List ℕ) (first : ℕ) (lower : List ℕ) (w : Prepared book first lower) (layer : ℕ) (h : layer < maxLayers) where
   abbrev pub relevantMask : ℕ
   relevantMask = bitOr (getD lower layer 0) (1 * 2 ^ layer % 4294967296)
 
-  rule-low : (r : Rule) → r ∈ bookOf book .rules → r .layer < 32
+  rule-low : (r : Rule) → r ∈ bookOf book .rules → r .layer < maxLayers
   rule-low r k =
       let v : (x : List ℕ) × x ∈ records (drop first book) × (ruleOf x ≡ r) = Memᴰ·of-map ruleOf (records (drop first book)) (subst (λ (rs : List Rule). r ∈ rs) (w .rules-are) k) in
-      subst (λ (x : Rule). x .layer < 32) (v .2) (w .rule-records .each (v .0) (v .1) .layer-low)
+      subst (λ (x : Rule). x .layer < maxLayers) (v .2) (w .rule-records .each (v .0) (v .1) .layer-low)
 
   mask-relevant : (r : Rule) → r ∈ bookOf book .rules → inMask relevantMask r ≡ relevant (bookOf book) layer r
   unfolding inMask relevant
@@ -76,9 +79,9 @@ module _ (book : List ℕ) (first : ℕ) (lower : List ℕ) (w : Prepared book f
       ap (filter (inMask relevantMask)) (sym (w .rules-are))
       ∙ filter-same (inMask relevantMask) (relevant (bookOf book) layer) (bookOf book .rules) mask-relevant
 
-  module _ (rows masks : List ℕ) (fits : RowsFit book rows) (rs : rowsOf book rows ≡ filter (inMask relevantMask) (map ruleOf (records (drop first book))))
-      (sz : length masks ≡ rowCount rows) (un : Overridden rows lower masks (rowCount rows)) where
-    row-full : (j : ℕ) → j < rowCount rows → (x : ℕ) → x < rowCount rows → T (overrides (programOf book layer) (rowAt book rows j) (rowAt book rows x)) → bitOf (getD masks j 0) (rowAt book rows x .layer) ≡ 1
+  module _ (rows : List ℕ) (fits : RowsFit book rows) (rs : rowsOf book rows ≡ filter (inMask relevantMask) (map ruleOf (records (drop first book))))
+      (un : Overridden rows lower rows (rowCount rows)) where
+    row-full : (j : ℕ) → j < rowCount rows → (x : ℕ) → x < rowCount rows → T (overrides (programOf book layer) (rowAt book rows j) (rowAt book rows x)) → bitOf (overridden rows j) (rowAt book rows x .layer) ≡ 1
     unfolding rowAt programAt
     row-full j b x k o =
         un .full j b (rowLayer rows x) (headName rows x)
@@ -87,7 +90,7 @@ module _ (book : List ℕ) (first : ℕ) (lower : List ℕ) (w : Prepared book f
         (w .lower-full (rowLayer rows x) (rowLayer rows j) (fits .bounded .layer-low x k) (fits .bounded .layer-low j b) (overrides-below (programOf book layer) (rowAt book rows j) (rowAt book rows x) o))
 
     -- a set bit is the layer of a row that is overridden
-    row-exact : (j : ℕ) → j < rowCount rows → (i : ℕ) → bitOf (getD masks j 0) i ≡ 1
+    row-exact : (j : ℕ) → j < rowCount rows → (i : ℕ) → bitOf (overridden rows j) i ≡ 1
         → (r : Rule) × r ∈ rowsOf book rows × (r .layer ≡ i) × T (overrides (programOf book layer) (rowAt book rows j) r)
     unfolding rowAt programAt overrides
     row-exact j b i z =
@@ -103,60 +106,53 @@ module _ (book : List ℕ) (first : ℕ) (lower : List ℕ) (w : Prepared book f
               (subst (λ (t : Literal). T (sameLiteral (literalNamed (headName rows j)) t)) e (literal-refl (literalNamed (headName rows j)))),
         )
 
-    tabulates : Tabulates (programOf book layer) book rows masks
+    tabulates : Tabulates (programOf book layer) book rows
     unfolding rowAt programAt
     tabulates = record {
       fits = fits;
       rules = rs ∙ rules-relevant;
-      size = sz;
       sound = λ j b i z. w .lower-sound i (rowLayer rows j) (fits .bounded .layer-low j b) (un .sound j b i z);
       full = λ j b r k o.
           let v : (x : ℕ) × (x < rowCount rows) × (rowAt book rows x ≡ r) = row-of book rows r k in
-          subst (λ (t : Rule). bitOf (getD masks j 0) (t .layer) ≡ 1) (v .2) (row-full j b (v .0) (v .1) (subst (λ (t : Rule). T (overrides (programOf book layer) (rowAt book rows j) t)) (sym (v .2)) o));
+          subst (λ (t : Rule). bitOf (overridden rows j) (t .layer) ≡ 1) (v .2) (row-full j b (v .0) (v .1) (subst (λ (t : Rule). T (overrides (programOf book layer) (rowAt book rows j) t)) (sym (v .2)) o));
       exact = row-exact;
     }
-
--- as the code lends them: the first k rows, the first k masks
-overridden-take : (rows lower masks : List ℕ) (k : ℕ) → Overridden rows lower masks k → Overridden rows lower (take k masks) k
-overridden-take rows lower masks k w = record {
-  sound = λ j h i z. w .sound j h i (subst (λ (x : ℕ). bitOf x i ≡ 1) (getD-take k masks j 0 h) z);
-  opposed = λ j h i z. w .opposed j h i (subst (λ (x : ℕ). bitOf x i ≡ 1) (getD-take k masks j 0 h) z);
-  full = λ j h i g e p z. subst (λ (x : ℕ). bitOf x i ≡ 1) (sym (getD-take k masks j 0 h)) (w .full j h i g e p z);
-}
 
 pub minus-zero : (n : ℕ) → n - 0 ≡ n
 minus-zero n = omega arith
 
 module _ (book : List ℕ) (first mask : ℕ) (rows : List ℕ) (k : ℕ) (w : RowsMade book first mask rows k) where
-  lent-count : length (take (4 * k - 0) rows) / 4 ≡ k
-  lent-count = let q : length (take (4 * k - 0) rows) ≡ 4 * k = simp length-take (omega (arith, w .size, w .room)) in omega arith
+  lent-count : length (take (rowSize * k - 0) rows) / rowSize ≡ k
+  lent-count = let q : length (take (rowSize * k - 0) rows) ≡ rowSize * k = simp length-take (omega (arith, w .size, w .room)) in omega arith
 
-  pub lent-room : length (take (4 * k - 0) rows) / 4 ≤ 1024
-  lent-room = omega (arith, lent-count, w .room)
+  pub lent-bounded : RowsBounded (take (rowSize * k - 0) rows)
+  lent-bounded = subst (λ (x : ℕ). RowsBounded (take x rows)) (sym (minus-zero (rowSize * k))) (w .fits .bounded)
 
-  pub lent-bounded : RowsBounded (take (4 * k - 0) rows)
-  lent-bounded = subst (λ (x : ℕ). RowsBounded (take x rows)) (sym (minus-zero (4 * k))) (w .fits .bounded)
+  -- the first k rows come back with their masks, in front of the rest
+  module _ (part : List ℕ) (r : SameRules (take (rowSize * k - 0) rows) part) where
+    part-size : length part ≡ rowSize * k - 0
+    part-size = r .size ∙ simp length-take (omega (arith, w .size, w .room))
 
-  taken-count : length (take (4 * k) rows) / 4 ≡ k
-  taken-count = subst (λ (x : ℕ). length (take x rows) / 4 ≡ k) (minus-zero (4 * k)) lent-count
+    same : SameRules (take (rowSize * k) rows) part
+    same = subst (λ (x : ℕ). SameRules (take x rows) part) (minus-zero (rowSize * k)) r
 
-  pub table-made : (lower : List ℕ) (p : Prepared book first lower) (layer : ℕ) (h : layer < 32) → mask ≡ relevantMask book first lower p layer h
-      → (masks : List ℕ) → length masks ≡ 1024 → Overridden (take (4 * k - 0) rows) lower masks (length (take (4 * k - 0) rows) / 4)
-      → TableMade (programOf book layer) book rows masks k
-  table-made lower p layer h em masks e o = record {
-    room = w .room;
-    row-size = w .size;
-    mask-size = e;
-    table =
-        tabulates book first lower p layer h (take (4 * k) rows) (take k masks) (w .fits) (w .rules ∙ ap (λ (x : ℕ). filter (inMask x) (map ruleOf (records (drop first book)))) em)
-        (let q : length (take k masks) ≡ k = simp length-take (omega (arith, w .room)) in q ∙ sym taken-count)
-        (subst (λ (x : ℕ). Overridden (take (4 * k) rows) lower (take k masks) x) (sym taken-count) (overridden-take (take (4 * k) rows) lower masks k
-        (subst (λ (x : ℕ). Overridden (take (4 * k) rows) lower masks x) taken-count
-        (subst (λ (x : ℕ). Overridden (take x rows) lower masks (length (take x rows) / 4)) (minus-zero (4 * k)) o))));
-  }
+    in-front : take (rowSize * k) (putMid 0 (rowSize * k - 0) rows part) ≡ part
+    in-front =
+        ap (λ (n : ℕ). take n (part ++ drop (rowSize * k - 0) rows)) (sym (part-size ∙ minus-zero (rowSize * k)))
+        ∙ take-append-seam part (drop (rowSize * k - 0) rows)
+
+    pub table-made : (lower : List ℕ) (p : Prepared book first lower) (layer : ℕ) (h : layer < maxLayers) → mask ≡ relevantMask book first lower p layer h
+        → Overridden (take (rowSize * k - 0) rows) lower part (rowCount (take (rowSize * k - 0) rows))
+        → TableMade (programOf book layer) book (putMid 0 (rowSize * k - 0) rows part) k
+    table-made lower p layer h em o = record {
+      room = w .room;
+      size = same-len-mid 0 (rowSize * k - 0) rows part (r .size) ∙ w .size;
+      table =
+          subst (Tabulates (programOf book layer) book) (sym in-front)
+          (tabulates book first lower p layer h part (fits-same same (w .fits))
+          (rows-same same book ∙ w .rules ∙ ap (λ (x : ℕ). filter (inMask x) (map ruleOf (records (drop first book)))) em) (overridden-same r o));
+    }
 
 -- the table, as a caller cuts it out of what rule_table returns
-pub lent-table : {P : Program} {book rows masks : List ℕ} {k : ℕ} → TableMade P book rows masks k → Tabulates P book (take (4 * k - 0) rows) (take (k - 0) masks)
-lent-table {P} {book} {rows} {masks} {k} w =
-    subst (λ (x : ℕ). Tabulates P book (take x rows) (take (k - 0) masks)) (sym (minus-zero (4 * k)))
-    (subst (λ (x : ℕ). Tabulates P book (take (4 * k) rows) (take x masks)) (sym (minus-zero k)) (w .table))
+pub lent-table : {P : Program} {book rows : List ℕ} {k : ℕ} → TableMade P book rows k → Tabulates P book (take (rowSize * k - 0) rows)
+lent-table {P} {book} {rows} {k} w = subst (λ (x : ℕ). Tabulates P book (take x rows)) (sym (minus-zero (rowSize * k))) (w .table)

@@ -5,7 +5,7 @@ use mathlib.Core.Bool.{Bool, _&&_}
 use mathlib.Core.List.{List}
 use Prim.Native.Nat.{ℕ, _-_, _*_, _<_}
 use lib.Dec.{T, eqb, eqb-refl, eqb→eq}
-use lib.ListN.{getD, take}
+use lib.ListN.{take}
 use Rattle.base.specs.Lists.{any, upTo}
 use Rattle.base.proofs.Members.{_∈_, and-left, and-right, and-both, any-at, any-of, same-test}
 use Rattle.base.proofs.UpTo.{upTo-lt, upTo-has}
@@ -14,36 +14,36 @@ use Rattle.format.specs.Book.{Rule}
 use Rattle.models.specs.Program.{Program}
 use Rattle.models.specs.StableModels.{complement, sameLiteral, overrides}
 use Rattle.models.proofs.AlikeLaws.{Alike}
-use Rattle.table.specs.Rows.{rowCount, rowLayer, rowAt, rowsOf}
+use Rattle.table.specs.Rows.{rowSize, rowCount, rowLayer, overridden, rowAt, rowsOf}
 use Rattle.table.specs.Table.{Tabulates, TableMade}
 use Rattle.table.specs.Tabled.{tabled}
 use Rattle.table.proofs.RowLaws.{row-in, row-of}
 use Rattle.table.proofs.TableLaws.{lent-table}
 
-pub tabled-atoms : (book rows overridden : List ℕ) (n : ℕ) → tabled book rows overridden n .atoms ≡ n
+pub tabled-atoms : (book rows : List ℕ) (n : ℕ) → tabled book rows n .atoms ≡ n
 unfolding tabled
-tabled-atoms book rows overridden n = refl
+tabled-atoms book rows n = refl
 
-module _ {P : Program} {book rows overridden : List ℕ} (w : Tabulates P book rows overridden) where
+module _ {P : Program} {book rows : List ℕ} (w : Tabulates P book rows) where
   abbrev Q : Program
-  Q = tabled book rows overridden (P .atoms)
+  Q = tabled book rows (P .atoms)
 
   abbrev says : ℕ → ℕ → ℕ → Bool
-  says i j k = eqb (rowLayer rows k) j && eqb (bitOf (getD overridden k 0) i) 1
+  says i j k = eqb (rowLayer rows k) j && eqb (bitOf (overridden rows k) i) 1
 
   -- what the masks say is so
   below-from : (i j : ℕ) → T (any (says i j) (upTo (rowCount rows))) → T (P .below i j)
   unfolding rowAt
   below-from i j t =
       let v : (k : ℕ) × k ∈ upTo (rowCount rows) × T (says i j k) = any-at (says i j) (upTo (rowCount rows)) t in
-      let e : rowLayer rows (v .0) ≡ j = eqb→eq (rowLayer rows (v .0)) j (and-left (eqb (rowLayer rows (v .0)) j) (eqb (bitOf (getD overridden (v .0) 0) i) 1) (v .2)) in
-      let b : bitOf (getD overridden (v .0) 0) i ≡ 1 = eqb→eq (bitOf (getD overridden (v .0) 0) i) 1 (and-right (eqb (rowLayer rows (v .0)) j) (eqb (bitOf (getD overridden (v .0) 0) i) 1) (v .2)) in
+      let e : rowLayer rows (v .0) ≡ j = eqb→eq (rowLayer rows (v .0)) j (and-left (eqb (rowLayer rows (v .0)) j) (eqb (bitOf (overridden rows (v .0)) i) 1) (v .2)) in
+      let b : bitOf (overridden rows (v .0)) i ≡ 1 = eqb→eq (bitOf (overridden rows (v .0)) i) 1 (and-right (eqb (rowLayer rows (v .0)) j) (eqb (bitOf (overridden rows (v .0)) i) 1) (v .2)) in
       subst (λ (x : ℕ). T (P .below i x)) e (w .sound (v .0) (upTo-lt (rowCount rows) (v .0) (v .1)) i b)
 
-  below-into : (i k : ℕ) → k < rowCount rows → bitOf (getD overridden k 0) i ≡ 1 → T (any (says i (rowLayer rows k)) (upTo (rowCount rows)))
+  below-into : (i k : ℕ) → k < rowCount rows → bitOf (overridden rows k) i ≡ 1 → T (any (says i (rowLayer rows k)) (upTo (rowCount rows)))
   below-into i k h b =
       any-of (says i (rowLayer rows k)) (upTo-has (rowCount rows) k h)
-      (and-both (eqb (rowLayer rows k) (rowLayer rows k)) (eqb (bitOf (getD overridden k 0) i) 1) (eqb-refl (rowLayer rows k)) (subst (λ (x : ℕ). T (eqb x 1)) (sym b) tt))
+      (and-both (eqb (rowLayer rows k) (rowLayer rows k)) (eqb (bitOf (overridden rows k) i) 1) (eqb-refl (rowLayer rows k)) (subst (λ (x : ℕ). T (eqb x 1)) (sym b) tt))
 
   overrides-from : (t r : Rule) → T (overrides Q t r) → T (overrides P t r)
   unfolding overrides tabled
@@ -76,42 +76,41 @@ module _ {P : Program} {book rows overridden : List ℕ} (w : Tabulates P book r
     overrides-same = overrides-same;
   }
 
-  pub tabled-table : Tabulates Q book rows overridden
+  pub tabled-table : Tabulates Q book rows
   unfolding tabled rowAt
   tabled-table = record {
     fits = w .fits;
     rules = refl;
-    size = w .size;
     sound = λ j h i b. below-into i j h b;
     full = λ j h r k o. w .full j h r k (overrides-from (rowAt book rows j) r o);
     exact = λ j h i b. let x = w .exact j h i b in (x .0, x .1, x .2, overrides-into j h (x .0) (x .1) (x .3));
   }
 
 -- the table as the code lends it, with n for the facts of its program
-module _ {P : Program} {book rows overridden : List ℕ} {count : ℕ} (made : TableMade P book rows overridden count) {n : ℕ} (e : n ≡ P .atoms) where
-  pub lent-alike : Alike P (tabled book (take (4 * count - 0) rows) (take (count - 0) overridden) n)
-  lent-alike = subst (λ (k : ℕ). Alike P (tabled book (take (4 * count - 0) rows) (take (count - 0) overridden) k)) (sym e) (tabled-alike (lent-table made))
+module _ {P : Program} {book rows : List ℕ} {count : ℕ} (made : TableMade P book rows count) {n : ℕ} (e : n ≡ P .atoms) where
+  pub lent-alike : Alike P (tabled book (take (rowSize * count - 0) rows) n)
+  lent-alike = subst (λ (k : ℕ). Alike P (tabled book (take (rowSize * count - 0) rows) k)) (sym e) (tabled-alike (lent-table made))
 
-  pub lent-tabled : Tabulates (tabled book (take (4 * count - 0) rows) (take (count - 0) overridden) n) book (take (4 * count - 0) rows) (take (count - 0) overridden)
+  pub lent-tabled : Tabulates (tabled book (take (rowSize * count - 0) rows) n) book (take (rowSize * count - 0) rows)
   lent-tabled =
-      subst (λ (k : ℕ). Tabulates (tabled book (take (4 * count - 0) rows) (take (count - 0) overridden) k) book (take (4 * count - 0) rows) (take (count - 0) overridden)) (sym e)
+      subst (λ (k : ℕ). Tabulates (tabled book (take (rowSize * count - 0) rows) k) book (take (rowSize * count - 0) rows)) (sym e)
       (tabled-table (lent-table made))
 
 -- What is worked out once names rows j and k: k's layer is in j's mask, and the heads are opposite.
-unfoldable pub named : List ℕ → List ℕ → List ℕ → ℕ → ℕ → Bool
-named book rows overridden j k =
-    eqb (bitOf (getD overridden j 0) (rowAt book rows k .layer)) 1 && sameLiteral (rowAt book rows j .head) (complement (rowAt book rows k .head))
+unfoldable pub named : List ℕ → List ℕ → ℕ → ℕ → Bool
+named book rows j k =
+    eqb (bitOf (overridden rows j) (rowAt book rows k .layer)) 1 && sameLiteral (rowAt book rows j .head) (complement (rowAt book rows k .head))
 
 -- Two rules are named exactly when they meet all that displacement asks, but for the body.
-module _ {P : Program} {book rows overridden : List ℕ} (w : Tabulates P book rows overridden) where
-  pub named-exactly : (j k : ℕ) → j < rowCount rows → k < rowCount rows → named book rows overridden j k ≡ overrides P (rowAt book rows j) (rowAt book rows k)
+module _ {P : Program} {book rows : List ℕ} (w : Tabulates P book rows) where
+  pub named-exactly : (j k : ℕ) → j < rowCount rows → k < rowCount rows → named book rows j k ≡ overrides P (rowAt book rows j) (rowAt book rows k)
   unfolding named overrides
   named-exactly j k a b =
-      same-test (eqb (bitOf (getD overridden j 0) (rowAt book rows k .layer)) 1 && sameLiteral (rowAt book rows j .head) (complement (rowAt book rows k .head)))
+      same-test (eqb (bitOf (overridden rows j) (rowAt book rows k .layer)) 1 && sameLiteral (rowAt book rows j .head) (complement (rowAt book rows k .head)))
       (P .below (rowAt book rows k .layer) (rowAt book rows j .layer) && sameLiteral (rowAt book rows j .head) (complement (rowAt book rows k .head)))
       (λ t. and-both (P .below (rowAt book rows k .layer) (rowAt book rows j .layer)) (sameLiteral (rowAt book rows j .head) (complement (rowAt book rows k .head)))
-      (w .sound j a (rowAt book rows k .layer) (eqb→eq (bitOf (getD overridden j 0) (rowAt book rows k .layer)) 1 (and-left (eqb (bitOf (getD overridden j 0) (rowAt book rows k .layer)) 1) (sameLiteral (rowAt book rows j .head) (complement (rowAt book rows k .head))) t)))
-      (and-right (eqb (bitOf (getD overridden j 0) (rowAt book rows k .layer)) 1) (sameLiteral (rowAt book rows j .head) (complement (rowAt book rows k .head))) t))
-      (λ o. and-both (eqb (bitOf (getD overridden j 0) (rowAt book rows k .layer)) 1) (sameLiteral (rowAt book rows j .head) (complement (rowAt book rows k .head)))
+      (w .sound j a (rowAt book rows k .layer) (eqb→eq (bitOf (overridden rows j) (rowAt book rows k .layer)) 1 (and-left (eqb (bitOf (overridden rows j) (rowAt book rows k .layer)) 1) (sameLiteral (rowAt book rows j .head) (complement (rowAt book rows k .head))) t)))
+      (and-right (eqb (bitOf (overridden rows j) (rowAt book rows k .layer)) 1) (sameLiteral (rowAt book rows j .head) (complement (rowAt book rows k .head))) t))
+      (λ o. and-both (eqb (bitOf (overridden rows j) (rowAt book rows k .layer)) 1) (sameLiteral (rowAt book rows j .head) (complement (rowAt book rows k .head)))
       (subst (λ (x : ℕ). T (eqb x 1)) (sym (w .full j a (rowAt book rows k) (row-in book rows k b) o)) tt)
       (and-right (P .below (rowAt book rows k .layer) (rowAt book rows j .layer)) (sameLiteral (rowAt book rows j .head) (complement (rowAt book rows k .head))) o))

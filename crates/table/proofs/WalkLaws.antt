@@ -11,6 +11,7 @@ use borrow.Author.Tests.{eq-eqb, ne-eqb}
 use lib.Bits.{bitAnd}
 use lib.ListN.{length, getD, set, length-set, take, drop, length-take}
 use lib.Seq.{getD-set-same, getD-set-other, getD-take, getD-drop, drop-drop, take-nil}
+use Rattle.base.specs.Bounds.{maxAtoms, maxNames, maxLayers, maxRules}
 use Rattle.base.specs.Lists.{consIf, filter, upTo}
 use Rattle.layers.specs.Masks.{bitOf}
 use Rattle.format.specs.Book.{Literal, Rule, literalOf, literalsOf, ruleOf, records, meetsEnd, recordEnd}
@@ -19,7 +20,7 @@ use Rattle.base.proofs.MapLaws.{map-snoc, map-same}
 use Rattle.layers.proofs.WarshallLaws.{test-bit}
 use Rattle.format.proofs.Offsets.{records-cut, records-done, meets-fails, meets-more, count-more}
 use Rattle.table.specs.Names.{literalNamed}
-use Rattle.table.specs.Rows.{rowAt, rowsOf, inMask}
+use Rattle.table.specs.Rows.{rowSize, rowAt, rowsOf, inMask}
 use Rattle.table.specs.Table.{RuleRecord, RuleRecords, RowsMade}
 use Rattle.table.proofs.RowLaws.{row-same}
 
@@ -58,8 +59,8 @@ rule-here s at k =
 pub record RecordAt (s : List ℕ) (at : ℕ) : Type 0 where
   pub long : 3 ≤ getD s at 0
   pub ends : at + 1 + getD s at 0 ≤ length s
-  pub layer-low : getD s (at + 1) 0 < 32
-  pub atom-low : literalOf (getD s (at + 2) 0) (getD s (at + 3) 0) .atom < 256
+  pub layer-low : getD s (at + 1) 0 < maxLayers
+  pub atom-low : literalOf (getD s (at + 2) 0) (getD s (at + 3) 0) .atom < maxAtoms
   pub count : length (records (drop at s)) ≡ 1 + length (records (drop (at + 1 + getD s at 0) s))
   pub whole : meetsEnd (drop (at + 1 + getD s at 0) s) ≡ true
   pub each : (r : List ℕ) → r ∈ records (drop (at + 1 + getD s at 0) s) → RuleRecord r
@@ -94,8 +95,8 @@ module _ (s : List ℕ) (at : ℕ) (h : at < length s) (w : meetsEnd (drop at s)
   record-at = record {
     long = size;
     ends = omega (arith, room);
-    layer-low = subst (λ (r : Rule). r .layer < 32) (rule-here s at size) (first-record .layer-low);
-    atom-low = subst (λ (r : Rule). r .head .atom < 256) (rule-here s at size) (first-record .atom-low);
+    layer-low = subst (λ (r : Rule). r .layer < maxLayers) (rule-here s at size) (first-record .layer-low);
+    atom-low = subst (λ (r : Rule). r .head .atom < maxAtoms) (rule-here s at size) (first-record .atom-low);
     count = count-more s at h;
     whole = sym (meets-more s at h room) ∙ w;
     each = λ r k. every r (subst (λ (rs : List (List ℕ)). r ∈ rs) (sym split) (List·Memᴰ·tail k));
@@ -112,15 +113,15 @@ rules-end p s at h = ap (λ (rs : List (List ℕ)). filter p (map ruleOf rs)) (r
 pub record RowsSoFar (book : List ℕ) (first mask : ℕ) (rows : List ℕ) (k at : ℕ) : Type 0 where
   pub within : at ≤ length book
   pub whole : meetsEnd (drop at book) ≡ true
-  pub room : k + length (records (drop at book)) ≤ 1024
+  pub room : k + length (records (drop at book)) ≤ maxRules
   pub each : (r : List ℕ) → r ∈ records (drop at book) → RuleRecord r
-  pub size : length rows ≡ 4096
-  pub part : (j : ℕ) → j < k → getD rows (4 * j) 0 + getD rows (4 * j + 1) 0 ≤ length book
-  pub name : (j : ℕ) → j < k → getD rows (4 * j + 2) 0 < 512
-  pub layer-low : (j : ℕ) → j < k → getD rows (4 * j + 3) 0 < 32
+  pub size : length rows ≡ rowSize * maxRules
+  pub part : (j : ℕ) → j < k → getD rows (rowSize * j) 0 + getD rows (rowSize * j + 1) 0 ≤ length book
+  pub name : (j : ℕ) → j < k → getD rows (rowSize * j + 2) 0 < maxNames
+  pub layer-low : (j : ℕ) → j < k → getD rows (rowSize * j + 3) 0 < maxLayers
   pub rules : map (rowAt book rows) (upTo k) ++ filter (inMask mask) (map ruleOf (records (drop at book))) ≡ filter (inMask mask) (map ruleOf (records (drop first book)))
 
-pub rows-start : (book : List ℕ) (first mask : ℕ) (rows : List ℕ) → length rows ≡ 4096 → RuleRecords (drop first book) → first ≤ length book → RowsSoFar book first mask rows 0 first
+pub rows-start : (book : List ℕ) (first mask : ℕ) (rows : List ℕ) → length rows ≡ rowSize * maxRules → RuleRecords (drop first book) → first ≤ length book → RowsSoFar book first mask rows 0 first
 unfolding upTo
 rows-start book first mask rows e w h = record {
   within = h;
@@ -139,7 +140,7 @@ module _ {book : List ℕ} {first mask : ℕ} {rows : List ℕ} {k at : ℕ} (w 
   here = record-at book at h (w .whole) (w .each)
 
   -- a row is left for it
-  pub free : k < 1024
+  pub free : k < maxRules
   free = omega (arith, w .room, here .count)
 
   taken : bitAnd (mask / 2 ^ getD book (at + 1) 0) 1 ≡ 1 → inMask mask (ruleAt book at) ≡ true
@@ -170,78 +171,78 @@ module _ {book : List ℕ} {first mask : ℕ} {rows : List ℕ} {k at : ℕ} (w 
         ∙ w .rules;
   }
 
-  module _ (name : ℕ) (en : literalNamed name ≡ literalOf (getD book (at + 2) 0) (getD book (at + 3) 0)) (bn : name < 512) where
+  module _ (name : ℕ) (en : literalNamed name ≡ literalOf (getD book (at + 2) 0) (getD book (at + 3) 0)) (bn : name < maxNames) where
     r1 : List ℕ
-    r1 = set rows (4 * k) (at + 4)
+    r1 = set rows (rowSize * k) (at + 4)
 
     r2 : List ℕ
-    r2 = set r1 (4 * k + 1) (getD book at 0 - 3)
+    r2 = set r1 (rowSize * k + 1) (getD book at 0 - 3)
 
     r3 : List ℕ
-    r3 = set r2 (4 * k + 2) name
+    r3 = set r2 (rowSize * k + 2) name
 
     r4 : List ℕ
-    r4 = set r3 (4 * k + 3) (getD book (at + 1) 0)
+    r4 = set r3 (rowSize * k + 3) (getD book (at + 1) 0)
 
-    l1 : length r1 ≡ 4096
+    l1 : length r1 ≡ rowSize * maxRules
     unfolding r1
-    l1 = length-set rows (4 * k) (at + 4) ∙ w .size
+    l1 = length-set rows (rowSize * k) (at + 4) ∙ w .size
 
-    l2 : length r2 ≡ 4096
+    l2 : length r2 ≡ rowSize * maxRules
     unfolding r2
-    l2 = length-set r1 (4 * k + 1) (getD book at 0 - 3) ∙ l1
+    l2 = length-set r1 (rowSize * k + 1) (getD book at 0 - 3) ∙ l1
 
-    l3 : length r3 ≡ 4096
+    l3 : length r3 ≡ rowSize * maxRules
     unfolding r3
-    l3 = length-set r2 (4 * k + 2) name ∙ l2
+    l3 = length-set r2 (rowSize * k + 2) name ∙ l2
 
-    l4 : length r4 ≡ 4096
+    l4 : length r4 ≡ rowSize * maxRules
     unfolding r4
-    l4 = length-set r3 (4 * k + 3) (getD book (at + 1) 0) ∙ l3
+    l4 = length-set r3 (rowSize * k + 3) (getD book (at + 1) 0) ∙ l3
 
-    old : (i : ℕ) → i < 4 * k → getD r4 i 0 ≡ getD rows i 0
+    old : (i : ℕ) → i < rowSize * k → getD r4 i 0 ≡ getD rows i 0
     unfolding r1 r2 r3 r4
     old i b =
-        getD-set-other r3 (4 * k + 3) i (getD book (at + 1) 0) 0 (omega arith)
-        ∙ getD-set-other r2 (4 * k + 2) i name 0 (omega arith)
-        ∙ getD-set-other r1 (4 * k + 1) i (getD book at 0 - 3) 0 (omega arith)
-        ∙ getD-set-other rows (4 * k) i (at + 4) 0 (omega arith)
+        getD-set-other r3 (rowSize * k + 3) i (getD book (at + 1) 0) 0 (omega arith)
+        ∙ getD-set-other r2 (rowSize * k + 2) i name 0 (omega arith)
+        ∙ getD-set-other r1 (rowSize * k + 1) i (getD book at 0 - 3) 0 (omega arith)
+        ∙ getD-set-other rows (rowSize * k) i (at + 4) 0 (omega arith)
 
-    at3 : getD r4 (4 * k + 3) 0 ≡ getD book (at + 1) 0
+    at3 : getD r4 (rowSize * k + 3) 0 ≡ getD book (at + 1) 0
     unfolding r4
-    at3 = getD-set-same r3 (4 * k + 3) (getD book (at + 1) 0) 0 (omega (arith, l3, free))
+    at3 = getD-set-same r3 (rowSize * k + 3) (getD book (at + 1) 0) 0 (omega (arith, l3, free))
 
-    at2 : getD r4 (4 * k + 2) 0 ≡ name
+    at2 : getD r4 (rowSize * k + 2) 0 ≡ name
     unfolding r3 r4
     at2 =
-        getD-set-other r3 (4 * k + 3) (4 * k + 2) (getD book (at + 1) 0) 0 (omega arith)
-        ∙ getD-set-same r2 (4 * k + 2) name 0 (omega (arith, l2, free))
+        getD-set-other r3 (rowSize * k + 3) (rowSize * k + 2) (getD book (at + 1) 0) 0 (omega arith)
+        ∙ getD-set-same r2 (rowSize * k + 2) name 0 (omega (arith, l2, free))
 
-    at1 : getD r4 (4 * k + 1) 0 ≡ getD book at 0 - 3
+    at1 : getD r4 (rowSize * k + 1) 0 ≡ getD book at 0 - 3
     unfolding r2 r3 r4
     at1 =
-        getD-set-other r3 (4 * k + 3) (4 * k + 1) (getD book (at + 1) 0) 0 (omega arith)
-        ∙ getD-set-other r2 (4 * k + 2) (4 * k + 1) name 0 (omega arith)
-        ∙ getD-set-same r1 (4 * k + 1) (getD book at 0 - 3) 0 (omega (arith, l1, free))
+        getD-set-other r3 (rowSize * k + 3) (rowSize * k + 1) (getD book (at + 1) 0) 0 (omega arith)
+        ∙ getD-set-other r2 (rowSize * k + 2) (rowSize * k + 1) name 0 (omega arith)
+        ∙ getD-set-same r1 (rowSize * k + 1) (getD book at 0 - 3) 0 (omega (arith, l1, free))
 
-    at0 : getD r4 (4 * k) 0 ≡ at + 4
+    at0 : getD r4 (rowSize * k) 0 ≡ at + 4
     unfolding r1 r2 r3 r4
     at0 =
-        getD-set-other r3 (4 * k + 3) (4 * k) (getD book (at + 1) 0) 0 (omega arith)
-        ∙ getD-set-other r2 (4 * k + 2) (4 * k) name 0 (omega arith)
-        ∙ getD-set-other r1 (4 * k + 1) (4 * k) (getD book at 0 - 3) 0 (omega arith)
-        ∙ getD-set-same rows (4 * k) (at + 4) 0 (omega (arith, w .size, free))
+        getD-set-other r3 (rowSize * k + 3) (rowSize * k) (getD book (at + 1) 0) 0 (omega arith)
+        ∙ getD-set-other r2 (rowSize * k + 2) (rowSize * k) name 0 (omega arith)
+        ∙ getD-set-other r1 (rowSize * k + 1) (rowSize * k) (getD book at 0 - 3) 0 (omega arith)
+        ∙ getD-set-same rows (rowSize * k) (at + 4) 0 (omega (arith, w .size, free))
 
     new-row : rowAt book r4 k ≡ ruleAt book at
     unfolding rowAt ruleAt
     new-row =
-        ap (λ (x : ℕ). record { layer = x; head = literalNamed (getD r4 (4 * k + 2) 0); body = literalsOf (take (getD r4 (4 * k + 1) 0) (drop (getD r4 (4 * k) 0) book)) }) at3
-        ∙ ap (λ (x : Literal). record { layer = getD book (at + 1) 0; head = x; body = literalsOf (take (getD r4 (4 * k + 1) 0) (drop (getD r4 (4 * k) 0) book)) }) (ap literalNamed at2 ∙ en)
-        ∙ ap (λ (x : ℕ). record { layer = getD book (at + 1) 0; head = literalOf (getD book (at + 2) 0) (getD book (at + 3) 0); body = literalsOf (take x (drop (getD r4 (4 * k) 0) book)) }) at1
+        ap (λ (x : ℕ). record { layer = x; head = literalNamed (getD r4 (rowSize * k + 2) 0); body = literalsOf (take (getD r4 (rowSize * k + 1) 0) (drop (getD r4 (rowSize * k) 0) book)) }) at3
+        ∙ ap (λ (x : Literal). record { layer = getD book (at + 1) 0; head = x; body = literalsOf (take (getD r4 (rowSize * k + 1) 0) (drop (getD r4 (rowSize * k) 0) book)) }) (ap literalNamed at2 ∙ en)
+        ∙ ap (λ (x : ℕ). record { layer = getD book (at + 1) 0; head = literalOf (getD book (at + 2) 0) (getD book (at + 3) 0); body = literalsOf (take x (drop (getD r4 (rowSize * k) 0) book)) }) at1
         ∙ ap (λ (x : ℕ). record { layer = getD book (at + 1) 0; head = literalOf (getD book (at + 2) 0) (getD book (at + 3) 0); body = literalsOf (take (getD book at 0 - 3) (drop x book)) }) at0
 
     same-old : map (rowAt book r4) (upTo k) ≡ map (rowAt book rows) (upTo k)
-    same-old = map-same (rowAt book r4) (rowAt book rows) k (λ j b. row-same book r4 rows j (λ c d. old (4 * j + c) (omega arith)))
+    same-old = map-same (rowAt book r4) (rowAt book rows) k (λ j b. row-same book r4 rows j (λ c d. old (rowSize * j + c) (omega arith)))
 
     longer : map (rowAt book r4) (upTo (k + 1)) ≡ map (rowAt book rows) (upTo k) ++ (ruleAt book at ∷ [])
     unfolding upTo
@@ -265,11 +266,11 @@ module _ {book : List ℕ} {first mask : ℕ} {rows : List ℕ} {k at : ℕ} (w 
       room = omega (arith, w .room, here .count);
       each = here .each;
       size = l4;
-      part = to-last (λ j. getD r4 (4 * j) 0 + getD r4 (4 * j + 1) 0 ≤ length book)
-          (λ j b. omega (arith, w .part j b, old (4 * j) (omega arith), old (4 * j + 1) (omega arith)))
+      part = to-last (λ j. getD r4 (rowSize * j) 0 + getD r4 (rowSize * j + 1) 0 ≤ length book)
+          (λ j b. omega (arith, w .part j b, old (rowSize * j) (omega arith), old (rowSize * j + 1) (omega arith)))
           (omega (arith, at0, at1, here .ends, here .long));
-      name = to-last (λ j. getD r4 (4 * j + 2) 0 < 512) (λ j b. omega (arith, w .name j b, old (4 * j + 2) (omega arith))) (omega (arith, at2));
-      layer-low = to-last (λ j. getD r4 (4 * j + 3) 0 < 32) (λ j b. omega (arith, w .layer-low j b, old (4 * j + 3) (omega arith))) (omega (arith, at3, here .layer-low));
+      name = to-last (λ j. getD r4 (rowSize * j + 2) 0 < maxNames) (λ j b. omega (arith, w .name j b, old (rowSize * j + 2) (omega arith))) (omega (arith, at2));
+      layer-low = to-last (λ j. getD r4 (rowSize * j + 3) 0 < maxLayers) (λ j b. omega (arith, w .layer-low j b, old (rowSize * j + 3) (omega arith))) (omega (arith, at3, here .layer-low));
       rules =
           ap (λ (x : List Rule). x ++ later) longer
           ∙ append-assoc (map (rowAt book rows) (upTo k)) (ruleAt book at ∷ []) later
@@ -280,8 +281,8 @@ module _ {book : List ℕ} {first mask : ℕ} {rows : List ℕ} {k at : ℕ} (w 
 
 -- at the end: the first k rows are those of the rules that pass the mask
 module _ {book : List ℕ} {first mask : ℕ} {rows : List ℕ} {k at : ℕ} (w : RowsSoFar book first mask rows k at) (h : length book ≤ at) where
-  count : length (take (4 * k) rows) / 4 ≡ k
-  count = let e : length (take (4 * k) rows) ≡ 4 * k = simp length-take (omega (arith, w .size, w .room)) in omega arith
+  count : length (take (rowSize * k) rows) / rowSize ≡ k
+  count = let e : length (take (rowSize * k) rows) ≡ rowSize * k = simp length-take (omega (arith, w .size, w .room)) in omega arith
 
   pub rows-end : RowsMade book first mask rows k
   unfolding rowsOf
@@ -290,14 +291,14 @@ module _ {book : List ℕ} {first mask : ℕ} {rows : List ℕ} {k at : ℕ} (w 
     size = w .size;
     fits = record {
       bounded = record {
-        name = λ j b. let c : j < k = omega (arith, count) in omega (arith, w .name j c, getD-take (4 * k) rows (4 * j + 2) 0 (omega arith));
-        layer-low = λ j b. let c : j < k = omega (arith, count) in omega (arith, w .layer-low j c, getD-take (4 * k) rows (4 * j + 3) 0 (omega arith));
+        name = λ j b. let c : j < k = omega (arith, count) in omega (arith, w .name j c, getD-take (rowSize * k) rows (rowSize * j + 2) 0 (omega arith));
+        layer-low = λ j b. let c : j < k = omega (arith, count) in omega (arith, w .layer-low j c, getD-take (rowSize * k) rows (rowSize * j + 3) 0 (omega arith));
       };
-      part = λ j b. let c : j < k = omega (arith, count) in omega (arith, w .part j c, getD-take (4 * k) rows (4 * j) 0 (omega arith), getD-take (4 * k) rows (4 * j + 1) 0 (omega arith));
+      part = λ j b. let c : j < k = omega (arith, count) in omega (arith, w .part j c, getD-take (rowSize * k) rows (rowSize * j) 0 (omega arith), getD-take (rowSize * k) rows (rowSize * j + 1) 0 (omega arith));
     };
     rules =
-        ap (λ (x : ℕ). map (rowAt book (take (4 * k) rows)) (upTo x)) count
-        ∙ map-same (rowAt book (take (4 * k) rows)) (rowAt book rows) k (λ j b. row-same book (take (4 * k) rows) rows j (λ c d. getD-take (4 * k) rows (4 * j + c) 0 (omega arith)))
+        ap (λ (x : ℕ). map (rowAt book (take (rowSize * k) rows)) (upTo x)) count
+        ∙ map-same (rowAt book (take (rowSize * k) rows)) (rowAt book rows) k (λ j b. row-same book (take (rowSize * k) rows) rows j (λ c d. getD-take (rowSize * k) rows (rowSize * j + c) 0 (omega arith)))
         ∙ sym (append-nil (map (rowAt book rows) (upTo k)))
         ∙ ap (λ (x : List Rule). map (rowAt book rows) (upTo k) ++ x) (sym (rules-end (inMask mask) book at h))
         ∙ w .rules;
@@ -308,10 +309,10 @@ module _ {book : List ℕ} {first mask : ℕ} {rows : List ℕ} {k at : ℕ} (w 
   pub rows-skip : (bitAnd (mask / 2 ^ layer) 1 ≡ 1 → ⊥) → RowsSoFar book first mask rows k (at + 1 + len)
   rows-skip n = subst (λ (x : ℕ). RowsSoFar book first mask rows k (at + 1 + x)) (sym el) (skip w h (subst (λ (x : ℕ). bitAnd (mask / 2 ^ x) 1 ≡ 1 → ⊥) ey n))
 
-  pub rows-more : (name : ℕ) → literalNamed name ≡ literalOf (getD book (at + 2) 0) (getD book (at + 3) 0) → name < 512 → bitAnd (mask / 2 ^ layer) 1 ≡ 1
-      → RowsSoFar book first mask (set (set (set (set rows (4 * k) (at + 4)) (4 * k + 1) (len - 3)) (4 * k + 2) name) (4 * k + 3) layer) (k + 1) (at + 1 + len)
+  pub rows-more : (name : ℕ) → literalNamed name ≡ literalOf (getD book (at + 2) 0) (getD book (at + 3) 0) → name < maxNames → bitAnd (mask / 2 ^ layer) 1 ≡ 1
+      → RowsSoFar book first mask (set (set (set (set rows (rowSize * k) (at + 4)) (rowSize * k + 1) (len - 3)) (rowSize * k + 2) name) (rowSize * k + 3) layer) (k + 1) (at + 1 + len)
   unfolding r1 r2 r3 r4
   rows-more name en bn e =
-      subst (λ (x : ℕ). RowsSoFar book first mask (set (set (set (set rows (4 * k) (at + 4)) (4 * k + 1) (x - 3)) (4 * k + 2) name) (4 * k + 3) layer) (k + 1) (at + 1 + x)) (sym el)
-      (subst (λ (x : ℕ). RowsSoFar book first mask (set (set (set (set rows (4 * k) (at + 4)) (4 * k + 1) (getD book at 0 - 3)) (4 * k + 2) name) (4 * k + 3) x) (k + 1) (at + 1 + getD book at 0)) (sym ey)
+      subst (λ (x : ℕ). RowsSoFar book first mask (set (set (set (set rows (rowSize * k) (at + 4)) (rowSize * k + 1) (x - 3)) (rowSize * k + 2) name) (rowSize * k + 3) layer) (k + 1) (at + 1 + x)) (sym el)
+      (subst (λ (x : ℕ). RowsSoFar book first mask (set (set (set (set rows (rowSize * k) (at + 4)) (rowSize * k + 1) (getD book at 0 - 3)) (rowSize * k + 2) name) (rowSize * k + 3) x) (k + 1) (at + 1 + getD book at 0)) (sym ey)
       (more w h name en bn (subst (λ (x : ℕ). bitAnd (mask / 2 ^ x) 1 ≡ 1) ey e)))

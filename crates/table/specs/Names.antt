@@ -1,4 +1,4 @@
--- Literals as numbers that index an array of 512: a plain literal is its fact, a negated one is 256 more. Assumes nothing.
+-- Literals as numbers that index an array: a plain literal is its fact, a negated one is the bound on facts more. Assumes nothing.
 use mathlib.Core.Bool.{cond}
 use Prim.Native.Nat.{ℕ, _+_, _-_}
 use lib.Dec.{leb}

@@ -3,10 +3,11 @@ use mathlib.Core.Path.{_≡_}
 use mathlib.Core.List.{List}
 use Prim.Native.Nat.{ℕ, _<_}
 use lib.ListN.{length, getD}
+use Rattle.base.specs.Bounds.{maxNames}
 use Rattle.layers.specs.Masks.{bitOf}
 use Rattle.models.specs.StableModels.{complement}
 use Rattle.table.specs.Names.{literalNamed}
-use Rattle.table.specs.Rows.{rowCount, headName, rowLayer}
+use Rattle.table.specs.Rows.{rowCount, headName, rowLayer, overridden}
 
 -- a row before n with the head of name h, in layer i
 pub record HeadAt (rows : List ℕ) (n h i : ℕ) : Type 0 where
@@ -17,7 +18,7 @@ pub record HeadAt (rows : List ℕ) (n h i : ℕ) : Type 0 where
 
 -- bit i of the mask at name h is set exactly where a row before n has that head, in layer i
 pub record HeadLayers (rows masks : List ℕ) (n : ℕ) : Type 0 where
-  pub size : length masks ≡ 512
+  pub size : length masks ≡ maxNames
   pub sound : (h i : ℕ) → bitOf (getD masks h 0) i ≡ 1 → HeadAt rows n h i
   pub full : (h i : ℕ) → HeadAt rows n h i → bitOf (getD masks h 0) i ≡ 1
 
@@ -27,9 +28,9 @@ pub record OpposedAt (rows : List ℕ) (h i : ℕ) : Type 0 where
   pub opposite-is : literalNamed name ≡ complement (literalNamed h)
   pub head-at : HeadAt rows (rowCount rows) name i
 
--- each row's mask: of the layers below its own, exactly those in which a row has the opposite head
-pub record Overridden (rows lower masks : List ℕ) (n : ℕ) : Type 0 where
-  pub sound : (j : ℕ) → j < n → (i : ℕ) → bitOf (getD masks j 0) i ≡ 1 → bitOf (getD lower (rowLayer rows j) 0) i ≡ 1
-  pub opposed : (j : ℕ) → j < n → (i : ℕ) → bitOf (getD masks j 0) i ≡ 1 → OpposedAt rows (headName rows j) i
+-- the masks of the first n rows, as the table has them: of the layers below a row's own, exactly those in which a row has the opposite head
+pub record Overridden (rows lower table : List ℕ) (n : ℕ) : Type 0 where
+  pub sound : (j : ℕ) → j < n → (i : ℕ) → bitOf (overridden table j) i ≡ 1 → bitOf (getD lower (rowLayer rows j) 0) i ≡ 1
+  pub opposed : (j : ℕ) → j < n → (i : ℕ) → bitOf (overridden table j) i ≡ 1 → OpposedAt rows (headName rows j) i
   pub full : (j : ℕ) → j < n → (i h : ℕ) → literalNamed h ≡ complement (literalNamed (headName rows j)) → HeadAt rows (rowCount rows) h i
-      → bitOf (getD lower (rowLayer rows j) 0) i ≡ 1 → bitOf (getD masks j 0) i ≡ 1
+      → bitOf (getD lower (rowLayer rows j) 0) i ≡ 1 → bitOf (overridden table j) i ≡ 1

@@ -1,30 +1,43 @@
--- The rows of the table: four numbers a rule, one rule after the other. Assumes nothing.
+-- The rows of the table: six numbers a rule, one rule after the other. Assumes nothing.
+use mathlib.Core.Path.{_≡_}
 use mathlib.Core.Bool.{Bool}
 use mathlib.Core.List.{List, map}
-use Prim.Native.Nat.{ℕ, _+_, _*_, _/_, _<_, _≤_}
+use Prim.Native.Nat.{ℕ, _+_, _*_, _/_, _%_, _<_, _≤_}
 use lib.Dec.{eqb}
-use lib.ListN.{length, getD, take, drop}
-use Rattle.base.specs.Bounds.{maxLayers}
+use lib.ListN.{length, getD, set, take, drop}
+use Rattle.base.specs.Bounds.{maxNames, maxLayers}
 use Rattle.base.specs.Lists.{upTo}
 use Rattle.layers.specs.Masks.{bitOf}
 use Rattle.format.specs.Book.{Rule, literalsOf}
 use Rattle.table.specs.Names.{literalNamed}
 
+-- numbers of a row
+abbrev pub rowSize : ℕ
+rowSize = 6
+
 abbrev pub rowCount : List ℕ → ℕ
-rowCount rows = length rows / 4
+rowCount rows = length rows / rowSize
 
 -- where the body starts in the book, the body's bytes, the head's name, the layer
 abbrev pub bodyStart : List ℕ → ℕ → ℕ
-bodyStart rows j = getD rows (4 * j) 0
+bodyStart rows j = getD rows (rowSize * j) 0
 
 abbrev pub bodyBytes : List ℕ → ℕ → ℕ
-bodyBytes rows j = getD rows (4 * j + 1) 0
+bodyBytes rows j = getD rows (rowSize * j + 1) 0
 
 abbrev pub headName : List ℕ → ℕ → ℕ
-headName rows j = getD rows (4 * j + 2) 0
+headName rows j = getD rows (rowSize * j + 2) 0
 
 abbrev pub rowLayer : List ℕ → ℕ → ℕ
-rowLayer rows j = getD rows (4 * j + 3) 0
+rowLayer rows j = getD rows (rowSize * j + 3) 0
+
+-- the layers in which it can displace rules, a mask of 32 bits in two halves
+abbrev pub overridden : List ℕ → ℕ → ℕ
+overridden rows j = getD rows (rowSize * j + 4) 0 * 65536 + getD rows (rowSize * j + 5) 0
+
+-- row j with another such mask
+abbrev pub withMask : List ℕ → ℕ → ℕ → List ℕ
+withMask rows j mask = set (set rows (rowSize * j + 4) (mask / 65536)) (rowSize * j + 5) (mask % 65536)
 
 -- its body's bytes
 abbrev pub rowBody : List ℕ → List ℕ → ℕ → List ℕ
@@ -41,15 +54,20 @@ rowAt book rows j = record {
 unfoldable pub rowsOf : List ℕ → List ℕ → List Rule
 rowsOf book rows = map (rowAt book rows) (upTo (rowCount rows))
 
--- every row's name is one of 512, its layer one of 32
+-- every row has the name of a literal and a layer
 pub record RowsBounded (rows : List ℕ) : Type 0 where
-  pub name : (j : ℕ) → j < rowCount rows → headName rows j < 512
+  pub name : (j : ℕ) → j < rowCount rows → headName rows j < maxNames
   pub layer-low : (j : ℕ) → j < rowCount rows → rowLayer rows j < maxLayers
 
 -- and every row's body lies in the book
 pub record RowsFit (book rows : List ℕ) : Type 0 where
   pub bounded : RowsBounded rows
   pub part : (j : ℕ) → j < rowCount rows → bodyStart rows j + bodyBytes rows j ≤ length book
+
+-- the rows are the same, but for what they displace
+pub record SameRules (rows other : List ℕ) : Type 0 where
+  pub size : length other ≡ length rows
+  pub same : (j c : ℕ) → c < 4 → getD other (rowSize * j + c) 0 ≡ getD rows (rowSize * j + c) 0
 
 -- a rule whose layer is in the mask
 unfoldable pub inMask : ℕ → Rule → Bool

@@ -12,7 +12,7 @@ use Rattle.layers.specs.Masks.{bitOf}
 use Rattle.format.specs.Book.{Rule, records, meetsEnd, ruleOf, bookOf}
 use Rattle.models.specs.Program.{Program, programAt}
 use Rattle.models.specs.StableModels.{overrides}
-use Rattle.table.specs.Rows.{rowCount, rowAt, rowsOf, inMask, RowsFit}
+use Rattle.table.specs.Rows.{rowSize, rowCount, overridden, rowAt, rowsOf, inMask, RowsFit}
 
 -- the program that a book's bytes give at a layer
 abbrev pub programOf : List ℕ → ℕ → Program
@@ -43,24 +43,22 @@ pub record Prepared (book : List ℕ) (first : ℕ) (lower : List ℕ) : Type 0 
 -- the first `count` rows are those of the rules that pass the mask, in order
 pub record RowsMade (book : List ℕ) (first mask : ℕ) (rows : List ℕ) (count : ℕ) : Type 0 where
   pub room : count ≤ maxRules
-  pub size : length rows ≡ 4 * maxRules
-  pub fits : RowsFit book (take (4 * count) rows)
-  pub rules : rowsOf book (take (4 * count) rows) ≡ filter (inMask mask) (map ruleOf (records (drop first book)))
+  pub size : length rows ≡ rowSize * maxRules
+  pub fits : RowsFit book (take (rowSize * count) rows)
+  pub rules : rowsOf book (take (rowSize * count) rows) ≡ filter (inMask mask) (map ruleOf (records (drop first book)))
 
--- The table of a program: its rules as rows, and for each row the mask of the layers in which it overrides a rule.
-pub record Tabulates (P : Program) (book rows overridden : List ℕ) : Type 0 where
+-- The table of a program: its rules as rows, each with the mask of the layers in which it overrides a rule.
+pub record Tabulates (P : Program) (book rows : List ℕ) : Type 0 where
   pub fits : RowsFit book rows
   pub rules : rowsOf book rows ≡ P .rules
-  pub size : length overridden ≡ rowCount rows
-  pub sound : (j : ℕ) → j < rowCount rows → (i : ℕ) → bitOf (getD overridden j 0) i ≡ 1 → T (P .below i (rowAt book rows j .layer))
+  pub sound : (j : ℕ) → j < rowCount rows → (i : ℕ) → bitOf (overridden rows j) i ≡ 1 → T (P .below i (rowAt book rows j .layer))
   pub full : (j : ℕ) → j < rowCount rows → (r : Rule) → List·Memᴰ r (rowsOf book rows) → T (overrides P (rowAt book rows j) r)
-      → bitOf (getD overridden j 0) (r .layer) ≡ 1
-  pub exact : (j : ℕ) → j < rowCount rows → (i : ℕ) → bitOf (getD overridden j 0) i ≡ 1
+      → bitOf (overridden rows j) (r .layer) ≡ 1
+  pub exact : (j : ℕ) → j < rowCount rows → (i : ℕ) → bitOf (overridden rows j) i ≡ 1
       → (r : Rule) × List·Memᴰ r (rowsOf book rows) × (r .layer ≡ i) × T (overrides P (rowAt book rows j) r)
 
--- the first `count` rows and masks are the table
-pub record TableMade (P : Program) (book rows overridden : List ℕ) (count : ℕ) : Type 0 where
+-- the first `count` rows are the table
+pub record TableMade (P : Program) (book rows : List ℕ) (count : ℕ) : Type 0 where
   pub room : count ≤ maxRules
-  pub row-size : length rows ≡ 4 * maxRules
-  pub mask-size : length overridden ≡ maxRules
-  pub table : Tabulates P book (take (4 * count) rows) (take count overridden)
+  pub size : length rows ≡ rowSize * maxRules
+  pub table : Tabulates P book (take (rowSize * count) rows)

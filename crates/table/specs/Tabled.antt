@@ -3,16 +3,15 @@ use mathlib.Core.Bool.{_&&_}
 use mathlib.Core.List.{List}
 use Prim.Native.Nat.{ℕ}
 use lib.Dec.{eqb}
-use lib.ListN.{getD}
 use Rattle.base.specs.Lists.{any, upTo}
 use Rattle.layers.specs.Masks.{bitOf}
 use Rattle.models.specs.Program.{Program}
-use Rattle.table.specs.Rows.{rowCount, rowLayer, rowsOf}
+use Rattle.table.specs.Rows.{rowCount, rowLayer, overridden, rowsOf}
 
 -- its rules are the rows; layer i is below j where a row of layer j has bit i in its mask
-unfoldable pub tabled : List ℕ → List ℕ → List ℕ → ℕ → Program
-tabled book rows overridden n = record {
+unfoldable pub tabled : List ℕ → List ℕ → ℕ → Program
+tabled book rows n = record {
   atoms = n;
   rules = rowsOf book rows;
-  below = λ i j. any (λ k. eqb (rowLayer rows k) j && eqb (bitOf (getD overridden k 0) i) 1) (upTo (rowCount rows));
+  below = λ i j. any (λ k. eqb (rowLayer rows k) j && eqb (bitOf (overridden rows k) i) 1) (upTo (rowCount rows));
 }

@@ -1,18 +1,24 @@
-// The table of the rules that count at a layer, as the test and the search read it: four numbers a rule in one flat array,
-// and for each rule the mask of the layers in which it overrides rules. Made once a call; bodies stay where they are in the book.
+// The table of the rules that count at a layer, as the test and the search read it: six numbers a rule in one flat array, with the
+// mask of the layers in which it overrides rules. Made once a call; bodies stay where they are in the book.
 ghost use mathlib.Core.Path.{_≡_};
 ghost use Prim.Native.Nat.{_*_, _<_, _≤_};
-ghost use Rattle.base.specs.Bounds.{maxRules};
+ghost use Rattle.base.specs.Bounds.{maxAtoms, maxNames, maxLayers, maxRules};
 ghost use lib.ListN.{length, drop};
 ghost use Rattle.base.specs.Lists.{all};
 ghost use Rattle.format.specs.Book.{literalOf, literalsOf};
 ghost use Rattle.models.specs.StableModels.{atomHolds, complement, holds, bodyHolds};
 ghost use Rattle.table.specs.Names.{literalNamed};
-ghost use Rattle.table.specs.Rows.{rowCount, headName, rowLayer, rowBody, rowAt, RowsBounded, RowsFit};
+ghost use Rattle.table.specs.Rows.{rowSize, rowCount, headName, rowLayer, overridden, withMask, rowBody, rowAt, RowsBounded, RowsFit, SameRules};
 ghost use Rattle.table.specs.Overriding.{HeadLayers, Overridden};
 ghost use Rattle.table.specs.Table.{programOf, RuleRecords, Prepared, RowsMade, TableMade};
+use base::MAX_ATOMS;
+use base::MAX_LAYERS;
+use base::MAX_NAMES;
 use base::wide;
 use base::wide16;
+
+// Numbers of a row.
+pub const ROW_SIZE: usize = 6;
 
 // Whether an atom holds: one that the array does not have does not.
 pub fn atom_holds(m: &[bool], f: usize) -> bool
@@ -54,18 +60,26 @@ pub fn body_holds(m: &[bool], body: &[u8]) -> bool
 pub fn row_head(rows: &[u16], j: usize) -> usize
     requires { ⌜ RowsBounded (now rows) ⌝ }
     requires { ⌜ j < rowCount (now rows) ⌝ }
-    ensures { λ r. ⌜ (r ≡ headName (now (rows .entry)) j) × (r < 512) ⌝ }
+    ensures { λ r. ⌜ (r ≡ headName (now (rows .entry)) j) × (r < maxNames) ⌝ }
 {
-    wide16(rows[4 * j + 2])
+    wide16(rows[ROW_SIZE * j + 2])
 }
 
 // A row's layer.
 pub fn row_layer(rows: &[u16], j: usize) -> usize
     requires { ⌜ RowsBounded (now rows) ⌝ }
     requires { ⌜ j < rowCount (now rows) ⌝ }
-    ensures { λ r. ⌜ (r ≡ rowLayer (now (rows .entry)) j) × (r < 32) ⌝ }
+    ensures { λ r. ⌜ (r ≡ rowLayer (now (rows .entry)) j) × (r < maxLayers) ⌝ }
 {
-    wide16(rows[4 * j + 3])
+    wide16(rows[ROW_SIZE * j + 3])
+}
+
+// The mask of the layers in which a row overrides rules.
+pub fn row_overridden(rows: &[u16], j: usize) -> u32
+    requires { ⌜ j < rowCount (now rows) ⌝ }
+    ensures { λ r. ⌜ r ≡ overridden (now (rows .entry)) j ⌝ }
+{
+    (wide16(rows[ROW_SIZE * j + 4]) * 65536 + wide16(rows[ROW_SIZE * j + 5])) as u32
 }
 
 // A row's body, as a part of the book that starts in its middle.
@@ -74,8 +88,8 @@ pub fn row_body<'a>(book: &'a [u8], rows: &[u16], j: usize) -> &'a [u8]
     requires { ⌜ j < rowCount (now rows) ⌝ }
     ensures { λ r. ⌜ now r ≡ rowBody (now (book .entry)) (now (rows .entry)) j ⌝ }
 {
-    let from = wide16(rows[4 * j]);
-    let to = from + wide16(rows[4 * j + 1]);
+    let from = wide16(rows[ROW_SIZE * j]);
+    let to = from + wide16(rows[ROW_SIZE * j + 1]);
     &book[from..to]
 }
 
@@ -90,24 +104,25 @@ pub fn row_holds(book: &[u8], rows: &[u16], m: &[bool], j: usize) -> bool
 
 // The name of the opposite literal.
 pub fn opposite(h: usize) -> usize
-    requires { ⌜ h < 512 ⌝ }
-    ensures { λ r. ⌜ (literalNamed r ≡ complement (literalNamed h)) × (r < 512) ⌝ }
+    requires { ⌜ h < maxNames ⌝ }
+    ensures { λ r. ⌜ (literalNamed r ≡ complement (literalNamed h)) × (r < maxNames) ⌝ }
 {
-    if h < 256 {
-        return h + 256;
+    if h < MAX_ATOMS {
+        return h + MAX_ATOMS;
     }
-    h - 256
+    h - MAX_ATOMS
 }
 
 // The name of the literal of two bytes.
 fn name_of(a: u8, b: u8) -> usize
-    requires { ⌜ literalOf a b .atom < 256 ⌝ }
-    ensures { λ r. ⌜ (literalNamed r ≡ literalOf a b) × (r < 512) ⌝ }
+    requires { ⌜ literalOf a b .atom < maxAtoms ⌝ }
+    ensures { λ r. ⌜ (literalNamed r ≡ literalOf a b) × (r < maxNames) ⌝ }
 {
-    if a < 128 {
-        return wide(b);
+    let v = wide(a) * 256 + wide(b);
+    if v < 32768 {
+        return v;
     }
-    wide(b) + 256
+    v - 32768 + MAX_ATOMS
 }
 
 // Writes the rows of the rules whose layer is in the mask, in their order, and says how many there are: one walk over the records by
@@ -116,7 +131,7 @@ pub fn make_rows(book: &[u8], first: usize, mask: u32, rows: &mut [u16]) -> usiz
     requires { ⌜ RuleRecords (drop first (now book)) ⌝ }
     requires { ⌜ first ≤ length (now book) ⌝ }
     requires { ⌜ length (now book) < 65536 ⌝ }
-    requires { ⌜ length (now rows) ≡ 4 * maxRules ⌝ }
+    requires { ⌜ length (now rows) ≡ rowSize * maxRules ⌝ }
     ensures { λ r. ⌜ RowsMade (now (book .entry)) first mask (now (rows .exit)) r ⌝ }
 {
     let mut count = 0;
@@ -126,7 +141,7 @@ pub fn make_rows(book: &[u8], first: usize, mask: u32, rows: &mut [u16]) -> usiz
         let layer = wide(book[at + 1]);
         if (mask >> (layer as u32)) & 1 == 1 {
             let head = name_of(book[at + 2], book[at + 3]);
-            let i = 4 * count;
+            let i = ROW_SIZE * count;
             rows[i] = (at + 4) as u16;
             rows[i + 1] = (len - 3) as u16;
             rows[i + 2] = head as u16;
@@ -139,12 +154,12 @@ pub fn make_rows(book: &[u8], first: usize, mask: u32, rows: &mut [u16]) -> usiz
 }
 
 // Bit i at name h: a row has this head, in layer i.
-fn head_layers(rows: &[u16]) -> [u32; 512]
+fn head_layers(rows: &[u16]) -> [u32; MAX_NAMES]
     requires { ⌜ RowsBounded (now rows) ⌝ }
     ensures { λ r. ⌜ HeadLayers (now (rows .entry)) r (rowCount (now (rows .entry))) ⌝ }
 {
-    let count = rows.len() / 4;
-    let mut masks: [u32; 512] = [0; 512];
+    let count = rows.len() / ROW_SIZE;
+    let mut masks: [u32; MAX_NAMES] = [0; MAX_NAMES];
     let mut j = 0;
     while j < count {
         let h = row_head(rows, j);
@@ -155,19 +170,27 @@ fn head_layers(rows: &[u16]) -> [u32; 512]
     masks
 }
 
+// Writes a row's mask.
+fn put_overridden(rows: &mut [u16], j: usize, mask: u32)
+    requires { ⌜ j < rowCount (now rows) ⌝ }
+    ensures { λ _. ⌜ now (rows .exit) ≡ withMask (now (rows .entry)) j mask ⌝ }
+{
+    rows[ROW_SIZE * j + 4] = (mask / 65536) as u16;
+    rows[ROW_SIZE * j + 5] = (mask % 65536) as u16;
+}
+
 // Writes each row's mask of the layers in which it overrides a rule: `lower` has each layer's mask of the layers below it.
-pub fn overridden_layers(rows: &[u16], lower: [u32; 32], masks: &mut [u32])
+pub fn overridden_layers(rows: &mut [u16], lower: [u32; MAX_LAYERS])
     requires { ⌜ RowsBounded (now rows) ⌝ }
-    requires { ⌜ rowCount (now rows) ≤ length (now masks) ⌝ }
-    ensures { λ _. ⌜ Overridden (now (rows .entry)) lower (now (masks .exit)) (rowCount (now (rows .entry))) ⌝ }
+    ensures { λ _. ⌜ SameRules (now (rows .entry)) (now (rows .exit)) × Overridden (now (rows .entry)) lower (now (rows .exit)) (rowCount (now (rows .entry))) ⌝ }
 {
     let heads = head_layers(rows);
-    let count = rows.len() / 4;
+    let count = rows.len() / ROW_SIZE;
     let mut j = 0;
     while j < count {
         let o = opposite(row_head(rows, j));
         let layer = row_layer(rows, j);
-        masks[j] = heads[o] & lower[layer];
+        put_overridden(rows, j, heads[o] & lower[layer]);
         j += 1;
     }
 }
@@ -177,16 +200,15 @@ pub fn rule_table(
     book: &[u8],
     first: usize,
     layer: usize,
-    lower: [u32; 32],
+    lower: [u32; MAX_LAYERS],
     rows: &mut [u16],
-    overridden: &mut [u32],
 ) -> usize
     requires { ⌜ Prepared (now book) first lower ⌝ }
-    requires { ⌜ layer < 32 ⌝ }
-    requires { ⌜ (length (now rows) ≡ 4 * maxRules) × (length (now overridden) ≡ maxRules) ⌝ }
-    ensures { λ r. ⌜ TableMade (programOf (now (book .entry)) layer) (now (book .entry)) (now (rows .exit)) (now (overridden .exit)) r ⌝ }
+    requires { ⌜ layer < maxLayers ⌝ }
+    requires { ⌜ length (now rows) ≡ rowSize * maxRules ⌝ }
+    ensures { λ r. ⌜ TableMade (programOf (now (book .entry)) layer) (now (book .entry)) (now (rows .exit)) r ⌝ }
 {
     let count = make_rows(book, first, lower[layer] | (1 << (layer as u32)), rows);
-    overridden_layers(&rows[0..4 * count], lower, overridden);
+    overridden_layers(&mut rows[0..ROW_SIZE * count], lower);
     count
 }

@@ -2,6 +2,7 @@
 use mathlib.Core.Path.{_≡_, refl, subst}
 use Prim.Native.Nat.{_-_, _/_, _≤_}
 use lib.ListN.{length}
+use Rattle.table.specs.Rows.{rowSize}
 use Rattle.table.specs.Overriding.{HeadLayers}
 use Rattle.table.proofs.OverridingLaws.{heads-start, heads-more}
 use borrow.Author.Needs.{needs}
@@ -10,7 +11,7 @@ use Rattle.table.proofs.head_layers.Statement.{statement}
 use Rattle.table.proofs.head_layers.Tie as tie
 
 abbrev Inv-loop : tie.InvT-loop
-Inv-loop rows count masks₀ j₀ masks j = (count ≡ length rows / 4) × (j ≤ count) × HeadLayers rows masks j
+Inv-loop rows count masks₀ j₀ masks j = (count ≡ length rows / rowSize) × (j ≤ count) × HeadLayers rows masks j
 
 abbrev μ-loop : tie.MeasureT-loop
 μ-loop rows count masks₀ j₀ masks j = count - j
@@ -57,7 +58,7 @@ returns : tie.Need-returns Inv-loop μ-loop
 returns c =
     let l = c .before .loop in
     let rows = c .before .before .before .args .rows .now in
-    subst (HeadLayers rows (l .masks)) {x = l .j} {y = length rows / 4} (omega (arith, c .loop-test .left, l .inv .1)) (l .inv .2)
+    subst (HeadLayers rows (l .masks)) {x = l .j} {y = length rows / rowSize} (omega (arith, c .loop-test .left, l .inv .1)) (l .inv .2)
 
 pub head-layers-spec : {M : Type 1} → statement M
 head-layers-spec =

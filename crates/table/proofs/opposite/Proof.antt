@@ -1,4 +1,4 @@
--- A name and its opposite are 256 apart.
+-- A name and its opposite are as far apart as there may be facts.
 use Rattle.table.proofs.NameLaws.{opposite-low, opposite-high}
 use borrow.Author.Needs.{needs}
 use Rattle.table.proofs.opposite.Statement.{statement}

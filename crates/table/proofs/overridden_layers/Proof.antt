@@ -1,26 +1,31 @@
--- The invariant: the masks of the rows passed have the lower layers in which the opposite head stands. The rows left fall.
-use mathlib.Core.Path.{_≡_, refl, subst}
+-- The invariant: the masks of the rows passed have the lower layers in which the opposite head stands, and the other numbers of the rows
+-- are as they were. The rows left fall.
+use mathlib.Core.Path.{_≡_, refl, sym, subst, _∙_}
 use Prim.Native.Nat.{_-_, _/_, _≤_}
-use lib.ListN.{length, length-set}
+use lib.Bits.{bitAnd}
+use lib.ListN.{length, getD}
+use Rattle.table.specs.Rows.{rowSize, RowsBounded, SameRules}
 use Rattle.table.specs.Overriding.{Overridden}
-use Rattle.table.proofs.OverridingLaws.{overridden-start, overridden-more}
+use Rattle.table.proofs.RowLaws.{bounded-same}
+use Rattle.table.proofs.OverridingLaws.{overridden-start, rules-start, rules-more, overridden-more}
 use borrow.Author.Needs.{needs}
 use native.Mathlib.Omega.{arith}
 use Rattle.table.proofs.overridden_layers.Statement.{statement}
 use Rattle.table.proofs.overridden_layers.Tie as tie
 
 abbrev Inv-loop : tie.InvT-loop
-Inv-loop rows masks₀ lower heads count j₀ masks j = (count ≡ length rows / 4) × (j ≤ count) × (length masks ≡ length masks₀) × Overridden rows lower masks j
+Inv-loop rows₀ lower heads count j₀ rows j = (count ≡ length rows₀ / rowSize) × (j ≤ count) × SameRules rows₀ rows × Overridden rows₀ lower rows j × RowsBounded rows
 
 abbrev μ-loop : tie.MeasureT-loop
-μ-loop rows masks₀ lower heads count j₀ masks j = count - j
+μ-loop rows₀ lower heads count j₀ rows j = count - j
 
 head-layers-requires : tie.Need-head-layers-requires Inv-loop μ-loop
 head-layers-requires c κs = search needs
 
 loop-holds : tie.Need-loop-holds Inv-loop μ-loop
-loop-holds c =
-    (refl, omega arith, refl, overridden-start (c .before .before .before .args .rows .now) (c .before .before .before .args .t2) _)
+loop-holds c = 
+    let e = c .before .before .before in
+    (refl, omega arith, rules-start (e .args .rows .now), overridden-start (e .args .rows .now) (e .args .t2) (e .args .rows .now), e .pre)
 
 row-head-requires : tie.Need-row-head-requires Inv-loop μ-loop
 row-head-requires c κs = search needs
@@ -31,23 +36,22 @@ opposite-requires c κs = search needs
 row-layer-requires : tie.Need-row-layer-requires Inv-loop μ-loop
 row-layer-requires c κs = search needs
 
-mul-masks : tie.Need-mul-masks Inv-loop μ-loop
-mul-masks c = search needs
+mul-put-overridden : tie.Need-mul-put-overridden Inv-loop μ-loop
+mul-put-overridden c = search needs
 
-array-read-masks : tie.Need-array-read-masks Inv-loop μ-loop
-array-read-masks c = search needs
+array-read-put-overridden : tie.Need-array-read-put-overridden Inv-loop μ-loop
+array-read-put-overridden c = search needs
 
-mul-masks-2 : tie.Need-mul-masks-2 Inv-loop μ-loop
-mul-masks-2 c = search needs
+mul-put-overridden-2 : tie.Need-mul-put-overridden-2 Inv-loop μ-loop
+mul-put-overridden-2 c = search needs
 
-array-read-masks-2 : tie.Need-array-read-masks-2 Inv-loop μ-loop
-array-read-masks-2 c = search needs
+array-read-put-overridden-2 : tie.Need-array-read-put-overridden-2 Inv-loop μ-loop
+array-read-put-overridden-2 c = search needs
 
-mul-masks-3 : tie.Need-mul-masks-3 Inv-loop μ-loop
-mul-masks-3 c = search needs
-
-slice-write-masks : tie.Need-slice-write-masks Inv-loop μ-loop
-slice-write-masks c = search needs
+put-overridden-requires : tie.Need-put-overridden-requires Inv-loop μ-loop
+put-overridden-requires c κs = 
+    let l = c .before .before .before .before .before .before .before .loop in
+    omega (arith, l .inv .0, l .inv .2 .size, c .before .before .before .before .before .before .loop-test .taken)
 
 add-j : tie.Need-add-j Inv-loop μ-loop
 add-j c = search needs
@@ -56,19 +60,24 @@ loop-less : tie.Need-loop-less Inv-loop μ-loop
 loop-less c = search needs
 
 loop-again : tie.Need-loop-again Inv-loop μ-loop
-loop-again c =
-    let l = c .before .before .before .before .loop in
-    let e = c .before .before .before .before .before .before .before .before .args in
-    (refl, omega arith, simp length-set (l .inv .2), overridden-more (e .rows .now) (e .t2) (c .before .before .before .before .before .head-layers .result) (l .masks) (l .j) (c .before .before .row-head .result) (c .before .opposite .result) (c .row-layer .result) (l .inv .3) (omega (arith, c .before .before .before .before .before .before .before .before .pre .1, l .inv .0, l .inv .2)) (c .before .before .before .before .before .head-layers .ensures) (c .before .before .row-head .ensures .0) (c .before .opposite .ensures .0) (c .row-layer .ensures .0))
+loop-again c = 
+    let l = c .before .before .before .before .before .before .before .before .before .before .loop in
+    let e = c .before .before .before .before .before .before .before .before .before .before .before .before .before .before in
+    let heads = c .before .before .before .before .before .before .before .before .before .before .before .head-layers in
+    let o = c .before .before .before .before .before .before .opposite in
+    let h = c .before .before .before .before .before .before .before .row-head in
+    let y = c .before .before .before .before .row-layer in
+    let rules = rules-more (e .args .rows .now) (l .rows) (l .inv .2) (l .j) (bitAnd (getD (heads .result) (o .result) 0) (getD (e .args .t2) (y .result) 0)) (search needs) in
+    rw (c .before .before .put-overridden .ensures) (refl, omega arith, rules, overridden-more (e .args .rows .now) (e .args .t2) (heads .result) (l .rows) (l .inv .2) (l .j) (h .result) (o .result) (y .result) (l .inv .3) (search needs) (heads .ensures) (h .ensures .0 ∙ l .inv .2 .same (l .j) 2 (omega arith)) (o .ensures .0) (y .ensures .0 ∙ l .inv .2 .same (l .j) 3 (omega arith)), bounded-same rules (e .pre))
 
 same-length : tie.Need-same-length Inv-loop μ-loop
 same-length c = search needs
 
 returns : tie.Need-returns Inv-loop μ-loop
-returns c =
+returns c = 
     let l = c .before .loop in
     let e = c .before .before .before .before .before .args in
-    subst (Overridden (e .rows .now) (e .t2) (l .masks)) {x = l .j} {y = length (e .rows .now) / 4} (omega (arith, c .loop-test .left, l .inv .1)) (l .inv .3)
+    (l .inv .2, subst (Overridden (e .rows .now) (e .t2) (l .rows)) {x = l .j} {y = length (e .rows .now) / rowSize} (omega (arith, c .loop-test .left, l .inv .1)) (l .inv .3))
 
 pub overridden-layers-spec : {M : Type 1} → statement M
 overridden-layers-spec =
@@ -81,12 +90,11 @@ overridden-layers-spec =
     row-head-requires
     opposite-requires
     row-layer-requires
-    mul-masks
-    array-read-masks
-    mul-masks-2
-    array-read-masks-2
-    mul-masks-3
-    slice-write-masks
+    mul-put-overridden
+    array-read-put-overridden
+    mul-put-overridden-2
+    array-read-put-overridden-2
+    put-overridden-requires
     add-j
     loop-less
     loop-again

@@ -1,8 +1,7 @@
--- `rule_table` meets its contract: the rows are those of the relevant rules, since the mask has the driven layer and those below it;
--- the masks are theirs. Assumes nothing.
+-- The rows are those of the relevant rules, since the mask has the driven layer and those below it; their masks are written in front
+-- of what is left of the array.
 use mathlib.Core.Path.{refl}
-use Rattle.table.proofs.TableLaws.{lent-bounded, lent-room, table-made}
-use native.Mathlib.Omega.{arith}
+use Rattle.table.proofs.TableLaws.{lent-bounded, table-made}
 use borrow.Author.Needs.{needs}
 use Rattle.table.proofs.rule_table.Statement.{statement}
 use Rattle.table.proofs.rule_table.Tie as tie
@@ -35,19 +34,17 @@ part-overridden-layers-end : tie.Need-part-overridden-layers-end
 part-overridden-layers-end c = search needs
 
 overridden-layers-requires : tie.Need-overridden-layers-requires
-overridden-layers-requires c κs = let w = c .before .before .before .before .before .make-rows in (lent-bounded _ _ _ _ (w .result) (w .ensures), omega (arith, lent-room _ _ _ _ (w .result) (w .ensures), c .before .before .before .before .before .before .before .before .before .before .pre .1 .1 .1))
+overridden-layers-requires c κs = let w = c .before .before .before .make-rows in lent-bounded _ _ _ _ (w .result) (w .ensures)
 
 same-length : tie.Need-same-length
 same-length c = search needs
 
-same-length-2 : tie.Need-same-length-2
-same-length-2 c = search needs
-
 returns : tie.Need-returns
-returns c =
-    let s = c .before .before .before .before .before .before .before .before .before .before .before .before .before in
-    let w = c .before .before .before .before .before .before .before .before .make-rows in
-    table-made (s .args .book .now) (s .args .first) _ _ (w .result) (w .ensures) (s .args .t4) (s .pre .0) (s .args .layer) (s .pre .1 .0) refl _ (search needs) (c .before .before .overridden-layers .ensures)
+returns c = 
+    let s = c .before .before .before .before .before .before .before .before .before .before in
+    let w = c .before .before .before .before .before .before .make-rows in
+    let o = c .before .before .overridden-layers in
+    table-made (s .args .book .now) (s .args .first) _ _ (w .result) (w .ensures) _ (o .ensures .0) (s .args .t4) (s .pre .0) (s .args .layer) (s .pre .1 .0) refl (o .ensures .1)
 
 pub rule-table-spec : {M : Type 1} → statement M
 rule-table-spec =
@@ -64,5 +61,4 @@ rule-table-spec =
     part-overridden-layers-end
     overridden-layers-requires
     same-length
-    same-length-2
     returns)
