@@ -6,11 +6,13 @@ ghost use lib.ListN.{length};
 ghost use Rattle.base.specs.Bounds.{maxAtoms, maxLayers, maxRules};
 ghost use Rattle.layers.specs.Masks.{LowerMasks};
 ghost use Rattle.format.specs.Book.{arrowsOf, bookOf};
+ghost use Rattle.table.specs.Rows.{rowSize};
 ghost use Rattle.table.specs.Table.{programOf, TableMade};
 ghost use Rattle.book.specs.Causes.{firstOf};
 ghost use Rattle.book.specs.Checks.{Checks};
 ghost use Rattle.accepted.specs.Accepted.{IsAccepted, rulesStart};
 ghost use Rattle.accepted.specs.Driven.{layerTests};
+use base::MAX_LAYERS;
 use base::wide;
 use book::Cause;
 use book::Checked;
@@ -45,20 +47,14 @@ pub fn rules_start(book: &[u8]) -> usize
 }
 
 // Writes the table of the rules that count at a layer, from each layer's mask of the layers below it, and says how many there are.
-pub fn prepare(
-    book: &[u8],
-    layer: usize,
-    lower: [u32; 32],
-    rows: &mut [u16],
-    overridden: &mut [u32],
-) -> usize
+pub fn prepare(book: &[u8], layer: usize, lower: [u32; MAX_LAYERS], rows: &mut [u16]) -> usize
     requires { ⌜ IsAccepted (now book) ⌝ }
     requires { ⌜ layer < bookOf (now book) .layers ⌝ }
     requires { ⌜ LowerMasks (arrowsOf (now book)) lower ⌝ }
-    requires { ⌜ (length (now rows) ≡ 4 * maxRules) × (length (now overridden) ≡ maxRules) ⌝ }
-    ensures { λ r. ⌜ TableMade (programOf (now (book .entry)) layer) (now (book .entry)) (now (rows .exit)) (now (overridden .exit)) r ⌝ }
+    requires { ⌜ length (now rows) ≡ rowSize * maxRules ⌝ }
+    ensures { λ r. ⌜ TableMade (programOf (now (book .entry)) layer) (now (book .entry)) (now (rows .exit)) r ⌝ }
 {
-    rule_table(book, rules_start(book), layer, lower, rows, overridden)
+    rule_table(book, rules_start(book), layer, lower, rows)
 }
 
 // Accepted, with the masks, or refused for the first of causes 1 to 9 that applies: what every call that drives a layer asks first.

@@ -41,7 +41,7 @@ marking-end body rejecting marks₀ i marks w h = record {
 
 -- one literal more
 module _ (body : List ℕ) (rejecting : Bool) (marks₀ : List Bool) (i : ℕ) (marks : List Bool) (w : Marking body rejecting marks₀ i marks) (h : 2 ≤ length body - i)
-    (v : ℕ) (ev : v ≡ getD body i 0 * 256 + getD body (i + 1) 0) (t : Bool) (et : t ≡ (ltb (v % 32768) 256 && (leb 32768 v || rejecting))) where
+    (v : ℕ) (ev : v ≡ getD body i 0 * 256 + getD body (i + 1) 0) (t : Bool) (et : t ≡ (ltb (v % 32768) maxAtoms && (leb 32768 v || rejecting))) where
   here : ℕ → Bool
   here f = eqb (v % 32768) f && (leb 32768 v || rejecting)
 
@@ -61,15 +61,15 @@ module _ (body : List ℕ) (rejecting : Bool) (marks₀ : List Bool) (i : ℕ) (
           ∙ ap (λ (c : Bool). atomHolds marks f || c) (sym (opened f)) ∙ w .same f b;
     }
 
-  pub small : t ≡ true → v % 32768 < 256
-  small q = ltb-true (v % 32768) 256 (and-left (ltb (v % 32768) 256) (leb 32768 v || rejecting) (sym et ∙ q))
+  pub small : t ≡ true → v % 32768 < maxAtoms
+  small q = ltb-true (v % 32768) maxAtoms (and-left (ltb (v % 32768) maxAtoms) (leb 32768 v || rejecting) (sym et ∙ q))
 
   pub marking-set : t ≡ true → length marks ≡ maxAtoms → Marking body rejecting marks₀ (i + 2) (set marks (v % 32768) true)
   unfolding here atomHolds
   marking-set q l = marked-more (set marks (v % 32768) true) (length-set marks (v % 32768) true) (λ f b. go f (ℕ-discrete (v % 32768) f))
     where
       yes-it : (leb 32768 v || rejecting) ≡ true
-      yes-it = and-right (ltb (v % 32768) 256) (leb 32768 v || rejecting) (sym et ∙ q)
+      yes-it = and-right (ltb (v % 32768) maxAtoms) (leb 32768 v || rejecting) (sym et ∙ q)
 
       go : (f : ℕ) → Dec (v % 32768 ≡ f) → getD (set marks (v % 32768) true) f false ≡ (getD marks f false || (eqb (v % 32768) f && (leb 32768 v || rejecting)))
       go f (yes e) =
@@ -88,15 +88,15 @@ module _ (body : List ℕ) (rejecting : Bool) (marks₀ : List Bool) (i : ℕ) (
       off : (f : ℕ) → f < maxAtoms → Dec (v % 32768 ≡ f) → (eqb (v % 32768) f && (leb 32768 v || rejecting)) ≡ false
       off f b (no n) = rw (ne-eqb (v % 32768) f n) refl
       off f b (yes e) =
-          let z : (leb 32768 v || rejecting) ≡ false = rw (lt-ltb (v % 32768) 256 (omega arith)) at (sym et ∙ q) in
+          let z : (leb 32768 v || rejecting) ≡ false = rw (lt-ltb (v % 32768) maxAtoms (omega arith)) at (sym et ∙ q) in
           rw (eq-eqb (v % 32768) f e, z) refl
 
 -- the test of one literal, as the code makes it
-pub not-small : (v : ℕ) (rejecting : Bool) → 256 ≤ v % 32768 → false ≡ (ltb (v % 32768) 256 && (leb 32768 v || rejecting))
-not-small v rejecting h = sym (rw (le-ltb (v % 32768) 256 h) refl)
+pub not-small : (v : ℕ) (rejecting : Bool) → maxAtoms ≤ v % 32768 → false ≡ (ltb (v % 32768) maxAtoms && (leb 32768 v || rejecting))
+not-small v rejecting h = sym (rw (le-ltb (v % 32768) maxAtoms h) refl)
 
-pub negated-branches : (v : ℕ) (rejecting : Bool) → v % 32768 < 256 → 32768 ≤ v → true ≡ (ltb (v % 32768) 256 && (leb 32768 v || rejecting))
-negated-branches v rejecting h k = sym (rw (lt-ltb (v % 32768) 256 h, le-leb 32768 v k) refl)
+pub negated-branches : (v : ℕ) (rejecting : Bool) → v % 32768 < maxAtoms → 32768 ≤ v → true ≡ (ltb (v % 32768) maxAtoms && (leb 32768 v || rejecting))
+negated-branches v rejecting h k = sym (rw (lt-ltb (v % 32768) maxAtoms h, le-leb 32768 v k) refl)
 
-pub plain-branches : (v : ℕ) (rejecting : Bool) → v % 32768 < 256 → v < 32768 → rejecting ≡ (ltb (v % 32768) 256 && (leb 32768 v || rejecting))
-plain-branches v rejecting h k = sym (rw (lt-ltb (v % 32768) 256 h, lt-leb 32768 v k) refl)
+pub plain-branches : (v : ℕ) (rejecting : Bool) → v % 32768 < maxAtoms → v < 32768 → rejecting ≡ (ltb (v % 32768) maxAtoms && (leb 32768 v || rejecting))
+plain-branches v rejecting h k = sym (rw (lt-ltb (v % 32768) maxAtoms h, lt-leb 32768 v k) refl)

@@ -21,7 +21,7 @@ use Rattle.format.specs.Book.{Rule, literalsOf}
 use Rattle.models.specs.Program.{Program}
 use Rattle.models.specs.StableModels.{atomHolds, overrides}
 use Rattle.models.specs.Branching.{canReject, branching}
-use Rattle.table.specs.Rows.{rowCount, rowBody, rowAt, rowsOf}
+use Rattle.table.specs.Rows.{rowCount, overridden, rowBody, rowAt, rowsOf}
 use Rattle.table.specs.Table.{Tabulates}
 use Rattle.branching.specs.Marks.{branchesIn, BodyMarked, BranchingMarks}
 
@@ -35,9 +35,9 @@ module _ (P : Program) (book rows : List ℕ) where
     pub size : length marks ≡ maxAtoms
     pub marked : (f : ℕ) → f < maxAtoms → atomHolds marks f ≡ any (rowBranches f) (upTo j)
 
-  pub rows-start : RowsMarked 0 (replicate {A = Bool} 256 false)
+  pub rows-start : RowsMarked 0 (replicate {A = Bool} maxAtoms false)
   unfolding atomHolds any upTo
-  rows-start = record { inside = omega arith; size = refl; marked = λ f b. constant-at false 256 f }
+  rows-start = record { inside = omega arith; size = refl; marked = λ f b. constant-at false maxAtoms f }
 
   one-more : (f j : ℕ) → any (rowBranches f) (upTo (j + 1)) ≡ (any (rowBranches f) (upTo j) || rowBranches f j)
   unfolding upTo any
@@ -50,31 +50,31 @@ module _ (P : Program) (book rows : List ℕ) where
   any-map p [] = refl
   any-map p (x ∷ xs) = ap (λ (c : Bool). p (rowAt book rows x) || c) (any-map p xs)
 
-module _ (P : Program) (book rows masks : List ℕ) (w : Tabulates P book rows masks) where
+module _ (P : Program) (book rows : List ℕ) (w : Tabulates P book rows) where
   -- some rule is overridden exactly where the mask is not 0
-  rejecting-is : (j : ℕ) → j < rowCount rows → not (eqb (getD masks j 0) 0) ≡ canReject P (rowAt book rows j)
+  rejecting-is : (j : ℕ) → j < rowCount rows → not (eqb (overridden rows j) 0) ≡ canReject P (rowAt book rows j)
   unfolding canReject
-  rejecting-is j h = same-test (not (eqb (getD masks j 0) 0)) (any (overrides P (rowAt book rows j)) (P .rules)) (λ t. from (ℕ-discrete (getD masks j 0) 0) t) (λ t. into (any-at (overrides P (rowAt book rows j)) (P .rules) t))
+  rejecting-is j h = same-test (not (eqb (overridden rows j) 0)) (any (overrides P (rowAt book rows j)) (P .rules)) (λ t. from (ℕ-discrete (overridden rows j) 0) t) (λ t. into (any-at (overrides P (rowAt book rows j)) (P .rules) t))
     where
-      from : Dec (getD masks j 0 ≡ 0) → T (not (eqb (getD masks j 0) 0)) → T (any (overrides P (rowAt book rows j)) (P .rules))
-      from (yes e) t = absurd (subst (λ (c : Bool). T (not c)) (eq-eqb (getD masks j 0) 0 e) t)
+      from : Dec (overridden rows j ≡ 0) → T (not (eqb (overridden rows j) 0)) → T (any (overrides P (rowAt book rows j)) (P .rules))
+      from (yes e) t = absurd (subst (λ (c : Bool). T (not c)) (eq-eqb (overridden rows j) 0 e) t)
       from (no n) t =
-          let b = some-bit (suc (getD masks j 0)) (getD masks j 0) (omega arith) (omega arith) in
+          let b = some-bit (suc (overridden rows j)) (overridden rows j) (omega arith) (omega arith) in
           let x = w .exact j h (b .0) (b .1) in
           any-of (overrides P (rowAt book rows j)) (subst (λ (rs : List Rule). x .0 ∈ rs) (w .rules) (x .1)) (x .3)
 
-      into : (r : Rule) × r ∈ P .rules × T (overrides P (rowAt book rows j) r) → T (not (eqb (getD masks j 0) 0))
-      into x = go (ℕ-discrete (getD masks j 0) 0)
+      into : (r : Rule) × r ∈ P .rules × T (overrides P (rowAt book rows j) r) → T (not (eqb (overridden rows j) 0))
+      into x = go (ℕ-discrete (overridden rows j) 0)
         where
-          bit : bitOf (getD masks j 0) (x .0 .layer) ≡ 1
+          bit : bitOf (overridden rows j) (x .0 .layer) ≡ 1
           bit = w .full j h (x .0) (subst (λ (rs : List Rule). x .0 ∈ rs) (sym (w .rules)) (x .1)) (x .2)
 
-          go : Dec (getD masks j 0 ≡ 0) → T (not (eqb (getD masks j 0) 0))
+          go : Dec (overridden rows j ≡ 0) → T (not (eqb (overridden rows j) 0))
           go (yes e) = absurd (no-bit (x .0 .layer) (subst (λ (y : ℕ). bitOf y (x .0 .layer) ≡ 1) e bit))
-          go (no n) = subst (λ (c : Bool). T (not c)) (sym (ne-eqb (getD masks j 0) 0 n)) tt
+          go (no n) = subst (λ (c : Bool). T (not c)) (sym (ne-eqb (overridden rows j) 0 n)) tt
 
   pub rows-more : (j : ℕ) → j < rowCount rows → (marks next : List Bool) → RowsMarked P book rows j marks → (body : List ℕ) → body ≡ rowBody book rows j
-      → (t : Bool) → t ≡ not (eqb (getD masks j 0) 0) → BodyMarked body t marks next → RowsMarked P book rows (j + 1) next
+      → (t : Bool) → t ≡ not (eqb (overridden rows j) 0) → BodyMarked body t marks next → RowsMarked P book rows (j + 1) next
   unfolding rowBranches rowAt
   rows-more j h marks next m body eb t eq b = record {
     inside = omega arith;

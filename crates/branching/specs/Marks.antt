@@ -5,7 +5,7 @@ use mathlib.Core.List.{List}
 use Prim.Native.Nat.{ℕ, _<_, _≤_}
 use lib.Dec.{eqb}
 use lib.ListN.{length, take}
-use Rattle.base.specs.Bounds.{maxAtoms}
+use Rattle.base.specs.Bounds.{maxAtoms, maxBranching}
 use Rattle.base.specs.Lists.{any}
 use Rattle.format.specs.Book.{Literal, literalsOf}
 use Rattle.models.specs.Program.{Program}
@@ -26,9 +26,8 @@ pub record BranchingMarks (P : Program) (marks : List Bool) : Type 0 where
   pub size : length marks ≡ maxAtoms
   pub marked : (f : ℕ) → f < maxAtoms → atomHolds marks f ≡ branching P f
 
--- the first g of the list are the branching facts, rising
+-- How many the branching facts are; where a search goes through them, they stand in the list, rising.
 pub record Listed (P : Program) (atoms : List ℕ) (g : ℕ) : Type 0 where
-  pub size : length atoms ≡ maxAtoms
-  pub few : g ≤ maxAtoms
-  pub atoms-are : take g atoms ≡ branchingAtoms P
+  pub size : length atoms ≡ maxBranching
   pub count-is : g ≡ branchingCount P
+  pub atoms-are : g ≤ maxBranching → take g atoms ≡ branchingAtoms P

@@ -1,26 +1,24 @@
 // The branching facts of a program, from its table: by both grounds, each once, rising.
 ghost use mathlib.Core.Path.{_≡_};
-ghost use mathlib.Core.Bool.{_&&_, _||_};
+ghost use mathlib.Core.Bool.{false, _&&_, _||_};
 ghost use Prim.Native.Nat.{_%_, _<_, _≤_};
 ghost use lib.Dec.{leb, ltb};
+ghost use lib.ListN.{length, set, replicate};
+ghost use Rattle.base.specs.Bounds.{maxAtoms, maxBranching};
 ghost use Rattle.table.specs.Table.{Tabulates};
 ghost use Rattle.table.specs.Tabled.{tabled};
 ghost use Rattle.branching.specs.Marks.{BodyMarked, BranchingMarks, Listed};
 use base::MAX_ATOMS;
 use base::wide;
+use table::ROW_SIZE;
 use table::row_body;
+use table::row_overridden;
 
-// The branching facts, in the first `count` places.
-pub struct Atoms {
-    pub atoms: [u8; MAX_ATOMS],
-    pub count: usize,
-}
-
-// Whether the literal of number v makes its fact branch: it is negated, or its rule can displace. No fact is 256 or more.
+// Whether the literal of number v makes its fact branch: it is negated, or its rule can displace. No fact is past the bound.
 fn branches(v: usize, rejecting: bool) -> bool
-    ensures { λ r. ⌜ r ≡ (ltb (v % 32768) 256 && (leb 32768 v || rejecting)) ⌝ }
+    ensures { λ r. ⌜ r ≡ (ltb (v % 32768) maxAtoms && (leb 32768 v || rejecting)) ⌝ }
 {
-    if 256 <= v % 32768 {
+    if MAX_ATOMS <= v % 32768 {
         return false;
     }
     if 32768 <= v {
@@ -30,53 +28,62 @@ fn branches(v: usize, rejecting: bool) -> bool
 }
 
 // Marks the facts of a body that branch.
-fn mark_body(body: &[u8], rejecting: bool, marks: [bool; MAX_ATOMS]) -> [bool; MAX_ATOMS]
-    ensures { λ r. ⌜ BodyMarked (now (body .entry)) rejecting marks r ⌝ }
+fn mark_body(body: &[u8], rejecting: bool, marks: &mut [bool])
+    requires { ⌜ length (now marks) ≡ maxAtoms ⌝ }
+    ensures { λ _. ⌜ BodyMarked (now (body .entry)) rejecting (now (marks .entry)) (now (marks .exit)) ⌝ }
 {
-    let mut r = marks;
     let mut i: usize = 0;
     while 2 <= body.len() - i {
         let v = wide(body[i]) * 256 + wide(body[i + 1]);
         if branches(v, rejecting) {
-            r[v % 32768] = true;
+            marks[v % 32768] = true;
         }
         i += 2;
     }
-    r
 }
 
-// Marks the branching facts: a rule can displace exactly where its mask of overridden layers is not empty.
-pub fn mark_branching(book: &[u8], rows: &[u16], overridden: &[u32], n: usize) -> [bool; MAX_ATOMS]
-    requires { ⌜ Tabulates (tabled (now book) (now rows) (now overridden) n) (now book) (now rows) (now overridden) ⌝ }
-    ensures { λ r. ⌜ BranchingMarks (tabled (now (book .entry)) (now (rows .entry)) (now (overridden .entry)) n) r ⌝ }
+// Marks the branching facts, where nothing is marked yet: a rule can displace exactly where its mask of overridden layers is not
+// empty. How many facts there are plays no part.
+fn mark_branching(book: &[u8], rows: &[u16], marks: &mut [bool])
+    requires { ⌜ Tabulates (tabled (now book) (now rows) 0) (now book) (now rows) ⌝ }
+    requires { ⌜ now marks ≡ replicate maxAtoms false ⌝ }
+    ensures { λ _. ⌜ BranchingMarks (tabled (now (book .entry)) (now (rows .entry)) 0) (now (marks .exit)) ⌝ }
 {
-    let count = rows.len() / 4;
-    let mut marks: [bool; MAX_ATOMS] = [false; MAX_ATOMS];
+    let count = rows.len() / ROW_SIZE;
     let mut j = 0;
     while j < count {
-        let next = mark_body(row_body(book, rows, j), overridden[j] != 0, marks);
-        marks = next;
+        mark_body(row_body(book, rows, j), row_overridden(rows, j) != 0, marks);
         j += 1;
     }
-    marks
 }
 
-// The branching facts, rising.
-pub fn branching_atoms(book: &[u8], rows: &[u16], overridden: &[u32], n: usize) -> Atoms
-    requires { ⌜ Tabulates (tabled (now book) (now rows) (now overridden) n) (now book) (now rows) (now overridden) ⌝ }
-    requires { ⌜ (n ≤ 256) ⌝ }
-    ensures { λ r. ⌜ Listed (tabled (now (book .entry)) (now (rows .entry)) (now (overridden .entry)) n) (r .atoms) (r .count) ⌝ }
+// Puts a fact at a place of the list, where it has one.
+fn put_atom(atoms: &mut [u32], at: usize, f: usize)
+    requires { ⌜ f < maxAtoms ⌝ }
+    ensures { λ _. ⌜ now (atoms .exit) ≡ set (now (atoms .entry)) at f ⌝ }
 {
-    let marks = mark_branching(book, rows, overridden, n);
-    let mut atoms: [u8; MAX_ATOMS] = [0; MAX_ATOMS];
+    if at < atoms.len() {
+        atoms[at] = f as u32;
+    }
+}
+
+// Lists the branching facts, rising, and says how many they are. More than a search goes through have no place in the list.
+pub fn branching_atoms(book: &[u8], rows: &[u16], n: usize, atoms: &mut [u32]) -> usize
+    requires { ⌜ Tabulates (tabled (now book) (now rows) n) (now book) (now rows) ⌝ }
+    requires { ⌜ n ≤ maxAtoms ⌝ }
+    requires { ⌜ length (now atoms) ≡ maxBranching ⌝ }
+    ensures { λ r. ⌜ Listed (tabled (now (book .entry)) (now (rows .entry)) n) (now (atoms .exit)) r ⌝ }
+{
+    let mut marks = [false; MAX_ATOMS];
+    mark_branching(book, rows, &mut marks);
     let mut count = 0;
     let mut f = 0;
     while f < n {
         if marks[f] {
-            atoms[count] = f as u8;
+            put_atom(atoms, count, f);
             count += 1;
         }
         f += 1;
     }
-    Atoms { atoms, count }
+    count
 }
