@@ -10,8 +10,9 @@ ghost use Rattle.format.specs.Book.{literalOf, literalsOf};
 ghost use Rattle.table.specs.Names.{literalNamed};
 ghost use Rattle.table.specs.Rows.{rowCount, rowAt, RowsFit};
 ghost use Rattle.filling.specs.Marks.{literalMarked, alive, adds, Grown, PassEnd, FilledOn, Fills};
-use base::wide;
 use base::wide16;
+use base::wide;
+use table::ROW_SIZE;
 use table::opposite;
 use table::row_body;
 use table::row_head;
@@ -197,7 +198,7 @@ fn replay(
     requires { ⌜ length (now hints) ≡ 2048 ⌝ }
     ensures { λ _. ⌜ Grown (now (book .entry)) (now (rows .entry)) (now (rejects .entry)) (now (positive .entry)) (now (negative .entry)) (now (positive .exit)) (now (negative .exit)) ⌝ }
 {
-    let count = rows.len() / 4;
+    let count = rows.len() / ROW_SIZE;
     let end = wide16(hints[1024]) % 1025;
     let mut i = 1;
     while i < end {
@@ -330,7 +331,7 @@ fn propagate(
     requires { ⌜ length (now hints) ≡ 2048 ⌝ }
     ensures { λ _. ⌜ Grown (now (book .entry)) (now (rows .entry)) (now (rejects .entry)) (now (positive .entry)) (now (negative .entry)) (now (positive .exit)) (now (negative .exit)) ⌝ }
 {
-    let count = rows.len() / 4;
+    let count = rows.len() / ROW_SIZE;
     if 1024 < count {
         return;
     }
@@ -399,7 +400,7 @@ fn pass(
     requires { ⌜ length (now hints) ≡ 2048 ⌝ }
     ensures { λ r. ⌜ PassEnd (now (book .entry)) (now (rows .entry)) (now (rejects .entry)) (now (positive .entry)) (now (negative .entry)) (now (positive .exit)) (now (negative .exit)) (r .added) (r .conflict) ⌝ }
 {
-    let count = rows.len() / 4;
+    let count = rows.len() / ROW_SIZE;
     let mut added = false;
     let mut j = 0;
     while j < count {

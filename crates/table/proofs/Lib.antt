@@ -5,3 +5,4 @@ pub mod WalkLaws
 pub mod OverridingLaws
 pub mod TableLaws
 pub mod TabledLaws
+pub mod NamedLaws

@@ -17,7 +17,7 @@ use Rattle.models.proofs.AlikeLaws.{Alike}
 use Rattle.table.specs.Rows.{rowSize, rowCount, rowLayer, overridden, rowAt, rowsOf}
 use Rattle.table.specs.Table.{Tabulates, TableMade}
 use Rattle.table.specs.Tabled.{tabled}
-use Rattle.table.proofs.RowLaws.{row-in, row-of}
+use Rattle.table.proofs.RowLaws.{row-of}
 use Rattle.table.proofs.TableLaws.{lent-table}
 
 pub tabled-atoms : (book rows : List ℕ) (n : ℕ) → tabled book rows n .atoms ≡ n
@@ -95,22 +95,3 @@ module _ {P : Program} {book rows : List ℕ} {count : ℕ} (made : TableMade P 
   lent-tabled =
       subst (λ (k : ℕ). Tabulates (tabled book (take (rowSize * count - 0) rows) k) book (take (rowSize * count - 0) rows)) (sym e)
       (tabled-table (lent-table made))
-
--- What is worked out once names rows j and k: k's layer is in j's mask, and the heads are opposite.
-unfoldable pub named : List ℕ → List ℕ → ℕ → ℕ → Bool
-named book rows j k =
-    eqb (bitOf (overridden rows j) (rowAt book rows k .layer)) 1 && sameLiteral (rowAt book rows j .head) (complement (rowAt book rows k .head))
-
--- Two rules are named exactly when they meet all that displacement asks, but for the body.
-module _ {P : Program} {book rows : List ℕ} (w : Tabulates P book rows) where
-  pub named-exactly : (j k : ℕ) → j < rowCount rows → k < rowCount rows → named book rows j k ≡ overrides P (rowAt book rows j) (rowAt book rows k)
-  unfolding named overrides
-  named-exactly j k a b =
-      same-test (eqb (bitOf (overridden rows j) (rowAt book rows k .layer)) 1 && sameLiteral (rowAt book rows j .head) (complement (rowAt book rows k .head)))
-      (P .below (rowAt book rows k .layer) (rowAt book rows j .layer) && sameLiteral (rowAt book rows j .head) (complement (rowAt book rows k .head)))
-      (λ t. and-both (P .below (rowAt book rows k .layer) (rowAt book rows j .layer)) (sameLiteral (rowAt book rows j .head) (complement (rowAt book rows k .head)))
-      (w .sound j a (rowAt book rows k .layer) (eqb→eq (bitOf (overridden rows j) (rowAt book rows k .layer)) 1 (and-left (eqb (bitOf (overridden rows j) (rowAt book rows k .layer)) 1) (sameLiteral (rowAt book rows j .head) (complement (rowAt book rows k .head))) t)))
-      (and-right (eqb (bitOf (overridden rows j) (rowAt book rows k .layer)) 1) (sameLiteral (rowAt book rows j .head) (complement (rowAt book rows k .head))) t))
-      (λ o. and-both (eqb (bitOf (overridden rows j) (rowAt book rows k .layer)) 1) (sameLiteral (rowAt book rows j .head) (complement (rowAt book rows k .head)))
-      (subst (λ (x : ℕ). T (eqb x 1)) (sym (w .full j a (rowAt book rows k) (row-in book rows k b) o)) tt)
-      (and-right (P .below (rowAt book rows k .layer) (rowAt book rows j .layer)) (sameLiteral (rowAt book rows j .head) (complement (rowAt book rows k .head))) o))

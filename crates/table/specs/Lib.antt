@@ -3,3 +3,4 @@ pub mod Rows
 pub mod Overriding
 pub mod Table
 pub mod Tabled
+pub mod Named

@@ -12,12 +12,13 @@ use lib.Bits.{bitOr}
 use lib.Dec.{T}
 use lib.ListN.{getD, set, length-set, replicate, length-replicate}
 use lib.Seq.{getD-set-same, getD-set-other}
+use Rattle.base.specs.Bounds.{maxAtoms, maxNames}
 use Rattle.layers.specs.Masks.{bitOf}
 use Rattle.format.specs.Book.{Literal}
 use Rattle.models.specs.StableModels.{Interpretation, atomHolds, positive, complement, signed, holds, bodyHolds}
 use Rattle.layers.proofs.BitLaws.{no-bits, zero-bit, or-cases, or-left, or-right}
 use Rattle.table.specs.Names.{literalNamed}
-use Rattle.table.specs.Rows.{headName, rowAt}
+use Rattle.table.specs.Rows.{headName, rowAt, overridden}
 use Rattle.table.proofs.NameLaws.{name-low, name-high, one-name}
 use Rattle.tester.specs.Masks.{Rejection, RejectedMasks, Support, Supported, Violation, Decided, Uncontested, Others}
 use Rattle.filling.specs.Marks.{alive}
@@ -35,35 +36,35 @@ pub mask-off : (c : Bool) (u : ℕ) (r : Bool) → r ≡ c → r ≡ false → 0
 mask-off c u r e t = ap (λ (x : Bool). cond x u 0) (sym t ∙ e)
 
 -- rejection
-module _ {book rows overridden : List ℕ} {m : Interpretation} where
-  pub rejects-start : RejectedMasks book rows overridden m (replicate {A = ℕ} 512 0) 0
+module _ {book rows : List ℕ} {m : Interpretation} where
+  pub rejects-start : RejectedMasks book rows m (replicate {A = ℕ} maxNames 0) 0
   rejects-start = record {
-    size = length-replicate {A = ℕ} 512 0;
-    sound = λ h i e. absurd (zero-bit (getD (replicate {A = ℕ} 512 0) h 0) i (no-bits 512 h) e);
+    size = length-replicate {A = ℕ} maxNames 0;
+    sound = λ h i e. absurd (zero-bit (getD (replicate {A = ℕ} maxNames 0) h 0) i (no-bits maxNames h) e);
     full = λ h i x b. absurd (omega (arith, x .before));
   }
 
-  later : {j h i : ℕ} → Rejection book rows overridden m j h i → Rejection book rows overridden m (j + 1) h i
+  later : {j h i : ℕ} → Rejection book rows m j h i → Rejection book rows m (j + 1) h i
   later x = record { row = x .row; before = omega (arith, x .before); facing = x .facing; holds-in = x .holds-in; bit = x .bit }
 
   -- one row on that rejects nothing: its body does not hold, or it overrides no rule
-  pub rejects-skip : {rejects : List ℕ} {j : ℕ} → RejectedMasks book rows overridden m rejects j → (mask : ℕ) → mask ≡ cond (bodyHolds m (rowAt book rows j)) (getD overridden j 0) 0 → mask ≡ 0
-      → RejectedMasks book rows overridden m rejects (j + 1)
+  pub rejects-skip : {rejects : List ℕ} {j : ℕ} → RejectedMasks book rows m rejects j → (mask : ℕ) → mask ≡ cond (bodyHolds m (rowAt book rows j)) (overridden rows j) 0 → mask ≡ 0
+      → RejectedMasks book rows m rejects (j + 1)
   rejects-skip {rejects} {j} w mask e z = record { size = w .size; sound = λ x i y. later (w .sound x i y); full = λ x i y k. go x i y k (decLt (y .row) j) }
     where
-      none : (c : Bool) (i : ℕ) → mask ≡ cond c (getD overridden j 0) 0 → T c → bitOf (getD overridden j 0) i ≡ 1 → ⊥
-      none true i q t a = zero-bit (getD overridden j 0) i (sym q ∙ z) a
+      none : (c : Bool) (i : ℕ) → mask ≡ cond c (overridden rows j) 0 → T c → bitOf (overridden rows j) i ≡ 1 → ⊥
+      none true i q t a = zero-bit (overridden rows j) i (sym q ∙ z) a
       none false i q t a = absurd t
 
-      go : (x i : ℕ) (y : Rejection book rows overridden m (j + 1) x i) → x < 512 → Dec (y .row < j) → bitOf (getD rejects x 0) i ≡ 1
+      go : (x i : ℕ) (y : Rejection book rows m (j + 1) x i) → x < maxNames → Dec (y .row < j) → bitOf (getD rejects x 0) i ≡ 1
       go x i y k (yes a) = w .full x i (record { row = y .row; before = a; facing = y .facing; holds-in = y .holds-in; bit = y .bit }) k
       go x i y k (no n) =
           let q : y .row ≡ j = omega (arith, y .before) in
-          absurd (none (bodyHolds m (rowAt book rows j)) i e (subst (λ (r : ℕ). T (bodyHolds m (rowAt book rows r))) q (y .holds-in)) (subst (λ (r : ℕ). bitOf (getD overridden r 0) i ≡ 1) q (y .bit)))
+          absurd (none (bodyHolds m (rowAt book rows j)) i e (subst (λ (r : ℕ). T (bodyHolds m (rowAt book rows r))) q (y .holds-in)) (subst (λ (r : ℕ). bitOf (overridden rows r) i ≡ 1) q (y .bit)))
 
   -- one row on: at the name o opposite to the row's head h, the row's mask joins
-  module _ {rejects : List ℕ} {j : ℕ} (w : RejectedMasks book rows overridden m rejects j) (h o mask : ℕ) (eh : h ≡ headName rows j)
-      (eo : literalNamed o ≡ complement (literalNamed h)) (b : o < 512) (e : mask ≡ cond (bodyHolds m (rowAt book rows j)) (getD overridden j 0) 0) where
+  module _ {rejects : List ℕ} {j : ℕ} (w : RejectedMasks book rows m rejects j) (h o mask : ℕ) (eh : h ≡ headName rows j)
+      (eo : literalNamed o ≡ complement (literalNamed h)) (b : o < maxNames) (e : mask ≡ cond (bodyHolds m (rowAt book rows j)) (overridden rows j) 0) where
     abbrev joined : ℕ
     joined = bitOr (getD rejects o 0) mask
 
@@ -71,31 +72,31 @@ module _ {book rows overridden : List ℕ} {m : Interpretation} where
     unfolding rowAt
     faces = eo ∙ ap (λ (x : ℕ). complement (literalNamed x)) eh
 
-    from-mask : (i : ℕ) → bitOf mask i ≡ 1 → T (bodyHolds m (rowAt book rows j)) × (bitOf (getD overridden j 0) i ≡ 1)
+    from-mask : (i : ℕ) → bitOf mask i ≡ 1 → T (bodyHolds m (rowAt book rows j)) × (bitOf (overridden rows j) i ≡ 1)
     from-mask i = go (bodyHolds m (rowAt book rows j)) e
       where
-        go : (c : Bool) → mask ≡ cond c (getD overridden j 0) 0 → bitOf mask i ≡ 1 → T c × (bitOf (getD overridden j 0) i ≡ 1)
+        go : (c : Bool) → mask ≡ cond c (overridden rows j) 0 → bitOf mask i ≡ 1 → T c × (bitOf (overridden rows j) i ≡ 1)
         go true q z = (tt, rw q at z)
         go false q z = absurd (zero-bit mask i q z)
 
-    to-mask : (i : ℕ) → T (bodyHolds m (rowAt book rows j)) → bitOf (getD overridden j 0) i ≡ 1 → bitOf mask i ≡ 1
+    to-mask : (i : ℕ) → T (bodyHolds m (rowAt book rows j)) → bitOf (overridden rows j) i ≡ 1 → bitOf mask i ≡ 1
     to-mask i = go (bodyHolds m (rowAt book rows j)) e
       where
-        go : (c : Bool) → mask ≡ cond c (getD overridden j 0) 0 → T c → bitOf (getD overridden j 0) i ≡ 1 → bitOf mask i ≡ 1
+        go : (c : Bool) → mask ≡ cond c (overridden rows j) 0 → T c → bitOf (overridden rows j) i ≡ 1 → bitOf mask i ≡ 1
         go true q t z = rw q z
         go false q t z = absurd t
 
     at-o : (x : ℕ) → x ≡ o → getD (set rejects o joined) x 0 ≡ joined
     at-o x q = ap (λ (y : ℕ). getD (set rejects o joined) y 0) q ∙ getD-set-same rejects o joined 0 (omega (arith, w .size))
 
-    pub rejects-more : RejectedMasks book rows overridden m (set rejects o joined) (j + 1)
+    pub rejects-more : RejectedMasks book rows m (set rejects o joined) (j + 1)
     rejects-more = record {
       size = length-set rejects o joined ∙ w .size;
       sound = λ x i z. sound-at x i (ℕ-discrete x o) z;
       full = λ x i y k. full-at x i y k (decLt (y .row) j);
     }
       where
-        sound-at : (x i : ℕ) → Dec (x ≡ o) → bitOf (getD (set rejects o joined) x 0) i ≡ 1 → Rejection book rows overridden m (j + 1) x i
+        sound-at : (x i : ℕ) → Dec (x ≡ o) → bitOf (getD (set rejects o joined) x 0) i ≡ 1 → Rejection book rows m (j + 1) x i
         sound-at x i (no n) z = later (w .sound x i (subst (λ (y : ℕ). bitOf y i ≡ 1) (getD-set-other rejects o x joined 0 n) z))
         sound-at x i (yes q) z =
             ⊎-elim
@@ -107,22 +108,22 @@ module _ {book rows overridden : List ℕ} {m : Interpretation} where
         keeps x i (no n) z = subst (λ (y : ℕ). bitOf y i ≡ 1) (sym (getD-set-other rejects o x joined 0 n)) z
         keeps x i (yes q) z = subst (λ (y : ℕ). bitOf y i ≡ 1) (sym (at-o x q)) (or-left (getD rejects o 0) mask i (subst (λ (y : ℕ). bitOf (getD rejects y 0) i ≡ 1) q z))
 
-        full-at : (x i : ℕ) (y : Rejection book rows overridden m (j + 1) x i) → x < 512 → Dec (y .row < j) → bitOf (getD (set rejects o joined) x 0) i ≡ 1
+        full-at : (x i : ℕ) (y : Rejection book rows m (j + 1) x i) → x < maxNames → Dec (y .row < j) → bitOf (getD (set rejects o joined) x 0) i ≡ 1
         full-at x i y k (yes a) = keeps x i (ℕ-discrete x o) (w .full x i (record { row = y .row; before = a; facing = y .facing; holds-in = y .holds-in; bit = y .bit }) k)
         full-at x i y k (no n) =
             let q : y .row ≡ j = omega (arith, y .before) in
             let p : x ≡ o = one-name x o (y .facing ∙ ap (λ (z : ℕ). complement (rowAt book rows z .head)) q ∙ sym faces) in
             subst (λ (z : ℕ). bitOf z i ≡ 1) (sym (at-o x p))
             (or-right (getD rejects o 0) mask i
-            (to-mask i (subst (λ (z : ℕ). T (bodyHolds m (rowAt book rows z))) q (y .holds-in)) (subst (λ (z : ℕ). bitOf (getD overridden z 0) i ≡ 1) q (y .bit))))
+            (to-mask i (subst (λ (z : ℕ). T (bodyHolds m (rowAt book rows z))) q (y .holds-in)) (subst (λ (z : ℕ). bitOf (overridden rows z) i ≡ 1) q (y .bit))))
 
 -- support
 module _ {book rows : List ℕ} {m : Interpretation} where
-  pub supported-start : Supported book rows m (replicate 256 false) 0
+  pub supported-start : Supported book rows m (replicate maxAtoms false) 0
   unfolding atomHolds
   supported-start = record {
-    size = length-replicate 256 false;
-    sound = λ f t. absurd (subst T (blank 256 f) t);
+    size = length-replicate maxAtoms false;
+    sound = λ f t. absurd (subst T (blank maxAtoms f) t);
     full = λ f x b. absurd (omega (arith, x .before));
   }
 
@@ -138,7 +139,7 @@ module _ {book rows : List ℕ} {m : Interpretation} where
       full = λ f x b. go f x b (decLt (x .row) j);
     }
       where
-        go : (f : ℕ) (x : Support book rows m (j + 1) f) → f < 256 → Dec (x .row < j) → T (atomHolds atoms f)
+        go : (f : ℕ) (x : Support book rows m (j + 1) f) → f < maxAtoms → Dec (x .row < j) → T (atomHolds atoms f)
         go f x b (yes y) = w .full f (record { row = x .row; before = y; head-is = x .head-is; holds-in = x .holds-in }) b
         go f x b (no y) =
             let q : x .row ≡ j = omega (arith, x .before) in
@@ -149,19 +150,19 @@ module _ {book rows : List ℕ} {m : Interpretation} where
     supported-not r q n = supported-same (λ f p t. absurd (subst T (sym q ∙ n) t))
 
     module _ (h : ℕ) (e : h ≡ headName rows j) where
-      named : h < 256 → rowAt book rows j .head ≡ positive h
+      named : h < maxAtoms → rowAt book rows j .head ≡ positive h
       unfolding rowAt
       named b = ap literalNamed (sym e) ∙ name-low h b
 
-      head-of : h < 256 → (f : ℕ) → rowAt book rows j .head ≡ positive f → h ≡ f
+      head-of : h < maxAtoms → (f : ℕ) → rowAt book rows j .head ≡ positive f → h ≡ f
       head-of b f q = ap (λ (l : Literal). l .atom) (sym (named b) ∙ q)
 
       -- a negated head
-      pub supported-negated : 256 ≤ h → Supported book rows m atoms (j + 1)
+      pub supported-negated : maxAtoms ≤ h → Supported book rows m atoms (j + 1)
       unfolding rowAt
       supported-negated b = supported-same (λ f q t. absurd (true≢false (ap (λ (l : Literal). l .negated) (sym (name-high h b) ∙ ap literalNamed e ∙ q))))
 
-      pub supported-more : (r : Bool) → h < 256 → r ≡ bodyHolds m (rowAt book rows j) → r ≡ true → Supported book rows m (set atoms h true) (j + 1)
+      pub supported-more : (r : Bool) → h < maxAtoms → r ≡ bodyHolds m (rowAt book rows j) → r ≡ true → Supported book rows m (set atoms h true) (j + 1)
       unfolding atomHolds
       supported-more r b q n = record {
         size = length-set atoms h true ∙ w .size;
@@ -175,7 +176,7 @@ module _ {book rows : List ℕ} {m : Interpretation} where
           here : T (atomHolds (set atoms h true) h)
           here = subst T (sym (getD-set-same atoms h true false (omega (arith, w .size)))) tt
 
-          go : (f : ℕ) (x : Support book rows m (j + 1) f) → f < 256 → Dec (x .row < j) → T (atomHolds (set atoms h true) f)
+          go : (f : ℕ) (x : Support book rows m (j + 1) f) → f < maxAtoms → Dec (x .row < j) → T (atomHolds (set atoms h true) f)
           go f x k (yes y) = set-keeps atoms h f (omega (arith, w .size)) (w .full f (record { row = x .row; before = y; head-is = x .head-is; holds-in = x .holds-in }) k)
           go f x k (no y) =
               let p : x .row ≡ j = omega (arith, x .before) in
@@ -183,11 +184,11 @@ module _ {book rows : List ℕ} {m : Interpretation} where
 
 -- the literal of a name, as the code tests it
 module _ (m : Interpretation) (h : ℕ) where
-  pub plain-holds : h < 256 → atomHolds m h ≡ holds m (literalNamed h)
+  pub plain-holds : h < maxAtoms → atomHolds m h ≡ holds m (literalNamed h)
   unfolding holds signed
   plain-holds b = ap (holds m) (sym (name-low h b))
 
-  pub negated-holds : 256 ≤ h → not (atomHolds m (h - 256)) ≡ holds m (literalNamed h)
+  pub negated-holds : maxAtoms ≤ h → not (atomHolds m (h - maxAtoms)) ≡ holds m (literalNamed h)
   unfolding holds signed
   negated-holds b = ap (holds m) (sym (name-high h b))
 
@@ -230,10 +231,10 @@ module _ {book rows rejects : List ℕ} {m : Interpretation} where
 
 -- a fact that is decided, as the code tests it
 module _ (m : Interpretation) (q : List Bool) (h : ℕ) where
-  pub decided-negated : 256 ≤ h → Decided m q (literalNamed h)
+  pub decided-negated : maxAtoms ≤ h → Decided m q (literalNamed h)
   decided-negated b f e n = absurd (true≢false (ap (λ (l : Literal). l .negated) (sym (name-high h b) ∙ e)))
 
-  module _ (b : h < 256) where
+  module _ (b : h < maxAtoms) where
     atom-is : (f : ℕ) → literalNamed h ≡ positive f → h ≡ f
     atom-is f e = ap (λ (l : Literal). l .atom) (sym (name-low h b) ∙ e)
 
@@ -245,15 +246,15 @@ module _ (m : Interpretation) (q : List Bool) (h : ℕ) where
 
 -- the other atoms
 module _ {atoms : List Bool} where
-  pub others-start : Others atoms (replicate 256 false) 0
+  pub others-start : Others atoms (replicate maxAtoms false) 0
   unfolding atomHolds
   others-start = record {
-    size = length-replicate 256 false;
-    sound = λ f t. absurd (subst T (blank 256 f) t);
+    size = length-replicate maxAtoms false;
+    sound = λ f t. absurd (subst T (blank maxAtoms f) t);
     full = λ f b. absurd (omega arith);
   }
 
-  pub others-more : {others : List Bool} {f : ℕ} → Others atoms others f → f < 256 → Others atoms (set others f (not (getD atoms f false))) (f + 1)
+  pub others-more : {others : List Bool} {f : ℕ} → Others atoms others f → f < maxAtoms → Others atoms (set others f (not (getD atoms f false))) (f + 1)
   unfolding atomHolds
   others-more {others} {f} w b = record {
     size = length-set others f (not (getD atoms f false)) ∙ w .size;

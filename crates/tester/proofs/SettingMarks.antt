@@ -22,8 +22,8 @@ pub record SettingStart (P : Program) (o : Interpretation) (start : List Bool) :
   pub sound : (f : ℕ) → T (atomHolds start f) → (f < P .atoms) × T (branching P f) × T (not (atomHolds o f))
   pub full : (f : ℕ) → f < P .atoms → T (branching P f) → T (not (atomHolds o f)) → T (atomHolds start f)
 
-module _ {P : Program} {book rows overridden rejects : List ℕ} {o : Interpretation} {start : List Bool} (lw : WellFormed P) (w : Tabulates P book rows overridden)
-    (g : RejectedMasks book rows overridden o rejects (rowCount rows)) (s : SettingStart P o start)
+module _ {P : Program} {book rows rejects : List ℕ} {o : Interpretation} {start : List Bool} (lw : WellFormed P) (w : Tabulates P book rows)
+    (g : RejectedMasks book rows o rejects (rowCount rows)) (s : SettingStart P o start)
     {m : Interpretation} (sm : StableModel P m) (same : (f : ℕ) → T (branching P f) → atomHolds m f ≡ atomHolds o f) where
   flipped : (f : ℕ) → T (branching P f) → atomHolds o f ≡ atomHolds m f
   flipped f t = sym (same f t)

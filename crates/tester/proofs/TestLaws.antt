@@ -8,6 +8,7 @@ use Prim.Native.Nat.{ℕ, _<_, _≤_}
 use native.Mathlib.Omega.{arith}
 use lib.Dec.{T, T-not, not-T, eqb, eqb→eq}
 use lib.ListN.{length, getD}
+use Rattle.base.specs.Bounds.{maxAtoms, maxNames}
 use Rattle.base.specs.Lists.{all, any, upTo}
 use Rattle.layers.specs.Masks.{bitOf}
 use Rattle.format.specs.Book.{Literal, Rule}
@@ -21,7 +22,7 @@ use Rattle.table.specs.Rows.{rowCount, headName, rowAt, rowsOf}
 use Rattle.table.specs.Table.{Tabulates}
 use Rattle.table.proofs.NameLaws.{name-back, complement-twice}
 use Rattle.table.proofs.RowLaws.{row-in, row-of}
-use Rattle.table.proofs.TableLaws.{overrides-heads}
+use Rattle.table.proofs.NamedLaws.{named-overrides, overrides-named}
 use Rattle.filling.specs.Marks.{literalMarked, alive, FollowsFrom, from-start, by-row, Conflict, Fills}
 use Rattle.tester.specs.Agreement.{marksAgree}
 use Rattle.tester.specs.Masks.{Rejection, RejectedMasks, Support, Supported, Violation, Others}
@@ -51,7 +52,7 @@ module _ (p q : List Bool) (m : Interpretation) where
   unfolding marksAgree literalMarked holds signed
   literal-agree f a c = and-both (Bool·beq (atomHolds p f) (atomHolds m f)) (Bool·beq (atomHolds q f) (not (atomHolds m f))) (beq-of (atomHolds p f) (atomHolds m f) a) (beq-of (atomHolds q f) (not (atomHolds m f)) c)
 
-module _ {P : Program} {book rows overridden : List ℕ} (w : Tabulates P book rows overridden) where
+module _ {P : Program} {book rows : List ℕ} (w : Tabulates P book rows) where
   row-rule : (j : ℕ) → j < rowCount rows → rowAt book rows j ∈ P .rules
   row-rule j h = subst (λ (rs : List Rule). rowAt book rows j ∈ rs) (w .rules) (row-in book rows j h)
 
@@ -65,24 +66,22 @@ module _ {P : Program} {book rows overridden : List ℕ} (w : Tabulates P book r
   rule-row r k = row-of book rows r (rule-in r k)
 
   -- the name of a rule's head
-  head-name : (r : Rule) → r ∈ P .rules → (literalNamed (nameOf (r .head)) ≡ r .head) × (nameOf (r .head) < 512)
+  head-name : (r : Rule) → r ∈ P .rules → (literalNamed (nameOf (r .head)) ≡ r .head) × (nameOf (r .head) < maxNames)
   unfolding rowAt
   head-name r k =
       let v : (j : ℕ) × (j < rowCount rows) × (rowAt book rows j ≡ r) = rule-row r k in
-      subst (λ (x : Rule). (literalNamed (nameOf (x .head)) ≡ x .head) × (nameOf (x .head) < 512)) (v .2)
-      (ap literalNamed (name-back (headName rows (v .0))), subst (λ (x : ℕ). x < 512) (sym (name-back (headName rows (v .0)))) (w .fits .bounded .name (v .0) (v .1)))
+      subst (λ (x : Rule). (literalNamed (nameOf (x .head)) ≡ x .head) × (nameOf (x .head) < maxNames)) (v .2)
+      (ap literalNamed (name-back (headName rows (v .0))), subst (λ (x : ℕ). x < maxNames) (sym (name-back (headName rows (v .0)))) (w .fits .bounded .name (v .0) (v .1)))
 
-  module _ {rejects : List ℕ} {m : Interpretation} (g : RejectedMasks book rows overridden m rejects (rowCount rows)) where
+  module _ {rejects : List ℕ} {m : Interpretation} (g : RejectedMasks book rows m rejects (rowCount rows)) where
     bit-rejected : (r : Rule) → r ∈ P .rules → bitOf (getD rejects (nameOf (r .head)) 0) (r .layer) ≡ 1 → T (rejected P m r)
-    unfolding rejected overrides
+    unfolding rejected
     bit-rejected r k e =
-        let x : Rejection book rows overridden m (rowCount rows) (nameOf (r .head)) (r .layer) = g .sound (nameOf (r .head)) (r .layer) e in
+        let x : Rejection book rows m (rowCount rows) (nameOf (r .head)) (r .layer) = g .sound (nameOf (r .head)) (r .layer) e in
         let t : Rule = rowAt book rows (x .row) in
         let q : t .head ≡ complement (r .head) = sym (complement-twice (t .head)) ∙ ap complement (sym (x .facing) ∙ head-name r k .0) in
-        any-of (λ t. (P .below (r .layer) (t .layer) && sameLiteral (t .head) (complement (r .head))) && bodyHolds m t) (row-rule (x .row) (x .before))
-        (and-both (P .below (r .layer) (t .layer) && sameLiteral (t .head) (complement (r .head))) (bodyHolds m t)
-        (and-both (P .below (r .layer) (t .layer)) (sameLiteral (t .head) (complement (r .head))) (w .sound (x .row) (x .before) (r .layer) (x .bit)) (subst (λ (l : Literal). T (sameLiteral (t .head) l)) q (literal-refl (t .head))))
-        (x .holds-in))
+        any-of (λ t. overrides P t r && bodyHolds m t) (row-rule (x .row) (x .before))
+        (and-both (overrides P t r) (bodyHolds m t) (named-overrides w (x .before) k (x .bit) q) (x .holds-in))
 
     rejected-bit : (r : Rule) → r ∈ P .rules → T (rejected P m r) → bitOf (getD rejects (nameOf (r .head)) 0) (r .layer) ≡ 1
     unfolding rejected
@@ -91,14 +90,14 @@ module _ {P : Program} {book rows overridden : List ℕ} (w : Tabulates P book r
         let u : (j : ℕ) × (j < rowCount rows) × (rowAt book rows j ≡ v .0) = rule-row (v .0) (v .1) in
         let t : Rule = rowAt book rows (u .0) in
         let o : T (overrides P t r && bodyHolds m t) = subst (λ (t : Rule). T (overrides P t r && bodyHolds m t)) (sym (u .2)) (v .2) in
-        let over : T (overrides P t r) = and-left (overrides P t r) (bodyHolds m t) o in
+        let over = overrides-named w (u .1) k (and-left (overrides P t r) (bodyHolds m t) o) in
         g .full (nameOf (r .head)) (r .layer)
         (record {
           row = u .0;
           before = u .1;
-          facing = head-name r k .0 ∙ sym (complement-twice (r .head)) ∙ ap complement (sym (overrides-heads P t r over));
+          facing = head-name r k .0 ∙ sym (complement-twice (r .head)) ∙ ap complement (sym (over .1));
           holds-in = and-right (overrides P t r) (bodyHolds m t) o;
-          bit = w .full (u .0) (u .1) r (rule-in r k) over;
+          bit = over .0;
         })
         (head-name r k .1)
 
@@ -126,7 +125,7 @@ module _ {P : Program} {book rows overridden : List ℕ} (w : Tabulates P book r
         (z .exact (r .head) (lw .heads r k) .0
         (by-rule r k (alive-unrejected r k (x .lives)) (λ l i. z .exact l (lw .bodies r k l i) .1 (all-at (holds m) (x .holds-in) i))))))
 
-    module _ {atoms start : List Bool} {n : ℕ} (lw : WellFormed P) (en : n ≡ P .atoms) (bn : n ≤ 256) (s : Supported book rows m atoms (rowCount rows)) (d : Others atoms start n) where
+    module _ {atoms start : List Bool} {n : ℕ} (lw : WellFormed P) (en : n ≡ P .atoms) (bn : n ≤ maxAtoms) (s : Supported book rows m atoms (rowCount rows)) (d : Others atoms start n) where
       start-default : (f : ℕ) → T (atomHolds start f) → T (default P m f)
       unfolding default
       start-default f t =

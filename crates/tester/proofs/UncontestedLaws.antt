@@ -47,8 +47,8 @@ module _ {book rows rejects : List ℕ} {assumed start : List Bool} (under : (f 
       marked e l (from-start f t) = over e f t
       marked e l (by-row r k a below) = w .full e (r .head) (by-row r k a (λ x i. w .sound x (marked e x (below x i))))
 
-module _ {P : Program} {book rows overridden rejects : List ℕ} {o : Interpretation} {assumed start : List Bool} (lw : WellFormed P) (w : Tabulates P book rows overridden)
-    (g : RejectedMasks book rows overridden o rejects (rowCount rows)) (s : SettingStart P o start)
+module _ {P : Program} {book rows rejects : List ℕ} {o : Interpretation} {assumed start : List Bool} (lw : WellFormed P) (w : Tabulates P book rows)
+    (g : RejectedMasks book rows o rejects (rowCount rows)) (s : SettingStart P o start)
     (under : (f : ℕ) → T (atomHolds assumed f) → T (atomHolds start f)) (clear : (f : ℕ) → T (atomHolds assumed f) → getD rejects f 0 ≡ 0)
     {q₁ : List Bool} (early : (f : ℕ) → T (atomHolds q₁ f) → FollowsFrom book rows rejects assumed (negative f))
     {p q : List Bool} {c : Bool} (filled : Fills book rows rejects start p q c) (quiet : c ≡ false)

@@ -6,27 +6,27 @@ use mathlib.Core.List.{List}
 use Prim.Native.Nat.{ℕ, _<_}
 use lib.Dec.{T}
 use lib.ListN.{length, getD}
-use Rattle.base.specs.Bounds.{maxAtoms}
+use Rattle.base.specs.Bounds.{maxAtoms, maxNames}
 use Rattle.layers.specs.Masks.{bitOf}
 use Rattle.format.specs.Book.{Literal}
 use Rattle.models.specs.StableModels.{Interpretation, atomHolds, positive, complement, holds, bodyHolds}
 use Rattle.table.specs.Names.{literalNamed}
-use Rattle.table.specs.Rows.{rowAt}
+use Rattle.table.specs.Rows.{rowAt, overridden}
 use Rattle.filling.specs.Marks.{alive}
 
 -- a row before n whose body holds, whose head is opposite to name h, and which overrides rules of layer i
-pub record Rejection (book rows overridden : List ℕ) (m : Interpretation) (n h i : ℕ) : Type 0 where
+pub record Rejection (book rows : List ℕ) (m : Interpretation) (n h i : ℕ) : Type 0 where
   pub row : ℕ
   pub before : row < n
   pub facing : literalNamed h ≡ complement (rowAt book rows row .head)
   pub holds-in : T (bodyHolds m (rowAt book rows row))
-  pub bit : bitOf (getD overridden row 0) i ≡ 1
+  pub bit : bitOf (overridden rows row) i ≡ 1
 
 -- bit i at name h: a row before n rejects the rules of layer i with that head
-pub record RejectedMasks (book rows overridden : List ℕ) (m : Interpretation) (rejects : List ℕ) (n : ℕ) : Type 0 where
-  pub size : length rejects ≡ 512
-  pub sound : (h i : ℕ) → bitOf (getD rejects h 0) i ≡ 1 → Rejection book rows overridden m n h i
-  pub full : (h i : ℕ) → Rejection book rows overridden m n h i → h < 512 → bitOf (getD rejects h 0) i ≡ 1
+pub record RejectedMasks (book rows : List ℕ) (m : Interpretation) (rejects : List ℕ) (n : ℕ) : Type 0 where
+  pub size : length rejects ≡ maxNames
+  pub sound : (h i : ℕ) → bitOf (getD rejects h 0) i ≡ 1 → Rejection book rows m n h i
+  pub full : (h i : ℕ) → Rejection book rows m n h i → h < maxNames → bitOf (getD rejects h 0) i ≡ 1
 
 -- a row before n whose body holds, with atom f as its plain head
 pub record Support (book rows : List ℕ) (m : Interpretation) (n f : ℕ) : Type 0 where

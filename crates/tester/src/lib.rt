@@ -5,29 +5,33 @@ ghost use mathlib.Core.Path.{_≡_};
 ghost use mathlib.Core.Bool.{false, cond};
 ghost use Prim.Native.Nat.{_<_, _≤_};
 ghost use lib.ListN.{length, getD, replicate};
+ghost use Rattle.base.specs.Bounds.{maxAtoms, maxNames};
 ghost use Rattle.base.specs.Lists.{all, upTo};
 ghost use Rattle.models.specs.StableModels.{holds, bodyHolds, stable, WellFormed};
 ghost use Rattle.table.specs.Names.{literalNamed};
-ghost use Rattle.table.specs.Rows.{rowCount, rowAt, RowsFit};
+ghost use Rattle.table.specs.Rows.{rowCount, rowAt, RowsFit, overridden};
 ghost use Rattle.table.specs.Table.{Tabulates};
 ghost use Rattle.table.specs.Tabled.{tabled};
 ghost use Rattle.tester.specs.Agreement.{marksAgree};
 ghost use Rattle.tester.specs.Masks.{RejectedMasks, Supports, Decided, Uncontested, Others};
+use base::MAX_ATOMS;
+use base::MAX_NAMES;
 use filling::fill;
 use filling::row_alive;
+use table::ROW_SIZE;
 use table::atom_holds;
 use table::opposite;
 use table::row_head;
 use table::row_holds;
+use table::row_overridden;
 
 // The layers in which a row rejects rules: none, unless its body holds.
-fn row_mask(book: &[u8], rows: &[u16], overridden: &[u32], m: &[bool], j: usize) -> u32
+fn row_mask(book: &[u8], rows: &[u16], m: &[bool], j: usize) -> u32
     requires { ⌜ RowsFit (now book) (now rows) ⌝ }
-    requires { ⌜ length (now overridden) ≡ rowCount (now rows) ⌝ }
     requires { ⌜ j < rowCount (now rows) ⌝ }
-    ensures { λ r. ⌜ r ≡ cond (bodyHolds (now (m .entry)) (rowAt (now (book .entry)) (now (rows .entry)) j)) (getD (now (overridden .entry)) j 0) 0 ⌝ }
+    ensures { λ r. ⌜ r ≡ cond (bodyHolds (now (m .entry)) (rowAt (now (book .entry)) (now (rows .entry)) j)) (overridden (now (rows .entry)) j) 0 ⌝ }
 {
-    let mask = overridden[j];
+    let mask = row_overridden(rows, j);
     if mask == 0 {
         return 0;
     }
@@ -38,16 +42,15 @@ fn row_mask(book: &[u8], rows: &[u16], overridden: &[u32], m: &[bool], j: usize)
 }
 
 // Bit i at name h: rules of layer i with that head are rejected. The array is lent, all 0.
-fn reject(book: &[u8], rows: &[u16], overridden: &[u32], m: &[bool], rejects: &mut [u32])
+fn reject(book: &[u8], rows: &[u16], m: &[bool], rejects: &mut [u32])
     requires { ⌜ RowsFit (now book) (now rows) ⌝ }
-    requires { ⌜ length (now overridden) ≡ rowCount (now rows) ⌝ }
-    requires { ⌜ now rejects ≡ replicate 512 0 ⌝ }
-    ensures { λ _. ⌜ RejectedMasks (now (book .entry)) (now (rows .entry)) (now (overridden .entry)) (now (m .entry)) (now (rejects .exit)) (rowCount (now (rows .entry))) ⌝ }
+    requires { ⌜ now rejects ≡ replicate maxNames 0 ⌝ }
+    ensures { λ _. ⌜ RejectedMasks (now (book .entry)) (now (rows .entry)) (now (m .entry)) (now (rejects .exit)) (rowCount (now (rows .entry))) ⌝ }
 {
-    let count = rows.len() / 4;
+    let count = rows.len() / ROW_SIZE;
     let mut j = 0;
     while j < count {
-        let mask = row_mask(book, rows, overridden, m, j);
+        let mask = row_mask(book, rows, m, j);
         if mask != 0 {
             let o = opposite(row_head(rows, j));
             rejects[o] = rejects[o] | mask;
@@ -60,15 +63,15 @@ fn reject(book: &[u8], rows: &[u16], overridden: &[u32], m: &[bool], rejects: &m
 fn name_holds(m: &[bool], h: usize) -> bool
     ensures { λ r. ⌜ r ≡ holds (now (m .entry)) (literalNamed h) ⌝ }
 {
-    if h < 256 {
+    if h < MAX_ATOMS {
         return atom_holds(m, h);
     }
-    !atom_holds(m, h - 256)
+    !atom_holds(m, h - MAX_ATOMS)
 }
 
 // What the rows whose bodies hold say: the atoms that they support, or that one of them is violated.
 pub struct Support {
-    pub atoms: [bool; 256],
+    pub atoms: [bool; MAX_ATOMS],
     pub violated: bool,
 }
 
@@ -76,11 +79,11 @@ pub struct Support {
 // stable model violates such a row, and nothing need be filled.
 fn supported(book: &[u8], rows: &[u16], rejects: &[u32], m: &[bool]) -> Support
     requires { ⌜ RowsFit (now book) (now rows) ⌝ }
-    requires { ⌜ length (now rejects) ≡ 512 ⌝ }
+    requires { ⌜ length (now rejects) ≡ maxNames ⌝ }
     ensures { λ r. ⌜ Supports (now (book .entry)) (now (rows .entry)) (now (rejects .entry)) (now (m .entry)) (r .atoms) (r .violated) (rowCount (now (rows .entry))) ⌝ }
 {
-    let count = rows.len() / 4;
-    let mut atoms = [false; 256];
+    let count = rows.len() / ROW_SIZE;
+    let mut atoms = [false; MAX_ATOMS];
     let mut j = 0;
     while j < count {
         if row_holds(book, rows, m, j) {
@@ -94,7 +97,7 @@ fn supported(book: &[u8], rows: &[u16], rejects: &[u32], m: &[bool]) -> Support
                     };
                 }
             }
-            if h < 256 {
+            if h < MAX_ATOMS {
                 atoms[h] = true;
             }
         }
@@ -107,11 +110,11 @@ fn supported(book: &[u8], rows: &[u16], rejects: &[u32], m: &[bool]) -> Support
 }
 
 // The defaults: the atoms below n that are not supported.
-fn defaults_of(atoms: [bool; 256], n: usize) -> [bool; 256]
-    requires { ⌜ n ≤ 256 ⌝ }
+fn defaults_of(atoms: [bool; MAX_ATOMS], n: usize) -> [bool; MAX_ATOMS]
+    requires { ⌜ n ≤ maxAtoms ⌝ }
     ensures { λ r. ⌜ Others atoms r n ⌝ }
 {
-    let mut others = [false; 256];
+    let mut others = [false; MAX_ATOMS];
     let mut f = 0;
     while f < n {
         others[f] = !atoms[f];
@@ -149,21 +152,20 @@ fn marks_agree<'a>(positive: &'a [bool], negative: &'a [bool], m: &[bool], n: us
 pub fn is_stable(
     book: &[u8],
     rows: &[u16],
-    overridden: &[u32],
     m: &[bool],
     n: usize,
     hints: &mut [u16],
 ) -> bool
-    requires { ⌜ WellFormed (tabled (now book) (now rows) (now overridden) n) ⌝ }
-    requires { ⌜ Tabulates (tabled (now book) (now rows) (now overridden) n) (now book) (now rows) (now overridden) ⌝ }
-    requires { ⌜ n ≡ tabled (now book) (now rows) (now overridden) n .atoms ⌝ }
-    requires { ⌜ n ≤ 256 ⌝ }
+    requires { ⌜ WellFormed (tabled (now book) (now rows) n) ⌝ }
+    requires { ⌜ Tabulates (tabled (now book) (now rows) n) (now book) (now rows) ⌝ }
+    requires { ⌜ n ≡ tabled (now book) (now rows) n .atoms ⌝ }
+    requires { ⌜ n ≤ maxAtoms ⌝ }
     requires { ⌜ length (now m) ≡ n ⌝ }
     requires { ⌜ length (now hints) ≡ 2048 ⌝ }
-    ensures { λ r. ⌜ r ≡ stable (tabled (now (book .entry)) (now (rows .entry)) (now (overridden .entry)) n) (now (m .entry)) ⌝ }
+    ensures { λ r. ⌜ r ≡ stable (tabled (now (book .entry)) (now (rows .entry)) n) (now (m .entry)) ⌝ }
 {
-    let mut rejects: [u32; 512] = [0; 512];
-    reject(book, rows, overridden, m, &mut rejects);
+    let mut rejects: [u32; MAX_NAMES] = [0; MAX_NAMES];
+    reject(book, rows, m, &mut rejects);
     let support = supported(book, rows, &rejects, m);
     let atoms = support.atoms;
     if support.violated {
@@ -180,7 +182,7 @@ pub fn is_stable(
 fn undecided(m: &[bool], negative: &[bool], h: usize) -> bool
     ensures { λ r. ⌜ (r ≡ false → Decided (now (m .entry)) (now (negative .entry)) (literalNamed h)) ⌝ }
 {
-    if 256 <= h {
+    if MAX_ATOMS <= h {
         return false;
     }
     if atom_holds(m, h) {
@@ -193,10 +195,10 @@ fn undecided(m: &[bool], negative: &[bool], h: usize) -> bool
 // filled from a setting need no second filling from the defaults.
 pub fn contested(book: &[u8], rows: &[u16], rejects: &[u32], m: &[bool], negative: &[bool]) -> bool
     requires { ⌜ RowsFit (now book) (now rows) ⌝ }
-    requires { ⌜ length (now rejects) ≡ 512 ⌝ }
+    requires { ⌜ length (now rejects) ≡ maxNames ⌝ }
     ensures { λ r. ⌜ (r ≡ false → Uncontested (now (book .entry)) (now (rows .entry)) (now (rejects .entry)) (now (m .entry)) (now (negative .entry)) (rowCount (now (rows .entry)))) ⌝ }
 {
-    let count = rows.len() / 4;
+    let count = rows.len() / ROW_SIZE;
     let mut j = 0;
     while j < count {
         if !row_alive(book, rows, rejects, j) {

@@ -4,6 +4,7 @@ use mathlib.Core.Path.{_≡_}
 use mathlib.Core.Logic.{⊎-elim}
 use Prim.Native.Nat.{_-_, _/_, _<_}
 use lib.ListN.{length}
+use Rattle.table.specs.Rows.{rowSize}
 use Rattle.filling.proofs.FillingLaws.{Passing, pass-start, pass-skip, pass-low, pass-high, pass-clash, pass-done}
 use borrow.Author.Needs.{needs}
 use Rattle.filling.proofs.pass.Statement.{statement}
@@ -11,7 +12,7 @@ use Rattle.filling.proofs.pass.Tie as tie
 
 abbrev Inv-loop : tie.InvT-loop
 Inv-loop book rows rejects positive₀ negative₀ hints₀ count added₀ j₀ positive negative hints added j =
-    (count ≡ length rows / 4) × (length hints ≡ 2048) × Passing book rows rejects positive₀ negative₀ positive negative added j
+    (count ≡ length rows / rowSize) × (length hints ≡ 2048) × Passing book rows rejects positive₀ negative₀ positive negative added j
 
 abbrev μ-loop : tie.MeasureT-loop
 μ-loop book rows rejects positive₀ negative₀ hints₀ count added₀ j₀ positive negative hints added j = count - j
@@ -65,7 +66,7 @@ loop-less c = search needs
 loop-again : tie.Need-loop-again Inv-loop μ-loop
 loop-again c =
     let l = c .before .before .before .before .before .before .loop in
-    let k : l .j < length (c .before .before .before .before .before .before .before .before .before .before .before .before .before .args .rows .now) / 4 = search needs in
+    let k : l .j < length (c .before .before .before .before .before .before .before .before .before .before .before .before .before .args .rows .now) / rowSize = search needs in
     let a = c .before .row-adds in (
       l .inv .0,
       ⊎-elim (λ w. rw (w .14) (search (needs, w))) (λ w. rw (w .3) (l .inv .1)) (c .if1 .came),

@@ -3,6 +3,7 @@ use mathlib.Core.Path.{_≡_}
 use mathlib.Core.Logic.{⊎-elim}
 use Prim.Native.Nat.{_/_, _-_, _≤_}
 use lib.ListN.{length}
+use Rattle.table.specs.Rows.{rowSize}
 use Rattle.filling.specs.Marks.{Grown}
 use Rattle.filling.proofs.GrowingLaws.{grown-none, grown-both}
 use borrow.Author.Needs.{needs}
@@ -11,7 +12,7 @@ use Rattle.filling.proofs.replay.Tie as tie
 
 abbrev Inv-loop : tie.InvT-loop
 Inv-loop book rows rejects positive₀ negative₀ hints count end i₀ positive negative i =
-    (count ≡ length rows / 4) × (end ≤ 1024) × (length positive ≡ 256) × (length negative ≡ 256) × Grown book rows rejects positive₀ negative₀ positive negative
+    (count ≡ length rows / rowSize) × (end ≤ 1024) × (length positive ≡ 256) × (length negative ≡ 256) × Grown book rows rejects positive₀ negative₀ positive negative
 
 abbrev μ-loop : tie.MeasureT-loop
 μ-loop book rows rejects positive₀ negative₀ hints count end i₀ positive negative i = end - i

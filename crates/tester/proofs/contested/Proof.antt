@@ -5,6 +5,7 @@ use mathlib.Core.Logic.{⊎-elim}
 use mathlib.Core.Bool.{true≢false}
 use Prim.Native.Nat.{_-_, _/_, _≤_}
 use lib.ListN.{length}
+use Rattle.table.specs.Rows.{rowSize}
 use Rattle.tester.specs.Masks.{Uncontested}
 use Rattle.tester.proofs.MaskLaws.{uncontested-alive, uncontested-decided, uncontested-not}
 use borrow.Author.Needs.{needs}
@@ -13,7 +14,7 @@ use Rattle.tester.proofs.contested.Statement.{statement}
 use Rattle.tester.proofs.contested.Tie as tie
 
 abbrev Inv-loop : tie.InvT-loop
-Inv-loop book rows rejects m negative count j₀ j = (count ≡ length rows / 4) × (j ≤ count) × Uncontested book rows rejects m negative j
+Inv-loop book rows rejects m negative count j₀ j = (count ≡ length rows / rowSize) × (j ≤ count) × Uncontested book rows rejects m negative j
 
 abbrev μ-loop : tie.MeasureT-loop
 μ-loop book rows rejects m negative count j₀ j = count - j

@@ -20,7 +20,7 @@ supported-requires c κs = search needs
 
 returns : tie.Need-returns
 returns c =
-    let h = c .before .before .before .before .before .before .before .before .before .before .before .before .pre in
+    let h = c .before .before .before .before .before .before .before .before .before .before .before .pre in
     violated-unstable (h .1 .0) (c .before .before .before .before .before .reject .ensures) (h .0) (h .1 .1 .1 .1 .0 ∙ h .1 .1 .0) (c .before .before .supported .ensures .violation (c .if1 .taken))
 
 slice-aggregate-fill : tie.Need-slice-aggregate-fill
@@ -37,7 +37,7 @@ same-length c = search needs
 
 returns-2 : tie.Need-returns-2
 returns-2 c =
-    let h = c .before .before .before .before .before .before .before .before .before .before .before .before .before .before .before .before .before .before .before .pre in
+    let h = c .before .before .before .before .before .before .before .before .before .before .before .before .before .before .before .before .before .before .pre in
     conflict-unstable (h .1 .0) (c .before .before .before .before .before .before .before .before .before .before .before .before .reject .ensures) (h .0) (h .1 .1 .0) (h .1 .1 .1 .0) (c .before .before .before .before .before .before .before .before .before .supported .ensures .support (c .before .before .before .before .before .before .before .if1 .left)) (c .before .before .before .before .before .defaults-of .ensures) (c .before .before .before .fill .ensures) (h .1 .1 .1 .1 .0) (c .if2 .taken)
 
 marks-agree-requires : tie.Need-marks-agree-requires
@@ -48,7 +48,7 @@ same-length-2 c = search needs
 
 returns-3 : tie.Need-returns-3
 returns-3 c =
-    let h = c .before .before .before .before .before .before .before .before .before .before .before .before .before .before .before .before .before .before .before .before .before .before .before .before .before .pre in
+    let h = c .before .before .before .before .before .before .before .before .before .before .before .before .before .before .before .before .before .before .before .before .before .before .before .before .pre in
     agree-stable (h .1 .0) (c .before .before .before .before .before .before .before .before .before .before .before .before .before .before .before .before .before .before .reject .ensures) (h .0) (h .1 .1 .0) (h .1 .1 .1 .0) (c .before .before .before .before .before .before .before .before .before .before .before .before .before .before .before .supported .ensures .support (c .before .before .before .before .before .before .before .before .before .before .before .before .before .if1 .left)) (c .before .before .before .before .before .before .before .before .before .before .before .defaults-of .ensures) (c .before .before .before .before .before .before .before .before .before .fill .ensures) (h .1 .1 .1 .1 .0) (c .before .before .before .before .before .before .if2 .left) (c .marks-agree .result) (c .marks-agree .ensures)
 
 pub is-stable-spec : {M : Type 1} → statement M

@@ -1,4 +1,4 @@
--- A name below 256 is the fact itself, one from 256 on the negation of the fact 256 less.
+-- A name below the bound on facts is the fact itself, any other the negation of the fact that is the bound less.
 use Rattle.tester.proofs.MaskLaws.{plain-holds, negated-holds}
 use mathlib.Core.Path.{_∙_, ap}
 use mathlib.Core.Bool.{not}

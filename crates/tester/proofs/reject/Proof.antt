@@ -4,6 +4,7 @@ use mathlib.Core.Logic.{⊎-elim}
 use mathlib.Core.List.{List}
 use Prim.Native.Nat.{ℕ, _-_, _/_, _≤_}
 use lib.ListN.{length}
+use Rattle.table.specs.Rows.{rowSize}
 use Rattle.tester.specs.Masks.{RejectedMasks}
 use Rattle.tester.proofs.MaskLaws.{rejects-start, rejects-skip, rejects-more}
 use borrow.Author.Needs.{needs}
@@ -12,13 +13,13 @@ use Rattle.tester.proofs.reject.Statement.{statement}
 use Rattle.tester.proofs.reject.Tie as tie
 
 abbrev Inv-loop : tie.InvT-loop
-Inv-loop book rows overridden m rejects₀ count j₀ rejects j = (count ≡ length rows / 4) × (j ≤ count) × RejectedMasks book rows overridden m rejects j
+Inv-loop book rows m rejects₀ count j₀ rejects j = (count ≡ length rows / rowSize) × (j ≤ count) × RejectedMasks book rows m rejects j
 
 abbrev μ-loop : tie.MeasureT-loop
-μ-loop book rows overridden m rejects₀ count j₀ rejects j = count - j
+μ-loop book rows m rejects₀ count j₀ rejects j = count - j
 
 loop-holds : tie.Need-loop-holds Inv-loop μ-loop
-loop-holds c = let s = c .before .before .before .before .before in let a = s .args in (refl, omega arith, subst (λ (x : List ℕ). RejectedMasks (a .book .now) (a .rows .now) (a .overridden .now) (a .m .now) x 0) (sym (s .pre .1 .1)) rejects-start)
+loop-holds c = let s = c .before .before .before .before in let a = s .args in (refl, omega arith, subst (λ (x : List ℕ). RejectedMasks (a .book .now) (a .rows .now) (a .m .now) x 0) (sym (s .pre .1)) rejects-start)
 
 row-mask-requires : tie.Need-row-mask-requires Inv-loop μ-loop
 row-mask-requires c κs = search needs
@@ -64,9 +65,9 @@ same-length c = search needs
 
 returns : tie.Need-returns Inv-loop μ-loop
 returns c =
-    let e = c .before .before .before .before .before .before .before .args in
+    let e = c .before .before .before .before .before .before .args in
     let l = c .before .loop in
-    subst (RejectedMasks (e .book .now) (e .rows .now) (e .overridden .now) (e .m .now) (l .rejects)) {x = l .j} {y = length (e .rows .now) / 4} (omega (arith, c .loop-test .left, l .inv .1)) (l .inv .2)
+    subst (RejectedMasks (e .book .now) (e .rows .now) (e .m .now) (l .rejects)) {x = l .j} {y = length (e .rows .now) / rowSize} (omega (arith, c .loop-test .left, l .inv .1)) (l .inv .2)
 
 pub reject-spec : {M : Type 1} → statement M
 reject-spec =

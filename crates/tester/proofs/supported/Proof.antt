@@ -5,6 +5,7 @@ use mathlib.Core.Logic.{⊎-elim}
 use mathlib.Core.Bool.{true≢false}
 use Prim.Native.Nat.{_-_, _/_, _≤_}
 use lib.ListN.{length}
+use Rattle.table.specs.Rows.{rowSize}
 use Rattle.tester.specs.Masks.{Supported}
 use Rattle.tester.proofs.MaskLaws.{supported-start, supported-negated, supported-not, supported-more, violation-at}
 use borrow.Author.Needs.{needs}
@@ -13,7 +14,7 @@ use Rattle.tester.proofs.supported.Statement.{statement}
 use Rattle.tester.proofs.supported.Tie as tie
 
 abbrev Inv-loop : tie.InvT-loop
-Inv-loop book rows rejects m count atoms₀ j₀ atoms j = (count ≡ length rows / 4) × (j ≤ count) × Supported book rows m atoms j
+Inv-loop book rows rejects m count atoms₀ j₀ atoms j = (count ≡ length rows / rowSize) × (j ≤ count) × Supported book rows m atoms j
 
 abbrev μ-loop : tie.MeasureT-loop
 μ-loop book rows rejects m count atoms₀ j₀ atoms j = count - j
@@ -71,7 +72,7 @@ returns-2 c =
     let e = c .before .before .before .before .before .before .args in
     let l = c .before .loop in
     record {
-      support = λ y. subst (Supported (e .book .now) (e .rows .now) (e .m .now) (l .atoms)) {x = l .j} {y = length (e .rows .now) / 4} (omega (arith, c .loop-test .left, l .inv .1)) (l .inv .2);
+      support = λ y. subst (Supported (e .book .now) (e .rows .now) (e .m .now) (l .atoms)) {x = l .j} {y = length (e .rows .now) / rowSize} (omega (arith, c .loop-test .left, l .inv .1)) (l .inv .2);
       violation = λ y. absurd (true≢false (sym y));
     }
 
