@@ -1,5 +1,6 @@
 -- What the loops keep: the masks of what can be rejected, the nogood of a row, and the entries made. Assumes nothing.
 use mathlib.Core.Path.{_≡_, refl, sym, ap, subst, _∙_}
+use mathlib.Core.Logic.{inl, inr}
 use mathlib.Core.Bool.{Bool, true, false, not, cond}
 use mathlib.Core.List.{List}
 use Prim.Native.Nat.{ℕ, suc, _+_, _*_, _-_, _/_, _<_, _≤_}
@@ -10,40 +11,41 @@ use lib.Bits.{bitOr}
 use lib.Dec.{T}
 use lib.ListN.{length, getD, set, take, length-set, replicate, length-replicate}
 use lib.Seq.{getD-set-same, getD-set-other, getD-take, length-take-le}
+use Rattle.base.specs.Bounds.{maxAtoms, maxNames}
 use Rattle.layers.specs.Masks.{bitOf}
 use Rattle.layers.proofs.BitLaws.{or-left, or-right, some-bit}
 use Rattle.format.specs.Book.{Literal}
 use Rattle.models.specs.StableModels.{positive, negative, complement}
 use Rattle.table.specs.Names.{literalNamed}
-use Rattle.table.specs.Rows.{rowCount, headName, rowAt}
+use Rattle.table.specs.Rows.{rowCount, headName, rowAt, overridden}
 use Rattle.table.proofs.NameLaws.{name-low, name-high, one-name}
 use Rattle.filling.specs.Marks.{alive}
 use Rattle.setting.specs.RuleMasks.{AtomBits, BodyMasked}
 use Rattle.setting.proofs.BitMaskLaws.{joined-keeps, joined-has}
-use Rattle.nogoods.specs.Nogoods.{Rejectable, Within, AllWithin, NogoodOf, Nogoods, NogoodsMade}
+use Rattle.nogoods.specs.Nogoods.{maxNogoods, Rejectable, Within, AllWithin, NogoodOf, NogoodsTo, Nogoods, withNogood, NogoodPut}
 
 -- ---- what can be rejected
-pub rejectable-start : (rows overridden : List ℕ) → Rejectable rows overridden (replicate {A = ℕ} 512 0) 0
-rejectable-start rows overridden = record { size = length-replicate {A = ℕ} 512 0; full = λ j h. absurd (omega arith) }
+pub rejectable-start : (rows : List ℕ) → Rejectable rows (replicate {A = ℕ} maxNames 0) 0
+rejectable-start rows = record { size = length-replicate {A = ℕ} maxNames 0; full = λ j h. absurd (omega arith) }
 
-module _ {rows overridden rejectable : List ℕ} {j : ℕ} (w : Rejectable rows overridden rejectable j) (h o : ℕ) (eh : h ≡ headName rows j) (eo : literalNamed o ≡ complement (literalNamed h)) (bo : o < 512) where
-  pub rejectable-more : Rejectable rows overridden (set rejectable o (bitOr (getD rejectable o 0) (getD overridden j 0))) (j + 1)
+module _ {rows rejectable : List ℕ} {j : ℕ} (w : Rejectable rows rejectable j) (h o : ℕ) (eh : h ≡ headName rows j) (eo : literalNamed o ≡ complement (literalNamed h)) (bo : o < maxNames) where
+  pub rejectable-more : Rejectable rows (set rejectable o (bitOr (getD rejectable o 0) (overridden rows j))) (j + 1)
   rejectable-more = record {
-    size = length-set rejectable o (bitOr (getD rejectable o 0) (getD overridden j 0)) ∙ w .size;
+    size = length-set rejectable o (bitOr (getD rejectable o 0) (overridden rows j)) ∙ w .size;
     full = λ k b x e l i z. go k b x e l i z (decLt k j);
   }
     where
       inside : o < length rejectable
       inside = omega (arith, w .size)
 
-      go : (k : ℕ) → k < j + 1 → (x : ℕ) → literalNamed x ≡ complement (literalNamed (headName rows k)) → x < 512 → (i : ℕ) → bitOf (getD overridden k 0) i ≡ 1 → Dec (k < j)
-          → bitOf (getD (set rejectable o (bitOr (getD rejectable o 0) (getD overridden j 0))) x 0) i ≡ 1
-      go k b x e l i z (yes y) = joined-keeps rejectable o (getD overridden j 0) inside x i (w .full k y x e l i z)
+      go : (k : ℕ) → k < j + 1 → (x : ℕ) → literalNamed x ≡ complement (literalNamed (headName rows k)) → x < maxNames → (i : ℕ) → bitOf (overridden rows k) i ≡ 1 → Dec (k < j)
+          → bitOf (getD (set rejectable o (bitOr (getD rejectable o 0) (overridden rows j))) x 0) i ≡ 1
+      go k b x e l i z (yes y) = joined-keeps rejectable o (overridden rows j) inside x i (w .full k y x e l i z)
       go k b x e l i z (no y) =
           let q : k ≡ j = omega arith in
-          joined-has rejectable o (getD overridden j 0) inside x i
+          joined-has rejectable o (overridden rows j) inside x i
           (one-name x o (e ∙ ap (λ (y : ℕ). complement (literalNamed (headName rows y))) q ∙ ap (λ (y : ℕ). complement (literalNamed y)) (sym eh) ∙ sym eo))
-          (subst (λ (y : ℕ). bitOf (getD overridden y 0) i ≡ 1) q z)
+          (subst (λ (y : ℕ). bitOf (overridden rows y) i ≡ 1) q z)
 
 -- ---- literals within two masks
 within-wider : (bits : List ℕ) (s d s′ d′ : ℕ) → ((i : ℕ) → bitOf s i ≡ 1 → bitOf s′ i ≡ 1) → ((i : ℕ) → bitOf d i ≡ 1 → bitOf d′ i ≡ 1) → (l : Literal) → Within bits s d l → Within bits s′ d′ l
@@ -67,7 +69,7 @@ module _ (book rows rejectable bits : List ℕ) (j : ℕ) (bj : j < rowCount row
   body-within : whole ≡ true → AllWithin bits s d (rowAt book rows j .body)
   body-within t l k = let b : (i : ℕ) × (bitOf (getD bits (l .atom) 0) i ≡ 1) = m .all-have t l k in record { place = b .0; atom-bit = b .1; bit = m .full l k (b .0) (b .1) }
 
-  pub nogood-plain : h < 256 → (x : ℕ) → x ≡ getD bits h 0 → (x ≡ 0 → ⊥) → whole ≡ true → NogoodOf book rows rejectable bits j s (bitOr d x)
+  pub nogood-plain : h < maxAtoms → (x : ℕ) → x ≡ getD bits h 0 → (x ≡ 0 → ⊥) → whole ≡ true → NogoodOf book rows rejectable bits j s (bitOr d x)
   unfolding rowAt complement
   nogood-plain b x ex n t = record {
     before = bj;
@@ -76,29 +78,24 @@ module _ (book rows rejectable bits : List ℕ) (j : ℕ) (bj : j < rowCount row
     head-in = subst (Within bits s (bitOr d x)) (ap complement (sym (name-low h b) ∙ ap literalNamed eh)) (within-bit bits s (bitOr d x) (negative h) true refl x ex n (λ i z. or-right d x i z));
   }
 
-  pub nogood-negated : 256 ≤ h → (x : ℕ) → x ≡ getD bits (h - 256) 0 → (x ≡ 0 → ⊥) → whole ≡ true → NogoodOf book rows rejectable bits j (bitOr s x) d
+  pub nogood-negated : maxAtoms ≤ h → (x : ℕ) → x ≡ getD bits (h - maxAtoms) 0 → (x ≡ 0 → ⊥) → whole ≡ true → NogoodOf book rows rejectable bits j (bitOr s x) d
   unfolding rowAt complement
   nogood-negated b x ex n t = record {
     before = bj;
     lives = lives;
     body-in = λ l k. within-wider bits s d (bitOr s x) d (λ i z. or-left s x i z) (λ i z. z) l (body-within t l k);
-    head-in = subst (Within bits (bitOr s x) d) (ap complement (sym (name-high h b) ∙ ap literalNamed eh)) (within-bit bits (bitOr s x) d (positive (h - 256)) false refl x ex n (λ i z. or-right s x i z));
+    head-in = subst (Within bits (bitOr s x) d) (ap complement (sym (name-high h b) ∙ ap literalNamed eh)) (within-bit bits (bitOr s x) d (positive (h - maxAtoms)) false refl x ex n (λ i z. or-right s x i z));
   }
 
 -- ---- the entries
-pub record EntriesTo (book rows rejectable bits masks : List ℕ) (n : ℕ) : Type 0 where
-  pub size : length masks ≡ 1024
-  pub room : n ≤ 512
-  pub each : (k : ℕ) → k < n → (j : ℕ) × NogoodOf book rows rejectable bits j (getD masks (2 * k) 0) (getD masks (2 * k + 1) 0)
-
-pub entries-start : (book rows rejectable bits masks : List ℕ) → length masks ≡ 1024 → EntriesTo book rows rejectable bits masks 0
+pub entries-start : (book rows rejectable bits masks : List ℕ) → length masks ≡ 2 * maxNogoods → NogoodsTo book rows rejectable bits masks 0
 entries-start book rows rejectable bits masks e = record { size = e; room = omega arith; each = λ k h. absurd (omega arith) }
 
-module _ {book rows rejectable bits masks : List ℕ} {n : ℕ} (w : EntriesTo book rows rejectable bits masks n) (b : n < 512) (j s d : ℕ) (x : NogoodOf book rows rejectable bits j s d) where
+module _ {book rows rejectable bits masks : List ℕ} {n : ℕ} (w : NogoodsTo book rows rejectable bits masks n) (b : n < maxNogoods) (j s d : ℕ) (x : NogoodOf book rows rejectable bits j s d) where
   abbrev twoMore : List ℕ
-  twoMore = set (set masks (2 * n) s) (2 * n + 1) d
+  twoMore = withNogood masks n s d
 
-  pub entries-more : EntriesTo book rows rejectable bits (set (set masks (2 * n) s) (2 * n + 1) d) (n + 1)
+  entries-more : NogoodsTo book rows rejectable bits twoMore (n + 1)
   entries-more = record { size = sized ∙ length-set masks (2 * n) s ∙ w .size; room = omega arith; each = λ k h. go k h (decLt k n) }
     where
       sized : length twoMore ≡ length (set masks (2 * n) s)
@@ -119,20 +116,23 @@ module _ {book rows rejectable bits masks : List ℕ} {n : ℕ} (w : EntriesTo b
           let e : n ≡ k = omega arith in
           subst (λ (z : ℕ). (i : ℕ) × NogoodOf book rows rejectable bits i (getD twoMore (2 * z) 0) (getD twoMore (2 * z + 1) 0)) e (j, rw (first, second) x)
 
-pub entries-end : {book rows overridden atoms rejectable bits masks : List ℕ} {n : ℕ} → EntriesTo book rows rejectable bits masks n → Rejectable rows overridden rejectable (rowCount rows) → AtomBits atoms bits (length atoms) → NogoodsMade book rows overridden atoms masks n
-entries-end {rejectable = rejectable} {bits = bits} w r b = record { size = w .size; room = w .room; entries = record { rejectable = rejectable; rejects-all = r; bits = bits; bits-of = b; each = w .each } }
+-- a nogood more, if it is whole, or none
+pub entries-put : {book rows rejectable bits masks : List ℕ} {n : ℕ} → NogoodsTo book rows rejectable bits masks n → {j s d : ℕ} {whole : Bool} {masks′ : List ℕ} {n′ : ℕ}
+    → (whole ≡ true → NogoodOf book rows rejectable bits j s d) → NogoodPut masks n s d whole masks′ n′ → NogoodsTo book rows rejectable bits masks′ n′
+entries-put {book} {rows} {rejectable} {bits} w f (inl e) = rw (e .0, e .1) w
+entries-put {book} {rows} {rejectable} {bits} w {j} {s} {d} f (inr e) = rw (e .2, e .3) (entries-more w (e .1) j s d (f (e .0)))
 
-pub nogoods-lent : {book rows overridden atoms masks : List ℕ} {n : ℕ} → NogoodsMade book rows overridden atoms masks n → Nogoods book rows overridden atoms (take (2 * n - 0) masks) (length (take (2 * n - 0) masks) / 2)
-nogoods-lent {book} {rows} {overridden} {atoms} {masks} {n} w =
-    let e = w .entries in
-    let l : length (take (2 * n - 0) masks) ≡ 2 * n - 0 = length-take-le (2 * n - 0) masks (omega (arith, w .size, w .room)) in
+-- the entries, lent
+pub nogoods-lent : {book rows atoms rejectable bits masks : List ℕ} {n : ℕ} → NogoodsTo book rows rejectable bits masks n → Rejectable rows rejectable (rowCount rows)
+    → AtomBits atoms bits (length atoms) → (m : ℕ) → m ≡ 2 * n → Nogoods book rows atoms (take m masks) (length (take m masks) / 2)
+nogoods-lent {rejectable = rejectable} {bits = bits} {masks = masks} {n = n} w r b m q =
+    let l : length (take m masks) ≡ m = length-take-le m masks (omega (arith, w .size, w .room)) in
     record {
-      rejectable = e .rejectable;
-      rejects-all = e .rejects-all;
-      bits = e .bits;
-      bits-of = e .bits-of;
+      rejectable = rejectable;
+      rejects-all = r;
+      bits = bits;
+      bits-of = b;
       each = λ k h.
-          let b : k < n = omega arith in
-          let x = e .each k b in
-          (x .0, rw (getD-take (2 * n - 0) masks (2 * k) 0 (omega arith), getD-take (2 * n - 0) masks (2 * k + 1) 0 (omega arith)) (x .1));
+          let x = w .each k (omega arith) in
+          (x .0, rw (getD-take m masks (2 * k) 0 (omega arith), getD-take m masks (2 * k + 1) 0 (omega arith)) (x .1));
     }

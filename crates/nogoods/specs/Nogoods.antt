@@ -2,25 +2,31 @@
 -- all these are branching atoms it is two masks over them, bit i for the i-th: those that stand in it and those that do not.
 -- Assumes nothing.
 use mathlib.Core.Path.{_≡_}
-use mathlib.Core.Bool.{cond}
+use mathlib.Core.Logic.{_⊎_}
+use mathlib.Core.Bool.{Bool, true, cond}
 use mathlib.Core.List.{List, List·Memᴰ}
 use Prim.Native.Nat.{ℕ, _+_, _*_, _<_, _≤_}
 use lib.Bits.{bitAnd}
 use lib.Dec.{T}
-use lib.ListN.{length, getD}
+use lib.ListN.{length, getD, set}
+use Rattle.base.specs.Bounds.{maxNames}
 use Rattle.layers.specs.Masks.{bitOf}
 use Rattle.format.specs.Book.{Literal}
 use Rattle.models.specs.StableModels.{complement}
 use Rattle.table.specs.Names.{literalNamed}
-use Rattle.table.specs.Rows.{rowCount, headName, rowAt}
+use Rattle.table.specs.Rows.{rowCount, headName, rowAt, overridden}
 use Rattle.filling.specs.Marks.{alive}
 use Rattle.setting.specs.RuleMasks.{AtomBits}
 
+-- nogoods that a plan has room for
+abbrev pub maxNogoods : ℕ
+maxNogoods = 512
+
 -- bit i at name h: one of the first n rows can reject the rules of layer i with that head, whatever its body says
-pub record Rejectable (rows overridden rejectable : List ℕ) (n : ℕ) : Type 0 where
-  pub size : length rejectable ≡ 512
-  pub full : (j : ℕ) → j < n → (h : ℕ) → literalNamed h ≡ complement (literalNamed (headName rows j)) → h < 512
-      → (i : ℕ) → bitOf (getD overridden j 0) i ≡ 1 → bitOf (getD rejectable h 0) i ≡ 1
+pub record Rejectable (rows rejectable : List ℕ) (n : ℕ) : Type 0 where
+  pub size : length rejectable ≡ maxNames
+  pub full : (j : ℕ) → j < n → (h : ℕ) → literalNamed h ≡ complement (literalNamed (headName rows j)) → h < maxNames
+      → (i : ℕ) → bitOf (overridden rows j) i ≡ 1 → bitOf (getD rejectable h 0) i ≡ 1
 
 -- a literal is of one of the branching atoms, and its bit is set in the mask of its sign
 pub record Within (bits : List ℕ) (standing denied : ℕ) (l : Literal) : Type 0 where
@@ -38,19 +44,28 @@ pub record NogoodOf (book rows rejectable bits : List ℕ) (j standing denied : 
   pub body-in : AllWithin bits standing denied (rowAt book rows j .body)
   pub head-in : Within bits standing denied (complement (rowAt book rows j .head))
 
+-- as the code makes them: the first n entries, two masks each, are nogoods
+pub record NogoodsTo (book rows rejectable bits masks : List ℕ) (n : ℕ) : Type 0 where
+  pub size : length masks ≡ 2 * maxNogoods
+  pub room : n ≤ maxNogoods
+  pub each : (k : ℕ) → k < n → (j : ℕ) × NogoodOf book rows rejectable bits j (getD masks (2 * k) 0) (getD masks (2 * k + 1) 0)
+
 -- the first n entries, two masks each, are nogoods
-pub record Nogoods (book rows overridden atoms masks : List ℕ) (n : ℕ) : Type 0 where
+pub record Nogoods (book rows atoms masks : List ℕ) (n : ℕ) : Type 0 where
   pub rejectable : List ℕ
-  pub rejects-all : Rejectable rows overridden rejectable (rowCount rows)
+  pub rejects-all : Rejectable rows rejectable (rowCount rows)
   pub bits : List ℕ
   pub bits-of : AtomBits atoms bits (length atoms)
   pub each : (k : ℕ) → k < n → (j : ℕ) × NogoodOf book rows rejectable bits j (getD masks (2 * k) 0) (getD masks (2 * k + 1) 0)
 
--- as the code makes them: there is room for 512
-pub record NogoodsMade (book rows overridden atoms masks : List ℕ) (n : ℕ) : Type 0 where
-  pub size : length masks ≡ 1024
-  pub room : n ≤ 512
-  pub entries : Nogoods book rows overridden atoms masks n
+-- entry k with other masks
+abbrev pub withNogood : List ℕ → ℕ → ℕ → ℕ → List ℕ
+withNogood masks k standing denied = set (set masks (2 * k) standing) (2 * k + 1) denied
+
+-- an entry more, which is whole, or none
+abbrev pub NogoodPut : List ℕ → ℕ → ℕ → ℕ → Bool → List ℕ → ℕ → Type 0
+NogoodPut masks made standing denied whole masks′ made′ =
+    ((masks′ ≡ masks) × (made′ ≡ made)) ⊎ ((whole ≡ true) × (made < maxNogoods) × (masks′ ≡ withNogood masks made standing denied) × (made′ ≡ made + 1))
 
 -- all that an entry has is decided so
 pub record Met (masks : List ℕ) (n standing denied : ℕ) : Type 0 where

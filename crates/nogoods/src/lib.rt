@@ -2,17 +2,24 @@
 // all branch, two masks say it, and the search leaves out every group of settings that has them decided so.
 ghost use mathlib.Core.Path.{_≡_};
 ghost use mathlib.Core.Bool.{true};
-ghost use Prim.Native.Nat.{_/_, _<_, _≤_};
+ghost use Prim.Native.Nat.{_*_, _/_, _<_};
 ghost use lib.ListN.{length};
-ghost use Rattle.base.specs.Bounds.{maxBranching};
-ghost use Rattle.table.specs.Rows.{rowCount, RowsBounded, RowsFit};
-ghost use Rattle.nogoods.specs.Nogoods.{Rejectable, NogoodOf, NogoodsMade, Met};
+ghost use Rattle.base.specs.Bounds.{maxNames};
+ghost use Rattle.table.specs.Rows.{rowCount, rowAt, RowsBounded, RowsFit};
+ghost use Rattle.setting.specs.RuleMasks.{BodyMasked};
+ghost use Rattle.nogoods.specs.Nogoods.{maxNogoods, Rejectable, NogoodOf, NogoodPut, Met};
+use base::MAX_ATOMS;
+use base::MAX_NAMES;
 use filling::row_alive;
-use setting::atom_bits;
+use setting::BodyMasks;
 use setting::bits_of;
-use setting::row_masks;
+use table::ROW_SIZE;
 use table::opposite;
 use table::row_head;
+use table::row_overridden;
+
+// Nogoods that a plan has room for: one that is left out costs time and nothing else.
+pub const MAX_NOGOODS: usize = 512;
 
 // Two masks over the branching atoms, and whether they say all that they should.
 pub struct Nogood {
@@ -22,30 +29,36 @@ pub struct Nogood {
 }
 
 // Bit i at name h: a row can reject the rules of layer i with that head.
-fn rejectable_masks(rows: &[u16], overridden: &[u32]) -> [u32; 512]
+pub fn rejectable_masks(rows: &[u16]) -> [u32; MAX_NAMES]
     requires { ⌜ RowsBounded (now rows) ⌝ }
-    requires { ⌜ length (now overridden) ≡ rowCount (now rows) ⌝ }
-    ensures { λ r. ⌜ Rejectable (now (rows .entry)) (now (overridden .entry)) r (rowCount (now (rows .entry))) ⌝ }
+    ensures { λ r. ⌜ Rejectable (now (rows .entry)) r (rowCount (now (rows .entry))) ⌝ }
 {
-    let count = rows.len() / 4;
-    let mut rejectable: [u32; 512] = [0; 512];
+    let count = rows.len() / ROW_SIZE;
+    let mut rejectable: [u32; MAX_NAMES] = [0; MAX_NAMES];
     let mut j = 0;
     while j < count {
         let o = opposite(row_head(rows, j));
-        rejectable[o] = rejectable[o] | overridden[j];
+        rejectable[o] = rejectable[o] | row_overridden(rows, j);
         j += 1;
     }
     rejectable
 }
 
-// The nogood of a row: whole where nothing can reject the row and all its atoms branch.
-fn row_nogood(book: &[u8], rows: &[u16], rejectable: &[u32], bits: &[u32], j: usize) -> Nogood
+// The nogood of a row with these masks of its body: whole where nothing can reject the row and all its atoms branch.
+pub fn row_nogood(
+    book: &[u8],
+    rows: &[u16],
+    rejectable: &[u32],
+    bits: &[u32],
+    body: BodyMasks,
+    j: usize,
+) -> Nogood
     requires { ⌜ RowsFit (now book) (now rows) ⌝ }
-    requires { ⌜ length (now rejectable) ≡ 512 ⌝ }
+    requires { ⌜ length (now rejectable) ≡ maxNames ⌝ }
     requires { ⌜ j < rowCount (now rows) ⌝ }
+    requires { ⌜ BodyMasked (now bits) (rowAt (now book) (now rows) j .body) (body .plain) (body .negated) (body .whole) ⌝ }
     ensures { λ r. ⌜ (r .whole ≡ true → NogoodOf (now (book .entry)) (now (rows .entry)) (now (rejectable .entry)) (now (bits .entry)) j (r .standing) (r .denied)) ⌝ }
 {
-    let body = row_masks(book, rows, bits, j);
     let standing = body.plain;
     let denied = body.negated;
     let none = Nogood {
@@ -57,7 +70,7 @@ fn row_nogood(book: &[u8], rows: &[u16], rejectable: &[u32], bits: &[u32], j: us
         return none;
     }
     let h = row_head(rows, j);
-    if h < 256 {
+    if h < MAX_ATOMS {
         let bit = bits_of(bits, h);
         if bit == 0 {
             return none;
@@ -68,7 +81,7 @@ fn row_nogood(book: &[u8], rows: &[u16], rejectable: &[u32], bits: &[u32], j: us
             whole: body.whole,
         };
     }
-    let bit = bits_of(bits, h - 256);
+    let bit = bits_of(bits, h - MAX_ATOMS);
     if bit == 0 {
         return none;
     }
@@ -79,36 +92,20 @@ fn row_nogood(book: &[u8], rows: &[u16], rejectable: &[u32], bits: &[u32], j: us
     }
 }
 
-// Writes the nogoods of the rows, as many as there is room for, and says how many they are.
-pub fn nogood_masks(
-    book: &[u8],
-    rows: &[u16],
-    overridden: &[u32],
-    atoms: &[u8],
-    masks: &mut [u32],
-) -> usize
-    requires { ⌜ RowsFit (now book) (now rows) ⌝ }
-    requires { ⌜ length (now overridden) ≡ rowCount (now rows) ⌝ }
-    requires { ⌜ (length (now atoms) ≤ maxBranching) × (length (now masks) ≡ 1024) ⌝ }
-    ensures { λ r. ⌜ NogoodsMade (now (book .entry)) (now (rows .entry)) (now (overridden .entry)) (now (atoms .entry)) (now (masks .exit)) r ⌝ }
+// Writes a nogood that is whole as an entry behind the others, as long as there is room, and says how many entries there are.
+pub fn put_nogood(masks: &mut [u32], made: usize, nogood: Nogood) -> usize
+    requires { ⌜ length (now masks) ≡ 2 * maxNogoods ⌝ }
+    ensures { λ r. ⌜ NogoodPut (now (masks .entry)) made (nogood .standing) (nogood .denied) (nogood .whole) (now (masks .exit)) r ⌝ }
 {
-    let bits = atom_bits(atoms);
-    let rejectable = rejectable_masks(rows, overridden);
-    let count = rows.len() / 4;
-    let mut made = 0;
-    let mut j = 0;
-    while j < count {
-        let nogood = row_nogood(book, rows, &rejectable, &bits, j);
-        if nogood.whole {
-            if made < 512 {
-                masks[2 * made] = nogood.standing;
-                masks[2 * made + 1] = nogood.denied;
-                made += 1;
-            }
-        }
-        j += 1;
+    if !nogood.whole {
+        return made;
     }
-    made
+    if MAX_NOGOODS <= made {
+        return made;
+    }
+    masks[2 * made] = nogood.standing;
+    masks[2 * made + 1] = nogood.denied;
+    made + 1
 }
 
 // Whether all that some nogood has is decided so.

@@ -1,4 +1,4 @@
--- The masks of bodies and of rules, as the loops make them, and the test of them. Used by atom_bits, body_masks, row_masks, rule_masks
+-- The masks of bodies and of rules, as the loops make them, and the test of them. Used by atom_bits, body_masks, row_masks, put_rule
 -- and headed, and by the crates that take their masks. Assumes nothing.
 use mathlib.Core.Path.{_≡_, refl, sym, ap, subst, _∙_}
 use mathlib.Core.Logic.{_⊎_, inl, inr, ⊎-elim}
@@ -13,6 +13,7 @@ use lib.Bits.{bitOr}
 use lib.Dec.{leb}
 use lib.ListN.{length, getD, set, take, drop, length-set, replicate, length-replicate}
 use lib.Seq.{getD-set-same, getD-set-other, getD-take, length-take-le}
+use Rattle.base.specs.Bounds.{maxAtoms, maxRules}
 use Rattle.base.proofs.Members.{_∈_}
 use Rattle.layers.specs.Masks.{bitOf}
 use Rattle.layers.proofs.BitLaws.{no-bit, no-bits, zero-bit, some-bit, or-cases, or-left, or-right}
@@ -21,18 +22,18 @@ use Rattle.format.proofs.LiteralLaws.{literals-next, literals-none}
 use Rattle.models.specs.StableModels.{positive}
 use Rattle.table.specs.Names.{literalNamed}
 use Rattle.table.specs.Rows.{rowCount, headName, rowAt}
-use Rattle.setting.specs.RuleMasks.{AtomBits, BodyMasked, RuleMask, headMask, MaskOf, MasksMade, RuleMasks, Open, Headed}
+use Rattle.setting.specs.RuleMasks.{AtomBits, BodyMasked, RuleMask, headMask, withRule, RulePut, MaskOf, MasksMade, RuleMasks, Open, Headed}
 use Rattle.setting.proofs.BitMaskLaws.{single, single-only, single-has, joined, joined-cases, joined-keeps, joined-has, or-absorbs}
 
 -- ---- the bits of the atoms
-pub bits-start : (atoms : List ℕ) → AtomBits atoms (replicate {A = ℕ} 256 0) 0
+pub bits-start : (atoms : List ℕ) → AtomBits atoms (replicate {A = ℕ} maxAtoms 0) 0
 bits-start atoms = record {
-  size = length-replicate {A = ℕ} 256 0;
-  sound = λ f i z. absurd (no-bit i (subst (λ (x : ℕ). bitOf x i ≡ 1) (no-bits 256 f) z));
+  size = length-replicate {A = ℕ} maxAtoms 0;
+  sound = λ f i z. absurd (no-bit i (subst (λ (x : ℕ). bitOf x i ≡ 1) (no-bits maxAtoms f) z));
   full = λ i h. absurd (omega arith);
 }
 
-module _ (atoms bits : List ℕ) (i f : ℕ) (w : AtomBits atoms bits i) (e : f ≡ getD atoms i 0) (b : f < 256) (h : i < 32) where
+module _ (atoms bits : List ℕ) (i f : ℕ) (w : AtomBits atoms bits i) (e : f ≡ getD atoms i 0) (b : f < maxAtoms) (h : i < 32) where
   pub bits-more : AtomBits atoms (joined bits f (single i) (omega (arith, w .size))) (i + 1)
   bits-more = record {
     size = length-set bits f (bitOr (getD bits f 0) (single i)) ∙ w .size;
@@ -168,11 +169,11 @@ masked-end {bits} {body} {i} {p} {n} {w} m h =
 -- ---- the masks of a rule
 name-plain : (h f : ℕ) → literalNamed h ≡ positive f → h ≡ f
 unfolding literalNamed
-name-plain h f e = go (leb 256 h) refl
+name-plain h f e = go (leb maxAtoms h) refl
   where
-    go : (c : Bool) → leb 256 h ≡ c → h ≡ f
+    go : (c : Bool) → leb maxAtoms h ≡ c → h ≡ f
     go true q = absurd (true≢false (sym q ∙ ap (λ (l : Literal). l .negated) e))
-    go false q = sym (ap (λ (c : Bool). cond c (h - 256) h) q) ∙ ap (λ (l : Literal). l .atom) e
+    go false q = sym (ap (λ (c : Bool). cond c (h - maxAtoms) h) q) ∙ ap (λ (l : Literal). l .atom) e
 
 -- bits of atoms, as literals of the atoms
 pub mask-literal : {atoms bits : List ℕ} {body : List Literal} {plain negated : ℕ} {whole : Bool} → AtomBits atoms bits (length atoms) → BodyMasked bits body plain negated whole
@@ -183,7 +184,7 @@ mask-literal {atoms} {body = body} w m sign i z =
     let e : v .0 ≡ record { atom = getD atoms i 0; negated = sign } = ap (λ (c : Bool). record { atom = v .0 .atom; negated = c }) (v .2) ∙ ap (λ (f : ℕ). record { atom = f; negated = sign }) (sym (b .1)) in
     (b .0, subst (λ (l : Literal). l ∈ body) e (v .1))
 
-pub rule-mask : (book rows : List ℕ) (j : ℕ) {atoms bits : List ℕ} {plain negated : ℕ} {whole : Bool} → AtomBits atoms bits (length atoms)
+rule-mask : (book rows : List ℕ) (j : ℕ) {atoms bits : List ℕ} {plain negated : ℕ} {whole : Bool} → AtomBits atoms bits (length atoms)
     → BodyMasked bits (rowAt book rows j .body) plain negated whole → (h : ℕ) → h ≡ headName rows j → RuleMask atoms (rowAt book rows j) plain negated (getD bits h 0)
 unfolding rowAt
 rule-mask book rows j {atoms} {bits} w m h eh = record {
@@ -192,13 +193,13 @@ rule-mask book rows j {atoms} {bits} w m h eh = record {
   head-in = λ i b e. subst (λ (f : ℕ). bitOf (getD bits f 0) i ≡ 1) (sym (eh ∙ name-plain (headName rows j) (getD atoms i 0) e)) (w .full i b);
 }
 
-pub masks-start : (book rows atoms masks : List ℕ) → length masks ≡ 3072 → MasksMade book rows atoms masks 0 0
+pub masks-start : (book rows atoms masks : List ℕ) → length masks ≡ 3 * maxRules → MasksMade book rows atoms masks 0 0
 masks-start book rows atoms masks e = record { size = e; room = omega arith; each = λ j i h. absurd (omega arith) }
 
 -- three masks more
 module _ (masks : List ℕ) (j a b c : ℕ) (h : 3 * j + 3 ≤ length masks) where
-  abbrev pub threeMore : List ℕ
-  threeMore = set (set (set masks (3 * j) a) (3 * j + 1) b) (3 * j + 2) c
+  abbrev threeMore : List ℕ
+  threeMore = withRule masks j a b c
 
   l1 : length (set masks (3 * j) a) ≡ length masks
   l1 = length-set masks (3 * j) a
@@ -229,7 +230,7 @@ module _ (masks : List ℕ) (j a b c : ℕ) (h : 3 * j + 3 ≤ length masks) whe
 
 module _ (book rows atoms masks : List ℕ) (j k : ℕ) (w : MasksMade book rows atoms masks j k) where
   -- a row of another head
-  pub masks-skip : ((i : ℕ) → i < length atoms → rowAt book rows j .head ≡ positive (getD atoms i 0) → ⊥) → MasksMade book rows atoms masks (j + 1) k
+  masks-skip : ((i : ℕ) → i < length atoms → rowAt book rows j .head ≡ positive (getD atoms i 0) → ⊥) → MasksMade book rows atoms masks (j + 1) k
   masks-skip none = record { size = w .size; room = omega (arith, w .room); each = λ x i h b e. go x i h b e (decLt x j) }
     where
       go : (x i : ℕ) → x < j + 1 → i < length atoms → rowAt book rows x .head ≡ positive (getD atoms i 0) → Dec (x < j) → MaskOf book rows atoms masks k x
@@ -237,49 +238,57 @@ module _ (book rows atoms masks : List ℕ) (j k : ℕ) (w : MasksMade book rows
       go x i h b e (no n) = let q : x ≡ j = omega arith in absurd (none i b (subst (λ (y : ℕ). rowAt book rows y .head ≡ positive (getD atoms i 0)) q e))
 
   module _ (a b c : ℕ) (h : 3 * k + 3 ≤ length masks) (r : RuleMask atoms (rowAt book rows j) a b c) where
-    pub masks-more : MasksMade book rows atoms (threeMore masks k a b c h) (j + 1) (k + 1)
+    masks-more : MasksMade book rows atoms (withRule masks k a b c) (j + 1) (k + 1)
     masks-more = record { size = three-size masks k a b c h ∙ w .size; room = omega (arith, w .room); each = λ x i l d e. go x i l d e (decLt x j) }
       where
-        old : (p : ℕ) → p < k → (t : ℕ) → t < 3 → getD (threeMore masks k a b c h) (3 * p + t) 0 ≡ getD masks (3 * p + t) 0
+        old : (p : ℕ) → p < k → (t : ℕ) → t < 3 → getD (withRule masks k a b c) (3 * p + t) 0 ≡ getD masks (3 * p + t) 0
         old p l t s = other masks k a b c h (3 * p + t) (λ q. absurd (omega arith)) (λ q. absurd (omega arith)) (λ q. absurd (omega arith))
 
-        zeroth : (p : ℕ) → p < k → getD (threeMore masks k a b c h) (3 * p) 0 ≡ getD masks (3 * p) 0
+        zeroth : (p : ℕ) → p < k → getD (withRule masks k a b c) (3 * p) 0 ≡ getD masks (3 * p) 0
         zeroth p l = other masks k a b c h (3 * p) (λ q. absurd (omega arith)) (λ q. absurd (omega arith)) (λ q. absurd (omega arith))
 
-        kept : (x : ℕ) → MaskOf book rows atoms masks k x → MaskOf book rows atoms (threeMore masks k a b c h) (k + 1) x
+        kept : (x : ℕ) → MaskOf book rows atoms masks k x → MaskOf book rows atoms (withRule masks k a b c) (k + 1) x
         kept x m = record {
           place = m .place;
           before = omega (arith, m .before);
           mask = rw (zeroth (m .place) (m .before), old (m .place) (m .before) 1 (omega arith), old (m .place) (m .before) 2 (omega arith)) (m .mask);
         }
 
-        new : MaskOf book rows atoms (threeMore masks k a b c h) (k + 1) j
+        new : MaskOf book rows atoms (withRule masks k a b c) (k + 1) j
         new = record { place = k; before = omega arith; mask = rw (first masks k a b c h, second masks k a b c h, third masks k a b c h) r }
 
-        go : (x i : ℕ) → x < j + 1 → i < length atoms → rowAt book rows x .head ≡ positive (getD atoms i 0) → Dec (x < j) → MaskOf book rows atoms (threeMore masks k a b c h) (k + 1) x
+        go : (x i : ℕ) → x < j + 1 → i < length atoms → rowAt book rows x .head ≡ positive (getD atoms i 0) → Dec (x < j) → MaskOf book rows atoms (withRule masks k a b c) (k + 1) x
         go x i l d e (yes p) = kept x (w .each x i p d e)
-        go x i l d e (no n) = let q : x ≡ j = omega arith in subst (MaskOf book rows atoms (threeMore masks k a b c h) (k + 1)) (sym q) new
+        go x i l d e (no n) = let q : x ≡ j = omega arith in subst (MaskOf book rows atoms (withRule masks k a b c) (k + 1)) (sym q) new
 
 -- a row whose head's bits are none has no branching atom as its plain head
-pub no-head : (book rows atoms bits : List ℕ) (j h : ℕ) → AtomBits atoms bits (length atoms) → h ≡ headName rows j → (x : ℕ) → x ≡ getD bits h 0 → x ≡ 0
+no-head : (book rows atoms bits : List ℕ) (j h : ℕ) → AtomBits atoms bits (length atoms) → h ≡ headName rows j → (x : ℕ) → x ≡ getD bits h 0 → x ≡ 0
     → (i : ℕ) → i < length atoms → rowAt book rows j .head ≡ positive (getD atoms i 0) → ⊥
 unfolding rowAt
 no-head book rows atoms bits j h w eh x ex z i b e =
     no-bit i (subst (λ (y : ℕ). bitOf y i ≡ 1) (sym ex ∙ z) (subst (λ (f : ℕ). bitOf (getD bits f 0) i ≡ 1) (sym (eh ∙ name-plain (headName rows j) (getD atoms i 0) e)) (w .full i b)))
 
+-- an entry more, or none where the head has no bit
+pub masks-put : (book rows atoms bits masks : List ℕ) (j k : ℕ) → MasksMade book rows atoms masks j k → AtomBits atoms bits (length atoms) → {plain negated : ℕ} {whole : Bool}
+    → BodyMasked bits (rowAt book rows j .body) plain negated whole → (h : ℕ) → h ≡ headName rows j → (x : ℕ) → x ≡ getD bits h 0 → 3 * k + 3 ≤ length masks
+    → {masks′ : List ℕ} {k′ : ℕ} → RulePut masks k plain negated x masks′ k′ → MasksMade book rows atoms masks′ (j + 1) k′
+masks-put book rows atoms bits masks j k w b m h eh x ex room (inl e) = rw (e .1, e .2) (masks-skip book rows atoms masks j k w (no-head book rows atoms bits j h b eh x ex (e .0)))
+masks-put book rows atoms bits masks j k w b {plain} {negated} m h eh x ex room (inr e) =
+    rw (e .0, e .1) (masks-more book rows atoms masks j k w plain negated x room (subst (RuleMask atoms (rowAt book rows j) plain negated) (sym ex) (rule-mask book rows j b m h eh)))
+
 -- the entries, lent
-pub masks-lent : (book rows atoms masks : List ℕ) (k : ℕ) → rowCount rows ≤ 1024 → MasksMade book rows atoms masks (rowCount rows) k → RuleMasks book rows atoms (take (3 * k - 0) masks)
-masks-lent book rows atoms masks k few w = record {
+pub masks-lent : (book rows atoms masks : List ℕ) (k : ℕ) → MasksMade book rows atoms masks (rowCount rows) k → k ≤ maxRules → (m : ℕ) → m ≡ 3 * k → RuleMasks book rows atoms (take m masks)
+masks-lent book rows atoms masks k w few m q = record {
   each = λ j i h b e.
-      let m : MaskOf book rows atoms masks k j = w .each j i h b e in
+      let x : MaskOf book rows atoms masks k j = w .each j i h b e in
       record {
-        place = m .place;
-        before = let l : length (take (3 * k - 0) masks) ≡ 3 * k - 0 = length-take-le (3 * k - 0) masks (omega (arith, w .size, w .room)) in omega (arith, m .before);
+        place = x .place;
+        before = let l : length (take m masks) ≡ m = length-take-le m masks (omega (arith, w .size)) in omega (arith, x .before);
         mask = rw (
-          getD-take (3 * k - 0) masks (3 * m .place) 0 (omega (arith, m .before)),
-          getD-take (3 * k - 0) masks (3 * m .place + 1) 0 (omega (arith, m .before)),
-          getD-take (3 * k - 0) masks (3 * m .place + 2) 0 (omega (arith, m .before)),
-        ) (m .mask);
+          getD-take m masks (3 * x .place) 0 (omega (arith, x .before)),
+          getD-take m masks (3 * x .place + 1) 0 (omega (arith, x .before)),
+          getD-take m masks (3 * x .place + 2) 0 (omega (arith, x .before)),
+        ) (x .mask);
       };
 }
 

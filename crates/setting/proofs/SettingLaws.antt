@@ -11,6 +11,7 @@ use lib.Bits.{bitOr}
 use lib.Dec.{T, eqb, eqb→eq, eqb-refl}
 use lib.ListN.{length, getD, set, length-set, replicate, length-replicate}
 use lib.Seq.{ext-getD, getD-set-same, getD-set-other, set-set}
+use Rattle.base.specs.Bounds.{maxAtoms}
 use Rattle.base.specs.Lists.{any, upTo}
 use Rattle.base.proofs.MapLaws.{map-length, map-at, constant-at}
 use Rattle.base.proofs.Members.{_∈_, and-left, and-right, and-both, any-at, any-of, same-test}
@@ -29,15 +30,15 @@ pub record SetAt (atoms : List ℕ) (standing n f : ℕ) : Type 0 where
   pub bit : bitOf standing place ≡ 1
 
 module _ (atoms : List ℕ) (standing : ℕ) where
-  pub setting-size : length (settingOf atoms standing) ≡ 256
+  pub setting-size : length (settingOf atoms standing) ≡ maxAtoms
   unfolding settingOf
-  setting-size = map-length (λ f. any (λ i. eqb (getD atoms i 0) f && eqb (bitOf standing i) 1) (upTo (length atoms))) 256
+  setting-size = map-length (λ f. any (λ i. eqb (getD atoms i 0) f && eqb (bitOf standing i) 1) (upTo (length atoms))) maxAtoms
 
-  at : (f : ℕ) → f < 256 → getD (settingOf atoms standing) f false ≡ any (λ i. eqb (getD atoms i 0) f && eqb (bitOf standing i) 1) (upTo (length atoms))
+  at : (f : ℕ) → f < maxAtoms → getD (settingOf atoms standing) f false ≡ any (λ i. eqb (getD atoms i 0) f && eqb (bitOf standing i) 1) (upTo (length atoms))
   unfolding settingOf
-  at f h = map-at (λ f. any (λ i. eqb (getD atoms i 0) f && eqb (bitOf standing i) 1) (upTo (length atoms))) 256 false f h
+  at f h = map-at (λ f. any (λ i. eqb (getD atoms i 0) f && eqb (bitOf standing i) 1) (upTo (length atoms))) maxAtoms false f h
 
-  module _ (f : ℕ) (h : f < 256) where
+  module _ (f : ℕ) (h : f < maxAtoms) where
     pub stands-at : T (getD (settingOf atoms standing) f false) → SetAt atoms standing (length atoms) f
     stands-at t =
         let v : (i : ℕ) × i ∈ upTo (length atoms) × T (eqb (getD atoms i 0) f && eqb (bitOf standing i) 1) =
@@ -58,28 +59,28 @@ module _ (atoms : List ℕ) (standing : ℕ) where
         (subst (λ (y : ℕ). T (eqb (bitOf standing (x .place)) y)) (x .bit) (eqb-refl (bitOf standing (x .place))))))
 
   -- an array in which the same atoms stand
-  pub setting-same : (o : List Bool) → length o ≡ 256 → ((f : ℕ) → f < 256 → T (getD o f false) → SetAt atoms standing (length atoms) f)
-      → ((f : ℕ) → f < 256 → SetAt atoms standing (length atoms) f → T (getD o f false)) → o ≡ settingOf atoms standing
+  pub setting-same : (o : List Bool) → length o ≡ maxAtoms → ((f : ℕ) → f < maxAtoms → T (getD o f false) → SetAt atoms standing (length atoms) f)
+      → ((f : ℕ) → f < maxAtoms → SetAt atoms standing (length atoms) f → T (getD o f false)) → o ≡ settingOf atoms standing
   setting-same o l from into =
       ext-getD false o (settingOf atoms standing) (l ∙ sym setting-size)
       (λ f h.
-      let b : f < 256 = subst (λ (k : ℕ). f < k) l h in
+      let b : f < maxAtoms = subst (λ (k : ℕ). f < k) l h in
       same-test (getD o f false) (getD (settingOf atoms standing) f false) (λ t. at-stands f b (from f b t)) (λ t. into f b (stands-at f b t)))
 
-pub setting-none : (atoms : List ℕ) → replicate 256 false ≡ settingOf atoms 0
+pub setting-none : (atoms : List ℕ) → replicate maxAtoms false ≡ settingOf atoms 0
 setting-none atoms =
-    setting-same atoms 0 (replicate 256 false) (length-replicate {A = Bool} 256 false) (λ f b t. absurd (subst T (constant-at false 256 f) t)) (λ f b x. absurd (no-bit (x .place) (x .bit)))
+    setting-same atoms 0 (replicate maxAtoms false) (length-replicate {A = Bool} maxAtoms false) (λ f b t. absurd (subst T (constant-at false maxAtoms f) t)) (λ f b x. absurd (no-bit (x .place) (x .bit)))
 
 -- ---- the loop of setting_of
 pub record SettingTo (atoms : List ℕ) (standing i : ℕ) (o : List Bool) : Type 0 where
-  pub size : length o ≡ 256
-  pub from : (f : ℕ) → f < 256 → T (getD o f false) → SetAt atoms standing i f
-  pub into : (f : ℕ) → f < 256 → SetAt atoms standing i f → T (getD o f false)
+  pub size : length o ≡ maxAtoms
+  pub from : (f : ℕ) → f < maxAtoms → T (getD o f false) → SetAt atoms standing i f
+  pub into : (f : ℕ) → f < maxAtoms → SetAt atoms standing i f → T (getD o f false)
 
-pub to-start : (atoms : List ℕ) (standing : ℕ) → SettingTo atoms standing 0 (replicate 256 false)
+pub to-start : (atoms : List ℕ) (standing : ℕ) → SettingTo atoms standing 0 (replicate maxAtoms false)
 to-start atoms standing = record {
-  size = length-replicate {A = Bool} 256 false;
-  from = λ f b t. absurd (subst T (constant-at false 256 f) t);
+  size = length-replicate {A = Bool} maxAtoms false;
+  from = λ f b t. absurd (subst T (constant-at false maxAtoms f) t);
   into = λ f b x. absurd (omega (arith, x .before));
 }
 
@@ -90,22 +91,22 @@ module _ (atoms : List ℕ) (standing i : ℕ) (o : List Bool) (w : SettingTo at
   pub to-pass : (bitOf standing i ≡ 1 → ⊥) → SettingTo atoms standing (i + 1) o
   to-pass off = record { size = w .size; from = λ f b t. wider f (w .from f b t); into = λ f b x. go f b x (decLt (x .place) i) }
     where
-      go : (f : ℕ) → f < 256 → (x : SetAt atoms standing (i + 1) f) → Dec (x .place < i) → T (getD o f false)
+      go : (f : ℕ) → f < maxAtoms → (x : SetAt atoms standing (i + 1) f) → Dec (x .place < i) → T (getD o f false)
       go f b x (yes l) = w .into f b (record { place = x .place; before = l; atom-is = x .atom-is; bit = x .bit })
       go f b x (no n) = let e : x .place ≡ i = omega (arith, x .before) in absurd (off (subst (λ (k : ℕ). bitOf standing k ≡ 1) e (x .bit)))
 
-  module _ (g : ℕ) (eg : g ≡ getD atoms i 0) (bg : g < 256) where
+  module _ (g : ℕ) (eg : g ≡ getD atoms i 0) (bg : g < maxAtoms) where
     pub to-more : bitOf standing i ≡ 1 → SettingTo atoms standing (i + 1) (set o g true)
     to-more on = record { size = length-set o g true ∙ w .size; from = λ f b t. back f b t (ℕ-discrete f g); into = λ f b x. go f b x (ℕ-discrete f g) (decLt (x .place) i) }
       where
         here : getD (set o g true) g false ≡ true
         here = getD-set-same o g true false (omega (arith, w .size))
 
-        back : (f : ℕ) → f < 256 → T (getD (set o g true) f false) → Dec (f ≡ g) → SetAt atoms standing (i + 1) f
+        back : (f : ℕ) → f < maxAtoms → T (getD (set o g true) f false) → Dec (f ≡ g) → SetAt atoms standing (i + 1) f
         back f b t (yes e) = record { place = i; before = omega arith; atom-is = sym eg ∙ sym e; bit = on }
         back f b t (no n) = wider f (w .from f b (subst T (getD-set-other o g f true false n) t))
 
-        go : (f : ℕ) → f < 256 → (x : SetAt atoms standing (i + 1) f) → Dec (f ≡ g) → Dec (x .place < i) → T (getD (set o g true) f false)
+        go : (f : ℕ) → f < maxAtoms → (x : SetAt atoms standing (i + 1) f) → Dec (f ≡ g) → Dec (x .place < i) → T (getD (set o g true) f false)
         go f b x (yes e) l = subst (λ (k : ℕ). T (getD (set o g true) k false)) (sym e) (subst T (sym here) tt)
         go f b x (no n) (yes l) = subst T (sym (getD-set-other o g f true false n)) (w .into f b (record { place = x .place; before = l; atom-is = x .atom-is; bit = x .bit }))
         go f b x (no n) (no m) = let e : x .place ≡ i = omega (arith, x .before) in absurd (n (sym (x .atom-is) ∙ ap (λ (k : ℕ). getD atoms k 0) e ∙ sym eg))
@@ -114,7 +115,7 @@ pub to-end : (atoms : List ℕ) (standing i : ℕ) (o : List Bool) → SettingTo
 to-end atoms standing i o w e = setting-same atoms standing o (w .size) (λ f b t. subst (λ (k : ℕ). SetAt atoms standing k f) e (w .from f b t)) (λ f b x. w .into f b (subst (λ (k : ℕ). SetAt atoms standing k f) (sym e) x))
 
 -- ---- one atom more, that was not set: the i-th, f
-module _ (atoms : List ℕ) (standing i f : ℕ) (h : i < length atoms) (b : i < 32) (e : getD atoms i 0 ≡ f) (bf : f < 256)
+module _ (atoms : List ℕ) (standing i f : ℕ) (h : i < length atoms) (b : i < 32) (e : getD atoms i 0 ≡ f) (bf : f < maxAtoms)
     (unset : (k : ℕ) → bitOf standing k ≡ 1 → getD atoms k 0 ≡ f → ⊥) where
   abbrev X : Interpretation
   X = settingOf atoms standing
@@ -123,11 +124,11 @@ module _ (atoms : List ℕ) (standing i f : ℕ) (h : i < length atoms) (b : i <
   setting-false =
       setting-same atoms standing (set X f false) (length-set X f false ∙ setting-size atoms standing) (λ g q t. from g q t (ℕ-discrete g f)) (λ g q x. into g q x (ℕ-discrete g f))
     where
-      from : (g : ℕ) → g < 256 → T (getD (set X f false) g false) → Dec (g ≡ f) → SetAt atoms standing (length atoms) g
+      from : (g : ℕ) → g < maxAtoms → T (getD (set X f false) g false) → Dec (g ≡ f) → SetAt atoms standing (length atoms) g
       from g q t (yes z) = absurd (subst T (ap (λ (k : ℕ). getD (set X f false) k false) z ∙ getD-set-same X f false false (omega (arith, setting-size atoms standing))) t)
       from g q t (no z) = stands-at atoms standing g q (subst T (getD-set-other X f g false false z) t)
 
-      into : (g : ℕ) → g < 256 → SetAt atoms standing (length atoms) g → Dec (g ≡ f) → T (getD (set X f false) g false)
+      into : (g : ℕ) → g < maxAtoms → SetAt atoms standing (length atoms) g → Dec (g ≡ f) → T (getD (set X f false) g false)
       into g q x (yes z) = absurd (unset (x .place) (x .bit) (x .atom-is ∙ z))
       into g q x (no z) = subst T (sym (getD-set-other X f g false false z)) (at-stands atoms standing g q x)
 
@@ -136,13 +137,13 @@ module _ (atoms : List ℕ) (standing i f : ℕ) (h : i < length atoms) (b : i <
       set-set X f false true
       ∙ setting-same atoms (bitOr standing (single i)) (set X f true) (length-set X f true ∙ setting-size atoms standing) (λ g q t. from g q t (ℕ-discrete g f)) (λ g q x. into g q x (ℕ-discrete g f))
     where
-      from : (g : ℕ) → g < 256 → T (getD (set X f true) g false) → Dec (g ≡ f) → SetAt atoms (bitOr standing (single i)) (length atoms) g
+      from : (g : ℕ) → g < maxAtoms → T (getD (set X f true) g false) → Dec (g ≡ f) → SetAt atoms (bitOr standing (single i)) (length atoms) g
       from g q t (yes z) = record { place = i; before = h; atom-is = e ∙ sym z; bit = or-right standing (single i) i (single-has i b) }
       from g q t (no z) =
           let x : SetAt atoms standing (length atoms) g = stands-at atoms standing g q (subst T (getD-set-other X f g true false z) t) in
           record { place = x .place; before = x .before; atom-is = x .atom-is; bit = or-left standing (single i) (x .place) (x .bit) }
 
-      into : (g : ℕ) → g < 256 → SetAt atoms (bitOr standing (single i)) (length atoms) g → Dec (g ≡ f) → T (getD (set X f true) g false)
+      into : (g : ℕ) → g < maxAtoms → SetAt atoms (bitOr standing (single i)) (length atoms) g → Dec (g ≡ f) → T (getD (set X f true) g false)
       into g q x (yes z) = subst T (sym (ap (λ (k : ℕ). getD (set X f true) k false) z ∙ getD-set-same X f true false (omega (arith, setting-size atoms standing)))) tt
       into g q x (no z) =
           subst T (sym (getD-set-other X f g true false z))

@@ -1,16 +1,21 @@
 -- Rules as masks over the branching atoms, bit i for the i-th of them: what these atoms alone can say against a rule.
 -- Assumes nothing.
 use mathlib.Core.Path.{_≡_}
+use mathlib.Core.Logic.{_⊎_}
 use mathlib.Core.Bool.{Bool, true, cond}
 use mathlib.Core.List.{List, List·Memᴰ}
 use Prim.Native.Nat.{ℕ, _+_, _*_, _/_, _<_, _≤_}
 use lib.Bits.{bitAnd, bitOr}
-use lib.ListN.{length, getD}
+use lib.ListN.{length, getD, set}
 use Rattle.base.specs.Bounds.{maxAtoms, maxRules}
 use Rattle.layers.specs.Masks.{bitOf}
 use Rattle.format.specs.Book.{Literal, Rule}
 use Rattle.models.specs.StableModels.{positive, negative}
 use Rattle.table.specs.Rows.{rowCount, rowAt}
+
+-- each is a fact that there may be
+abbrev pub Low : List ℕ → Type 0
+Low atoms = (i : ℕ) → i < length atoms → getD atoms i 0 < maxAtoms
 
 -- bit i at the i-th of the first n atoms
 pub record AtomBits (atoms bits : List ℕ) (n : ℕ) : Type 0 where
@@ -41,6 +46,15 @@ negatedMask masks k = getD masks (3 * k + 1) 0
 
 abbrev pub headMask : List ℕ → ℕ → ℕ
 headMask masks k = getD masks (3 * k + 2) 0
+
+-- entry k with other masks
+abbrev pub withRule : List ℕ → ℕ → ℕ → ℕ → ℕ → List ℕ
+withRule masks k plain negated head = set (set (set masks (3 * k) plain) (3 * k + 1) negated) (3 * k + 2) head
+
+-- an entry more, or none where the head has no bit
+abbrev pub RulePut : List ℕ → ℕ → ℕ → ℕ → ℕ → List ℕ → ℕ → Type 0
+RulePut masks made plain negated head masks′ made′ =
+    ((head ≡ 0) × (masks′ ≡ masks) × (made′ ≡ made)) ⊎ ((masks′ ≡ withRule masks made plain negated head) × (made′ ≡ made + 1))
 
 -- one of the first n entries has the masks of row j
 pub record MaskOf (book rows atoms masks : List ℕ) (n j : ℕ) : Type 0 where

@@ -1,28 +1,31 @@
 // A quick test of what is decided about the branching facts, before anything is filled: a fact that stands has to be the head of a
-// rule of whose body no literal is denied. It reads masks over the branching facts, three a rule, made once a pass. Other tests read
+// rule of whose body no literal is denied. It reads masks over the branching facts, three a rule, made once a call. Other tests read
 // the masks of bodies too.
 ghost use mathlib.Core.Path.{_≡_};
 ghost use mathlib.Core.Bool.{true};
-ghost use Prim.Native.Nat.{_*_, _/_, _<_, _≤_};
+ghost use Prim.Native.Nat.{_+_, _*_, _/_, _<_, _≤_};
 ghost use lib.ListN.{length, getD};
-ghost use Rattle.base.specs.Bounds.{maxBranching, maxRules};
+ghost use Rattle.base.specs.Bounds.{maxBranching};
 ghost use Rattle.format.specs.Book.{literalsOf};
 ghost use Rattle.table.specs.Rows.{rowCount, rowAt, RowsFit};
 ghost use Rattle.setting.specs.Setting.{settingOf};
-ghost use Rattle.setting.specs.RuleMasks.{AtomBits, BodyMasked, MasksMade, Headed};
+ghost use Rattle.setting.specs.RuleMasks.{Low, AtomBits, BodyMasked, RulePut, Headed};
+use base::MAX_ATOMS;
+use base::wide32;
 use base::wide;
 use table::row_body;
 use table::row_head;
 
 // Bit i at the i-th atom; none at the others.
-pub fn atom_bits(atoms: &[u8]) -> [u32; 256]
+pub fn atom_bits(atoms: &[u32]) -> [u32; MAX_ATOMS]
     requires { ⌜ length (now atoms) ≤ maxBranching ⌝ }
+    requires { ⌜ Low (now atoms) ⌝ }
     ensures { λ r. ⌜ AtomBits (now (atoms .entry)) r (length (now (atoms .entry))) ⌝ }
 {
-    let mut bits: [u32; 256] = [0; 256];
+    let mut bits: [u32; MAX_ATOMS] = [0; MAX_ATOMS];
     let mut i = 0;
     while i < atoms.len() {
-        let f = wide(atoms[i]);
+        let f = wide32(atoms[i]);
         bits[f] = bits[f] | (1 << (i as u32));
         i += 1;
     }
@@ -82,41 +85,33 @@ pub fn row_masks(book: &[u8], rows: &[u16], bits: &[u32], j: usize) -> BodyMasks
     body_masks(bits, row_body(book, rows, j))
 }
 
-// Writes the masks of the rows that have a branching atom as their plain head, and says how many there are: the others are never
-// asked for.
-pub fn rule_masks(book: &[u8], rows: &[u16], atoms: &[u8], masks: &mut [u32]) -> usize
-    requires { ⌜ RowsFit (now book) (now rows) × (rowCount (now rows) ≤ maxRules) × (length (now atoms) ≤ maxBranching) × (length (now masks) ≡ 3 * maxRules) ⌝ }
-    ensures { λ r. ⌜ MasksMade (now (book .entry)) (now (rows .entry)) (now (atoms .entry)) (now (masks .exit)) (rowCount (now (rows .entry))) r ⌝ }
+// Writes the masks of a rule as an entry behind the others, where its head has a bit, and says how many entries there are: rules of
+// other heads are never asked for.
+pub fn put_rule(masks: &mut [u32], made: usize, body: BodyMasks, head: u32) -> usize
+    requires { ⌜ 3 * made + 3 ≤ length (now masks) ⌝ }
+    ensures { λ r. ⌜ RulePut (now (masks .entry)) made (body .plain) (body .negated) head (now (masks .exit)) r ⌝ }
 {
-    let bits = atom_bits(atoms);
-    let count = rows.len() / 4;
-    let mut made = 0;
-    let mut j = 0;
-    while j < count {
-        let head = bits_of(&bits, row_head(rows, j));
-        if head != 0 {
-            let body = row_masks(book, rows, &bits, j);
-            let at = 3 * made;
-            masks[at] = body.plain;
-            masks[at + 1] = body.negated;
-            masks[at + 2] = head;
-            made += 1;
-        }
-        j += 1;
+    if head == 0 {
+        return made;
     }
-    made
+    let at = 3 * made;
+    masks[at] = body.plain;
+    masks[at + 1] = body.negated;
+    masks[at + 2] = head;
+    made + 1
 }
 
 // The setting that a mask stands for.
-pub fn setting_of(atoms: &[u8], standing: u32) -> [bool; 256]
+pub fn setting_of(atoms: &[u32], standing: u32) -> [bool; MAX_ATOMS]
     requires { ⌜ length (now atoms) ≤ maxBranching ⌝ }
+    requires { ⌜ Low (now atoms) ⌝ }
     ensures { λ r. ⌜ r ≡ settingOf (now (atoms .entry)) standing ⌝ }
 {
-    let mut setting = [false; 256];
+    let mut setting = [false; MAX_ATOMS];
     let mut i = 0;
     while i < atoms.len() {
         if (standing >> (i as u32)) & 1 == 1 {
-            setting[wide(atoms[i])] = true;
+            setting[wide32(atoms[i])] = true;
         }
         i += 1;
     }

@@ -6,9 +6,6 @@ use borrow.Author.Needs.{needs}
 use Rattle.nogoods.proofs.row_nogood.Statement.{statement}
 use Rattle.nogoods.proofs.row_nogood.Tie as tie
 
-row-masks-requires : tie.Need-row-masks-requires
-row-masks-requires c κs = search needs
-
 row-alive-requires : tie.Need-row-alive-requires
 row-alive-requires c κs = search needs
 
@@ -26,12 +23,12 @@ returns-2 c = λ t. absurd (false≢true t)
 
 returns-3 : tie.Need-returns-3
 returns-3 c =
-    let e = c .before .before .before .before .before .before .before .before .before .before .before in
+    let e = c .before .before .before .before .before .before .before .before .before .before in
     let a = e .args in
     let v = c .before .before .before .before .before .row-alive in
     let h = c .before .before .before .row-head in
     let b = c .before .bits-of in
-    nogood-plain (a .book .now) (a .rows .now) (a .rejectable .now) (a .bits .now) (a .j) (e .pre .1 .1) (c .before .before .before .before .before .before .row-masks .ensures) (v .result) (v .ensures) (c .before .before .before .before .if1 .left) (h .result) (h .ensures .0) (c .before .before .if2 .taken) (b .result) (b .ensures) (c .if3 .left)
+    nogood-plain (a .book .now) (a .rows .now) (a .rejectable .now) (a .bits .now) (a .j) (e .pre .1 .1 .0) (e .pre .1 .1 .1) (v .result) (v .ensures) (c .before .before .before .before .if1 .left) (h .result) (h .ensures .0) (c .before .before .if2 .taken) (b .result) (b .ensures) (c .if3 .left)
 
 bits-of-requires-2 : tie.Need-bits-of-requires-2
 bits-of-requires-2 c κs = search needs
@@ -41,18 +38,17 @@ returns-4 c = λ t. absurd (false≢true t)
 
 returns-5 : tie.Need-returns-5
 returns-5 c =
-    let e = c .before .before .before .before .before .before .before .before .before .before .before in
+    let e = c .before .before .before .before .before .before .before .before .before .before in
     let a = e .args in
     let v = c .before .before .before .before .before .row-alive in
     let h = c .before .before .before .row-head in
     let b = c .before .bits-of2 in
-    nogood-negated (a .book .now) (a .rows .now) (a .rejectable .now) (a .bits .now) (a .j) (e .pre .1 .1) (c .before .before .before .before .before .before .row-masks .ensures) (v .result) (v .ensures) (c .before .before .before .before .if1 .left) (h .result) (h .ensures .0) (c .before .before .if2 .left) (b .result) (b .ensures) (c .if4 .left)
+    nogood-negated (a .book .now) (a .rows .now) (a .rejectable .now) (a .bits .now) (a .j) (e .pre .1 .1 .0) (e .pre .1 .1 .1) (v .result) (v .ensures) (c .before .before .before .before .if1 .left) (h .result) (h .ensures .0) (c .before .before .if2 .left) (b .result) (b .ensures) (c .if4 .left)
 
 pub row-nogood-spec : {M : Type 1} → statement M
 row-nogood-spec =
     tie.close
     (tie.spec
-    row-masks-requires
     row-alive-requires
     returns
     row-head-requires

@@ -1,34 +1,38 @@
--- `atom_bits` meets its contract: each atom passed has its bit, and no other bit is set. Assumes nothing.
-use Prim.Native.Nat.{_-_, _≤_}
-use lib.ListN.{length}
-use Rattle.setting.specs.RuleMasks.{AtomBits}
+-- Each atom passed has its bit, and no other bit is set. The atoms left fall.
+use mathlib.Core.Path.{_≡_, sym, subst}
+use Prim.Native.Nat.{ℕ, _-_, _<_, _≤_}
+use lib.ListN.{length, getD}
+use Rattle.base.specs.Bounds.{maxAtoms, maxBranching}
+use Rattle.setting.specs.RuleMasks.{Low, AtomBits}
 use Rattle.setting.proofs.RuleMaskLaws.{bits-start, bits-more}
-use mathlib.Core.Path.{subst}
 use borrow.Author.Needs.{needs}
 use native.Mathlib.Omega.{arith}
 use Rattle.setting.proofs.atom_bits.Statement.{statement}
 use Rattle.setting.proofs.atom_bits.Tie as tie
 
 abbrev Inv-loop : tie.InvT-loop
-Inv-loop atoms bits₀ i₀ bits i = (length atoms ≤ 20) × (i ≤ length atoms) × AtomBits atoms bits i
+Inv-loop atoms bits₀ i₀ bits i = (length atoms ≤ maxBranching) × Low atoms × (i ≤ length atoms) × AtomBits atoms bits i
 
 abbrev μ-loop : tie.MeasureT-loop
 μ-loop atoms bits₀ i₀ bits i = length atoms - i
 
 loop-holds : tie.Need-loop-holds Inv-loop μ-loop
-loop-holds c = (c .before .pre, omega arith, bits-start (c .before .args .atoms .now))
+loop-holds c = (c .before .pre .0, c .before .pre .1, omega arith, bits-start (c .before .args .atoms .now))
 
-shared-slice-read-wide : tie.Need-shared-slice-read-wide Inv-loop μ-loop
-shared-slice-read-wide c = search needs
+mul-wide32 : tie.Need-mul-wide32 Inv-loop μ-loop
+mul-wide32 c = search needs
 
-wide-requires : tie.Need-wide-requires Inv-loop μ-loop
-wide-requires c κs = search needs
+shared-slice-read-wide32 : tie.Need-shared-slice-read-wide32 Inv-loop μ-loop
+shared-slice-read-wide32 c = search needs
+
+wide32-requires : tie.Need-wide32-requires Inv-loop μ-loop
+wide32-requires c κs = search needs
 
 mul-bits : tie.Need-mul-bits Inv-loop μ-loop
-mul-bits c = search needs
+mul-bits c = let l = c .before .before .before .loop in omega (arith, c .wide32 .ensures, l .inv .1 (l .i) (c .before .before .loop-test .taken))
 
 array-read-bits : tie.Need-array-read-bits Inv-loop μ-loop
-array-read-bits c = search needs
+array-read-bits c = let l = c .before .before .before .loop in omega (arith, c .wide32 .ensures, l .inv .1 (l .i) (c .before .before .loop-test .taken))
 
 cast-bits : tie.Need-cast-bits Inv-loop μ-loop
 cast-bits c = search needs
@@ -37,10 +41,10 @@ shl-bits : tie.Need-shl-bits Inv-loop μ-loop
 shl-bits c = search needs
 
 mul-bits-2 : tie.Need-mul-bits-2 Inv-loop μ-loop
-mul-bits-2 c = search needs
+mul-bits-2 c = let l = c .before .before .before .loop in omega (arith, c .wide32 .ensures, l .inv .1 (l .i) (c .before .before .loop-test .taken))
 
 array-write-bits : tie.Need-array-write-bits Inv-loop μ-loop
-array-write-bits c = search needs
+array-write-bits c = let l = c .before .before .before .loop in omega (arith, c .wide32 .ensures, l .inv .1 (l .i) (c .before .before .loop-test .taken))
 
 add-i : tie.Need-add-i Inv-loop μ-loop
 add-i c = search needs
@@ -49,15 +53,16 @@ loop-less : tie.Need-loop-less Inv-loop μ-loop
 loop-less c = search needs
 
 loop-again : tie.Need-loop-again Inv-loop μ-loop
-loop-again c =
+loop-again c = 
     let l = c .before .before .before .loop in
-    (l .inv .0, omega arith, bits-more (c .before .before .before .before .before .args .atoms .now) (l .bits) (l .i) (c .wide .result) (l .inv .2) (c .wide .ensures .0) (c .wide .ensures .1) (omega (arith, l .inv .0, c .before .before .loop-test .taken)))
+    let f = c .wide32 in
+    (l .inv .0, l .inv .1, omega arith, bits-more (c .before .before .before .before .before .args .atoms .now) (l .bits) (l .i) (f .result) (l .inv .3) (f .ensures) (omega (arith, f .ensures, l .inv .1 (l .i) (c .before .before .loop-test .taken))) (omega (arith, l .inv .0, c .before .before .loop-test .taken)))
 
 returns : tie.Need-returns Inv-loop μ-loop
-returns c =
+returns c = 
     let l = c .before .loop in
     let a = c .before .before .before .args .atoms .now in
-    subst (AtomBits a (l .bits)) {x = l .i} {y = length a} (omega (arith, l .inv .1, c .loop-test .left)) (l .inv .2)
+    subst (AtomBits a (l .bits)) {x = l .i} {y = length a} (omega (arith, l .inv .2, c .loop-test .left)) (l .inv .3)
 
 pub atom-bits-spec : {M : Type 1} → statement M
 atom-bits-spec =
@@ -66,8 +71,9 @@ atom-bits-spec =
     Inv-loop
     μ-loop
     loop-holds
-    shared-slice-read-wide
-    wide-requires
+    mul-wide32
+    shared-slice-read-wide32
+    wide32-requires
     mul-bits
     array-read-bits
     cast-bits

@@ -1,9 +1,11 @@
--- `setting_of` meets its contract: of the atoms passed, those whose bits are set stand. Assumes nothing.
+-- Of the atoms passed, those whose bits are set stand. The atoms left fall.
 use mathlib.Core.Path.{sym, _∙_}
 use mathlib.Core.Logic.{⊎-elim}
 use Prim.Native.Nat.{_-_, _≤_}
 use lib.ListN.{length}
+use Rattle.base.specs.Bounds.{maxBranching}
 use Rattle.layers.proofs.WarshallLaws.{test-bit}
+use Rattle.setting.specs.RuleMasks.{Low}
 use Rattle.setting.proofs.SettingLaws.{SettingTo, to-start, to-pass, to-more, to-end}
 use borrow.Author.Needs.{needs}
 use native.Mathlib.Omega.{arith}
@@ -11,13 +13,13 @@ use Rattle.setting.proofs.setting_of.Statement.{statement}
 use Rattle.setting.proofs.setting_of.Tie as tie
 
 abbrev Inv-loop : tie.InvT-loop
-Inv-loop atoms standing setting₀ i₀ setting i = (length atoms ≤ 20) × (i ≤ length atoms) × SettingTo atoms standing i setting
+Inv-loop atoms standing setting₀ i₀ setting i = (length atoms ≤ maxBranching) × Low atoms × (i ≤ length atoms) × SettingTo atoms standing i setting
 
 abbrev μ-loop : tie.MeasureT-loop
 μ-loop atoms standing setting₀ i₀ setting i = length atoms - i
 
 loop-holds : tie.Need-loop-holds Inv-loop μ-loop
-loop-holds c = (c .before .pre, omega arith, to-start (c .before .args .atoms .now) (c .before .args .standing))
+loop-holds c = (c .before .pre .0, c .before .pre .1, omega arith, to-start (c .before .args .atoms .now) (c .before .args .standing))
 
 cast-if1 : tie.Need-cast-if1 Inv-loop μ-loop
 cast-if1 c = search needs
@@ -25,14 +27,17 @@ cast-if1 c = search needs
 shr-if1 : tie.Need-shr-if1 Inv-loop μ-loop
 shr-if1 c = omega (arith, c .before .loop .inv .0, c .loop-test .taken)
 
-shared-slice-read-wide : tie.Need-shared-slice-read-wide Inv-loop μ-loop
-shared-slice-read-wide c = search needs
+mul-wide32 : tie.Need-mul-wide32 Inv-loop μ-loop
+mul-wide32 c = search needs
 
-wide-requires : tie.Need-wide-requires Inv-loop μ-loop
-wide-requires c κs = search needs
+shared-slice-read-wide32 : tie.Need-shared-slice-read-wide32 Inv-loop μ-loop
+shared-slice-read-wide32 c = search needs
+
+wide32-requires : tie.Need-wide32-requires Inv-loop μ-loop
+wide32-requires c κs = search needs
 
 array-write-setting : tie.Need-array-write-setting Inv-loop μ-loop
-array-write-setting c = search needs
+array-write-setting c = let l = c .before .before .before .before .loop in omega (arith, c .wide32 .ensures, l .inv .1 (l .i) (c .before .before .before .loop-test .taken))
 
 add-i : tie.Need-add-i Inv-loop μ-loop
 add-i c = search needs
@@ -41,19 +46,21 @@ loop-less : tie.Need-loop-less Inv-loop μ-loop
 loop-less c = search needs
 
 loop-again : tie.Need-loop-again Inv-loop μ-loop
-loop-again c =
+loop-again c = 
     let a = c .before .before .before .before .args in
-    let l = c .before .before .loop in (
+    let l = c .before .before .loop in
+    let t = c .before .loop-test .taken in (
       l .inv .0,
+      l .inv .1,
       omega arith,
       ⊎-elim
-          (λ w. rw (w .3) (to-more (a .atoms .now) (a .standing) (l .i) (l .setting) (l .inv .2) (w .2 .result) (w .2 .ensures .0) (w .2 .ensures .1) (sym (test-bit (a .standing) (l .i)) ∙ w .0 .taken)))
-          (λ w. rw (w .1) (to-pass (a .atoms .now) (a .standing) (l .i) (l .setting) (l .inv .2) (λ e. w .0 .left (test-bit (a .standing) (l .i) ∙ e))))
+          (λ w. rw (w .3) (to-more (a .atoms .now) (a .standing) (l .i) (l .setting) (l .inv .3) (w .2 .result) (w .2 .ensures) (omega (arith, w .2 .ensures, l .inv .1 (l .i) t)) (sym (test-bit (a .standing) (l .i)) ∙ w .0 .taken)))
+          (λ w. rw (w .1) (to-pass (a .atoms .now) (a .standing) (l .i) (l .setting) (l .inv .3) (λ e. w .0 .left (test-bit (a .standing) (l .i) ∙ e))))
           (c .if1 .came),
     )
 
 returns : tie.Need-returns Inv-loop μ-loop
-returns c = let l = c .before .loop in to-end (c .before .before .before .args .atoms .now) (c .before .before .before .args .standing) (l .i) (l .setting) (l .inv .2) (omega (arith, l .inv .1, c .loop-test .left))
+returns c = let l = c .before .loop in to-end (c .before .before .before .args .atoms .now) (c .before .before .before .args .standing) (l .i) (l .setting) (l .inv .3) (omega (arith, l .inv .2, c .loop-test .left))
 
 pub setting-of-spec : {M : Type 1} → statement M
 setting-of-spec =
@@ -64,8 +71,9 @@ setting-of-spec =
     loop-holds
     cast-if1
     shr-if1
-    shared-slice-read-wide
-    wide-requires
+    mul-wide32
+    shared-slice-read-wide32
+    wide32-requires
     array-write-setting
     add-i
     loop-less

@@ -10,6 +10,7 @@ use native.Mathlib.Omega.{arith}
 use lib.Bits.{bitAnd, or-add-and}
 use lib.Dec.{T, T-not, not-T}
 use lib.ListN.{length, getD}
+use Rattle.base.specs.Bounds.{maxAtoms}
 use Rattle.base.specs.Lists.{upTo}
 use Rattle.base.proofs.Members.{_∈_, or-right, all-at, all-of, any-of, filter-into}
 use Rattle.base.proofs.Rising.{Rising, filter-rising}
@@ -22,7 +23,7 @@ use Rattle.models.specs.StableModels.{Interpretation, atomHolds, signed, holds,
 use Rattle.models.specs.Branching.{canReject, branching, branchingAtoms}
 use Rattle.models.proofs.BranchingLaws.{branch}
 use Rattle.table.specs.Names.{literalNamed}
-use Rattle.table.specs.Rows.{rowCount, rowAt}
+use Rattle.table.specs.Rows.{rowCount, rowAt, overridden}
 use Rattle.table.specs.Table.{Tabulates}
 use Rattle.table.specs.Tabled.{tabled}
 use Rattle.table.proofs.NameLaws.{one-name}
@@ -31,7 +32,7 @@ use Rattle.tester.specs.Masks.{Rejection, RejectedMasks}
 use Rattle.setting.specs.Setting.{settingOf}
 use Rattle.setting.proofs.BitMaskLaws.{or-absorbs}
 use Rattle.setting.proofs.SettingLaws.{SetAt, stands-at, at-stands}
-use Rattle.displacing.specs.Displacing.{EntryOf, EntryAt, Displacing, FitsAt, RejectsAt}
+use Rattle.rejecting.specs.Rejecting.{EntryOf, EntryAt, Rejecting, FitsAt, RejectsAt}
 
 -- ---- places in a list, and that those of a rising list differ
 at-member : (xs : List ℕ) (i : ℕ) → i < length xs → getD xs i 0 ∈ xs
@@ -82,10 +83,10 @@ none-stand a b h = go (ℕ-discrete (bitAnd a b) 0)
     go (no n) = let x : (i : ℕ) × (bitOf (bitAnd a b) i ≡ 1) = some-bit (suc (bitAnd a b)) (bitAnd a b) (omega arith) (omega arith) in absurd (h (x .0) (and-first a b (x .0) (x .1)) (and-second a b (x .0) (x .1)))
 
 -- ---- the table of a program, and its branching atoms
-module _ {book rows overridden atoms : List ℕ} (n : ℕ) (formed : WellFormed (tabled book rows overridden n)) (few : tabled book rows overridden n .atoms ≤ 256)
-    (table : Tabulates (tabled book rows overridden n) book rows overridden) (listed : atoms ≡ branchingAtoms (tabled book rows overridden n)) where
+module _ {book rows atoms : List ℕ} (n : ℕ) (formed : WellFormed (tabled book rows n)) (few : tabled book rows n .atoms ≤ maxAtoms)
+    (table : Tabulates (tabled book rows n) book rows) (listed : atoms ≡ branchingAtoms (tabled book rows n)) where
   abbrev P : Program
-  P = tabled book rows overridden n
+  P = tabled book rows n
 
   once : (i j : ℕ) → i < length atoms → j < length atoms → getD atoms i 0 ≡ getD atoms j 0 → i ≡ j
   unfolding branchingAtoms
@@ -94,11 +95,11 @@ module _ {book rows overridden atoms : List ℕ} (n : ℕ) (formed : WellFormed 
   in-rules : (j : ℕ) → j < rowCount rows → rowAt book rows j ∈ P .rules
   in-rules j b = subst (λ (rs : List Rule). rowAt book rows j ∈ rs) (table .rules) (row-in book rows j b)
 
-  small : (j : ℕ) → j < rowCount rows → (l : Literal) → l ∈ rowAt book rows j .body → l .atom < 256
+  small : (j : ℕ) → j < rowCount rows → (l : Literal) → l ∈ rowAt book rows j .body → l .atom < maxAtoms
   small j b l k = omega (arith, formed .bodies (rowAt book rows j) (in-rules j b) l k)
 
   -- the atoms of a row that overrides a rule branch
-  placed : (j i : ℕ) → j < rowCount rows → bitOf (getD overridden j 0) i ≡ 1 → (l : Literal) → l ∈ rowAt book rows j .body → (p : ℕ) × (p < length atoms) × (getD atoms p 0 ≡ l .atom)
+  placed : (j i : ℕ) → j < rowCount rows → bitOf (overridden rows j) i ≡ 1 → (l : Literal) → l ∈ rowAt book rows j .body → (p : ℕ) × (p < length atoms) × (getD atoms p 0 ≡ l .atom)
   unfolding canReject branchingAtoms
   placed j i b z l k =
       let v = table .exact j b i z in
@@ -112,13 +113,13 @@ module _ {book rows overridden atoms : List ℕ} (n : ℕ) (formed : WellFormed 
     abbrev X : Interpretation
     X = settingOf atoms standing
 
-    module _ {j plain negated name layers : ℕ} (b : j < rowCount rows) (e : EntryOf book rows overridden atoms j plain negated name layers) where
+    module _ {j plain negated name layers : ℕ} (b : j < rowCount rows) (e : EntryOf book rows atoms j plain negated name layers) where
       literal-is : (l : Literal) (p : ℕ) → getD atoms p 0 ≡ l .atom → (c : Bool) → l .negated ≡ c → l ∈ rowAt book rows j .body → record { atom = getD atoms p 0; negated = c } ∈ rowAt book rows j .body
       literal-is l p q c n k =
           subst (λ (x : Literal). x ∈ rowAt book rows j .body) (ap (λ (x : Bool). record { atom = l .atom; negated = x }) n ∙ ap (λ (f : ℕ). record { atom = f; negated = c }) (sym q)) k
 
       -- where the entry fits, each literal of the body holds
-      fits-holds : (i : ℕ) → bitOf (getD overridden j 0) i ≡ 1 → bitAnd plain standing ≡ plain → bitAnd negated standing ≡ 0 → T (bodyHolds X (rowAt book rows j))
+      fits-holds : (i : ℕ) → bitOf (overridden rows j) i ≡ 1 → bitAnd plain standing ≡ plain → bitAnd negated standing ≡ 0 → T (bodyHolds X (rowAt book rows j))
       unfolding bodyHolds holds signed atomHolds
       fits-holds i z ep en = all-of (holds X) (rowAt book rows j .body) (λ l k. go l k (l .negated) refl)
         where
@@ -155,19 +156,19 @@ module _ {book rows overridden atoms : List ℕ} (n : ℕ) (formed : WellFormed 
           (at-stands atoms standing (getD atoms i 0) (small j b (record { atom = getD atoms i 0; negated = true }) (v .1)) (record { place = i; before = v .0; atom-is = refl; bit = s })))
 
     -- what reject_at says is what RejectedMasks says of the setting
-    pub rejected-at : {displacing rejects : List ℕ} → Displacing book rows overridden atoms displacing → RejectsAt displacing standing rejects (length displacing / 4)
-        → RejectedMasks book rows overridden (settingOf atoms standing) rejects (rowCount rows)
-    rejected-at {displacing} {rejects} d w = record { size = w .size; sound = λ h i z. from h i (w .sound h i z); full = λ h i x b. into h i x }
+    pub rejected-at : {rejecting rejects : List ℕ} → Rejecting book rows atoms rejecting → RejectsAt rejecting standing rejects (length rejecting / 4)
+        → RejectedMasks book rows (settingOf atoms standing) rejects (rowCount rows)
+    rejected-at {rejecting} {rejects} d w = record { size = w .size; sound = λ h i z. from h i (w .sound h i z); full = λ h i x b. into h i x }
       where
-        from : (h i : ℕ) → FitsAt displacing standing (length displacing / 4) h i → Rejection book rows overridden X (rowCount rows) h i
+        from : (h i : ℕ) → FitsAt rejecting standing (length rejecting / 4) h i → Rejection book rows X (rowCount rows) h i
         from h i x =
-            let v : (j : ℕ) × (j < rowCount rows) × EntryAt book rows overridden atoms displacing (x .place) j = d .sound (x .place) (x .before) in
-            let z : bitOf (getD overridden (v .0) 0) i ≡ 1 = subst (λ (y : ℕ). bitOf y i ≡ 1) (v .2 .layers-are) (x .bit) in
+            let v : (j : ℕ) × (j < rowCount rows) × EntryAt book rows atoms rejecting (x .place) j = d .sound (x .place) (x .before) in
+            let z : bitOf (overridden rows (v .0)) i ≡ 1 = subst (λ (y : ℕ). bitOf y i ≡ 1) (v .2 .layers-are) (x .bit) in
             record { row = v .0; before = v .1; facing = ap literalNamed (sym (x .name-is)) ∙ v .2 .facing; holds-in = fits-holds (v .1) (v .2) i z (x .fits .plain-stand) (x .fits .negated-fall); bit = z }
 
-        into : (h i : ℕ) → Rejection book rows overridden X (rowCount rows) h i → bitOf (getD rejects h 0) i ≡ 1
+        into : (h i : ℕ) → Rejection book rows X (rowCount rows) h i → bitOf (getD rejects h 0) i ≡ 1
         into h i x =
-            let v : (k : ℕ) × (k < length displacing / 4) × EntryAt book rows overridden atoms displacing k (x .row) = d .full (x .row) (x .before) (λ z. zero-bit (getD overridden (x .row) 0) i z (x .bit)) in
+            let v : (k : ℕ) × (k < length rejecting / 4) × EntryAt book rows atoms rejecting k (x .row) = d .full (x .row) (x .before) (λ z. zero-bit (overridden rows (x .row)) i z (x .bit)) in
             w .full h i (record {
               place = v .0;
               before = v .1;

@@ -4,21 +4,21 @@ use mathlib.Core.Logic.{⊎-elim}
 use mathlib.Core.List.{List}
 use Prim.Native.Nat.{ℕ, _-_, _/_, _≤_}
 use lib.ListN.{length}
-use Rattle.displacing.specs.Displacing.{RejectsAt}
-use Rattle.displacing.proofs.DisplacingLaws.{rejects-start, rejects-skip, rejects-more}
+use Rattle.rejecting.specs.Rejecting.{RejectsAt}
+use Rattle.rejecting.proofs.RejectingLaws.{rejects-start, rejects-skip, rejects-more}
 use borrow.Author.Needs.{needs}
 use native.Mathlib.Omega.{arith}
-use Rattle.displacing.proofs.reject_at.Statement.{statement}
-use Rattle.displacing.proofs.reject_at.Tie as tie
+use Rattle.rejecting.proofs.reject_at.Statement.{statement}
+use Rattle.rejecting.proofs.reject_at.Tie as tie
 
 abbrev Inv-loop : tie.InvT-loop
-Inv-loop displacing standing rejects₀ count k₀ rejects k = (count ≡ length displacing / 4) × (k ≤ count) × RejectsAt displacing standing rejects k
+Inv-loop rejecting standing rejects₀ count k₀ rejects k = (count ≡ length rejecting / 4) × (k ≤ count) × RejectsAt rejecting standing rejects k
 
 abbrev μ-loop : tie.MeasureT-loop
-μ-loop displacing standing rejects₀ count k₀ rejects k = count - k
+μ-loop rejecting standing rejects₀ count k₀ rejects k = count - k
 
 loop-holds : tie.Need-loop-holds Inv-loop μ-loop
-loop-holds c = let a = c .args in (refl, omega arith, subst (λ (x : List ℕ). RejectsAt (a .displacing .now) (a .standing) x 0) (sym (c .pre .1)) rejects-start)
+loop-holds c = let a = c .args in (refl, omega arith, subst (λ (x : List ℕ). RejectsAt (a .rejecting .now) (a .standing) x 0) (sym (c .pre .1)) rejects-start)
 
 mul-if1 : tie.Need-mul-if1 Inv-loop μ-loop
 mul-if1 c = search needs
@@ -118,7 +118,7 @@ returns : tie.Need-returns Inv-loop μ-loop
 returns c =
     let l = c .before .loop in
     let a = c .before .before .args in
-    subst (RejectsAt (a .displacing .now) (a .standing) (l .rejects)) {x = l .k} {y = length (a .displacing .now) / 4} (omega (arith, c .loop-test .left, l .inv .1)) (l .inv .2)
+    subst (RejectsAt (a .rejecting .now) (a .standing) (l .rejects)) {x = l .k} {y = length (a .rejecting .now) / 4} (omega (arith, c .loop-test .left, l .inv .1)) (l .inv .2)
 
 pub reject-at-spec : {M : Type 1} → statement M
 reject-at-spec =

@@ -1,2 +1,0 @@
-pub mod DisplacingLaws
-pub mod RejectedLaws

@@ -1,0 +1,2 @@
+pub mod RejectingLaws
+pub mod RejectedLaws
