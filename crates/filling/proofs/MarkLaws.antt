@@ -13,6 +13,7 @@ use lib.Bits.{bitAnd}
 use lib.Dec.{T, eqb, leb}
 use lib.ListN.{length, getD, set, replicate, List·getD-eq-default}
 use lib.Seq.{getD-set-same, getD-set-other}
+use Rattle.base.specs.Bounds.{maxAtoms}
 use Rattle.base.specs.Lists.{all}
 use Rattle.base.proofs.MapLaws.{constant-at}
 use Rattle.layers.specs.Masks.{bitOf}
@@ -46,17 +47,17 @@ set-keeps p f g h t = go (ℕ-discrete g f)
     go (no n) = subst T (sym (getD-set-other p f g true false n)) t
 
 module _ (p q : List Bool) where
-  pub marked-low : (h : ℕ) → h < 256 → atomHolds p h ≡ literalMarked p q (literalNamed h)
+  pub marked-low : (h : ℕ) → h < maxAtoms → atomHolds p h ≡ literalMarked p q (literalNamed h)
   unfolding literalMarked
   marked-low h k = ap (literalMarked p q) (sym (name-low h k))
 
-  pub marked-high : (h : ℕ) → 256 ≤ h → atomHolds q (h - 256) ≡ literalMarked p q (literalNamed h)
+  pub marked-high : (h : ℕ) → maxAtoms ≤ h → atomHolds q (h - maxAtoms) ≡ literalMarked p q (literalNamed h)
   unfolding literalMarked
   marked-high h k = ap (literalMarked p q) (sym (name-high h k))
 
   -- the two bytes of a literal: its fact is the second where the first has no bit but the sign, and else past the arrays
-  module _ (size : (length p ≡ 256) × (length q ≡ 256)) (a b : ℕ) (k : b < 256) where
-    past : (c : Bool) (f : ℕ) → 256 ≤ f → false ≡ atomHolds (cond c q p) f
+  module _ (size : (length p ≡ maxAtoms) × (length q ≡ maxAtoms)) (a b : ℕ) (k : b < 256) where
+    past : (c : Bool) (f : ℕ) → maxAtoms ≤ f → false ≡ atomHolds (cond c q p) f
     unfolding atomHolds
     past true f h = sym (List·getD-eq-default q false (omega (arith, size .1)))
     past false f h = sym (List·getD-eq-default p false (omega (arith, size .0)))
@@ -65,7 +66,7 @@ module _ (p q : List Bool) where
     unfolding literalMarked literalOf
     marked-past n = past (leb 32768 (a * 256 + b)) ((a * 256 + b) % 32768) (far (ℕ-discrete (a % 128) 0))
       where
-        far : Dec (a % 128 ≡ 0) → 256 ≤ (a * 256 + b) % 32768
+        far : Dec (a % 128 ≡ 0) → maxAtoms ≤ (a * 256 + b) % 32768
         far (yes e) = absurd (n e)
         far (no m) = omega arith
 
