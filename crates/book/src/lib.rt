@@ -23,6 +23,7 @@ use base::wide;
 use format::be16;
 use format::be32;
 use format::broken_section;
+use format::literal_value;
 use format::record_end;
 
 // The causes of document 01, in the order of test; specs/Numbers.antt has their numbers.
@@ -104,7 +105,7 @@ pub fn arrows_ok(part: &[u8], layers: usize) -> bool
 pub fn atom_ok(a: u8, b: u8, atoms: usize) -> bool
     ensures { λ r. ⌜ r ≡ atomBelow atoms (literalOf a b) ⌝ }
 {
-    (wide(a) * 256 + wide(b)) % 32768 < atoms
+    literal_value(a, b) % 32768 < atoms
 }
 
 // Whether the facts of all literals are.
