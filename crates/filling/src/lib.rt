@@ -15,8 +15,8 @@ use base::MAX_ATOMS;
 use base::MAX_BODY;
 use base::MAX_NAMES;
 use base::MAX_RULES;
-use base::wide;
 use base::wide16;
+use format::literal_value;
 use table::opposite;
 use table::row_body;
 use table::row_head;
@@ -44,18 +44,19 @@ fn name_marked(positive: &[bool], negative: &[bool], h: usize) -> bool
 }
 
 // The mark of the literal of two bytes. Both arrays are read, so that the sign is no branch: bodies mix signs as they like. No fact
-// is 256 or more.
+// is MAX_ATOMS or more.
 fn literal_marked(positive: &[bool], negative: &[bool], a: u8, b: u8) -> bool
     requires { ⌜ (length (now positive) ≡ maxAtoms) × (length (now negative) ≡ maxAtoms) ⌝ }
     ensures { λ r. ⌜ r ≡ literalMarked (now (positive .entry)) (now (negative .entry)) (literalOf a b) ⌝ }
 {
-    if a % 128 != 0 {
+    let v = literal_value(a, b);
+    let f = v % 32768;
+    if MAX_ATOMS <= f {
         return false;
     }
-    let f = wide(b);
     let fact = positive[f];
     let negation = negative[f];
-    if 128 <= a {
+    if 32768 <= v {
         return negation;
     }
     fact
@@ -258,10 +259,12 @@ fn unmarked_from(positive: &[bool], negative: &[bool], body: &[u8], from: usize)
 fn waiting_name(a: u8, b: u8) -> usize
     ensures { λ r. ⌜ r < maxNames ⌝ }
 {
-    if a < 128 {
-        return wide(b);
+    let v = literal_value(a, b);
+    let f = v % 32768 % MAX_ATOMS;
+    if v < 32768 {
+        return f;
     }
-    wide(b) + MAX_ATOMS
+    f + MAX_ATOMS
 }
 
 // Lets a row wait for a literal of its body that is not marked, and says whether there is one. It is looked for from the one on that
