@@ -14,6 +14,8 @@ pub const MAX_ARROWS: usize = 496;
 
 pub const MAX_RULES: usize = 1024;
 
+pub const MAX_BODY: usize = 16;
+
 pub const MAX_BRANCHING: usize = 20;
 
 // A byte as a length or an index.

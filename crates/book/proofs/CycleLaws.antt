@@ -8,6 +8,7 @@ use native.Mathlib.Omega.{arith}
 use borrow.Author.Tests.{eq-eqb, eqb-true, ltb-true, lt-ltb, not-false}
 use lib.Dec.{T, eqb, ltb, eqb→eq, eqb-refl}
 use lib.ListN.{length, getD, take, drop}
+use Rattle.base.specs.Bounds.{maxLayers}
 use Rattle.base.specs.Lists.{all, any, upTo}
 use Rattle.format.specs.Book.{u32At, records, arrowOf, arrowRecords, ruleRecords, arrowsOf, atomCount, layerCount}
 use Rattle.layers.specs.Layers.{Arrow, link, repeats, sameArrow, Path, single, longer, below}
@@ -57,11 +58,11 @@ module _ (links : List Arrow) (start : List ℕ) (reads : (x y : ℕ) → marked
   way-path x y (edge j i e) = single (link i j) (linked-in i j e) refl
   way-path x y (join j k i b p q) = path-join links k j i (way-path k i q) (way-path j k p)
 
-  path-way : ((a : Arrow) → a ∈ links → a .later < 32) → (j i : ℕ) → Path links j i → Way start j i
+  path-way : ((a : Arrow) → a ∈ links → a .later < maxLayers) → (j i : ℕ) → Path links j i → Way start j i
   path-way low j i (single a k e) = subst (λ (x : ℕ). Way start x (a .earlier)) e (edge (a .later) (a .earlier) (in-linked a k))
   path-way low j i (longer a k p) = join j (a .later) (a .earlier) (low a k) (path-way low j (a .later) p) (edge (a .later) (a .earlier) (in-linked a k))
 
-  closed : (m : List ℕ) → ((a : Arrow) → a ∈ links → a .later < 32) → ((i j : ℕ) → Linked m i j → Way start i j) → ((i j : ℕ) → Way start i j → Linked m i j) → LowerMasks links m
+  closed : (m : List ℕ) → ((a : Arrow) → a ∈ links → a .later < maxLayers) → ((i j : ℕ) → Linked m i j → Way start i j) → ((i j : ℕ) → Way start i j → Linked m i j) → LowerMasks links m
   closed m low sound full = record {
     sound = λ i j z. below-complete links i j (way-path j i (sound j i z));
     full = λ i j t. full j i (path-way low j i (below-sound links i j t));
@@ -90,15 +91,15 @@ unfolding arrowsOf
 arrows-are s b eb = ap (map arrowOf) (arrow-part s b eb)
 
 -- what follows where causes 5 and 6 do not apply
-wider : (l : ℕ) (r : List ℕ) → l ≤ 32 → T (arrowOk l r) → T (arrowOk 32 r)
+wider : (l : ℕ) (r : List ℕ) → l ≤ maxLayers → T (arrowOk l r) → T (arrowOk maxLayers r)
 unfolding arrowOk arrowOf
 wider l r h t =
     let a : T (eqb (length r) 2 && ltb (getD r 0 0) l) = and-left (eqb (length r) 2 && ltb (getD r 0 0) l) (ltb (getD r 1 0) l) t in
     let x : getD r 0 0 < l = ltb-true (getD r 0 0) l (passed (ltb (getD r 0 0) l) (and-right (eqb (length r) 2) (ltb (getD r 0 0) l) a)) in
     let y : getD r 1 0 < l = ltb-true (getD r 1 0) l (passed (ltb (getD r 1 0) l) (and-right (eqb (length r) 2 && ltb (getD r 0 0) l) (ltb (getD r 1 0) l) t)) in
-    and-both (eqb (length r) 2 && ltb (getD r 0 0) 32) (ltb (getD r 1 0) 32)
-    (and-both (eqb (length r) 2) (ltb (getD r 0 0) 32) (and-left (eqb (length r) 2) (ltb (getD r 0 0) l) a) (true-of (ltb (getD r 0 0) 32) (lt-ltb (getD r 0 0) 32 (omega arith))))
-    (true-of (ltb (getD r 1 0) 32) (lt-ltb (getD r 1 0) 32 (omega arith)))
+    and-both (eqb (length r) 2 && ltb (getD r 0 0) maxLayers) (ltb (getD r 1 0) maxLayers)
+    (and-both (eqb (length r) 2) (ltb (getD r 0 0) maxLayers) (and-left (eqb (length r) 2) (ltb (getD r 0 0) l) a) (true-of (ltb (getD r 0 0) maxLayers) (lt-ltb (getD r 0 0) maxLayers (omega arith))))
+    (true-of (ltb (getD r 1 0) maxLayers) (lt-ltb (getD r 1 0) maxLayers (omega arith)))
 
 both-low : (l : ℕ) (r : List ℕ) → T (arrowOk l r) → (arrowOf r .earlier < l) × (arrowOf r .later < l)
 unfolding arrowOk arrowOf
@@ -109,7 +110,7 @@ both-low l r t =
     )
 
 module _ (s : List ℕ) (five : isOutOfRange s ≡ false) (six : hasBadRecord s ≡ false) where
-  layers-few : layerCount s ≤ 32
+  layers-few : layerCount s ≤ maxLayers
   layers-few = ranges s five .layers-few
 
   arrows-good : T (all (arrowOk (layerCount s)) (arrowRecords s))
@@ -123,10 +124,10 @@ module _ (s : List ℕ) (five : isOutOfRange s ≡ false) (six : hasBadRecord s 
       subst (λ (b : Arrow). (b .earlier < layerCount s) × (b .later < layerCount s)) (w .2) (both-low (layerCount s) (w .0) (all-at (arrowOk (layerCount s)) arrows-good (w .1)))
 
   module _ (b : ℕ) (eb : b ≡ u32At s 8) where
-    pub part-good : all (arrowOk 32) (records (take (14 + b - 14) (drop 14 s))) ≡ true
+    pub part-good : all (arrowOk maxLayers) (records (take (14 + b - 14) (drop 14 s))) ≡ true
     part-good =
-        ap (all (arrowOk 32)) (arrow-part s b eb)
-        ∙ passed (all (arrowOk 32) (arrowRecords s)) (all-of (arrowOk 32) (arrowRecords s) (λ r k. wider (layerCount s) r layers-few (all-at (arrowOk (layerCount s)) arrows-good k)))
+        ap (all (arrowOk maxLayers)) (arrow-part s b eb)
+        ∙ passed (all (arrowOk maxLayers) (arrowRecords s)) (all-of (arrowOk maxLayers) (arrowRecords s) (λ r k. wider (layerCount s) r layers-few (all-at (arrowOk (layerCount s)) arrows-good k)))
 
     pub seven-is : (t : Bool) → t ≡ repeats (map arrowOf (records (take (14 + b - 14) (drop 14 s)))) → t ≡ repeatsArrow s
     unfolding repeatsArrow arrowsOf
@@ -149,7 +150,7 @@ module _ (s : List ℕ) (five : isOutOfRange s ≡ false) (six : hasBadRecord s 
     unfolding layerCount
     count-is = en
 
-    pub count-few : n ≤ 32
+    pub count-few : n ≤ maxLayers
     count-few = omega (arith, count-is, layers-few)
 
     pub eight-is : (m : List ℕ) → LowerMasks (arrowsOf s) m → (t : Bool) → t ≡ any (λ i. marked m i i) (upTo n) → t ≡ hasCycle s

@@ -9,6 +9,7 @@ use borrow.Author.Tests.{eqb-true, ltb-true}
 use lib.Dec.{eqb, ltb}
 use lib.ListN.{length, getD, take, drop, length-take, length-drop, replicate}
 use lib.Seq.{getD-take, getD-drop}
+use Rattle.base.specs.Bounds.{maxLayers}
 use Rattle.base.specs.Lists.{all, any}
 use Rattle.format.specs.Book.{records, recordEnd, arrowOf}
 use Rattle.book.specs.Causes.{arrowOk}
@@ -20,34 +21,34 @@ use Rattle.layers.proofs.BitLaws.{or-false, or-assoc, and-left, and-right, none
 -- the arrow record at an offset
 pub record ArrowAt (s : List ℕ) (at : ℕ) : Type 0 where
   pub room : at + 3 ≤ length s
-  pub earlier : getD s (at + 1) 0 < 32
-  pub later : getD s (at + 2) 0 < 32
-  pub rest : all (arrowOk 32) (records (drop (at + 3) s)) ≡ true
+  pub earlier : getD s (at + 1) 0 < maxLayers
+  pub later : getD s (at + 2) 0 < maxLayers
+  pub rest : all (arrowOk maxLayers) (records (drop (at + 3) s)) ≡ true
   pub split : map arrowOf (records (drop at s)) ≡ link (getD s (at + 1) 0) (getD s (at + 2) 0) ∷ map arrowOf (records (drop (at + 3) s))
 
 record Two (r : List ℕ) : Type 0 where
   size : length r ≡ 2
-  low : getD r 0 0 < 32
-  high : getD r 1 0 < 32
+  low : getD r 0 0 < maxLayers
+  high : getD r 1 0 < maxLayers
 
-two-of : (r : List ℕ) → arrowOk 32 r ≡ true → Two r
+two-of : (r : List ℕ) → arrowOk maxLayers r ≡ true → Two r
 unfolding arrowOk arrowOf
 two-of r e = record {
-  size = eqb-true (length r) 2 (and-left (eqb (length r) 2) (ltb (getD r 0 0) 32) (and-left (eqb (length r) 2 && ltb (getD r 0 0) 32) (ltb (getD r 1 0) 32) e));
-  low = ltb-true (getD r 0 0) 32 (and-right (eqb (length r) 2) (ltb (getD r 0 0) 32) (and-left (eqb (length r) 2 && ltb (getD r 0 0) 32) (ltb (getD r 1 0) 32) e));
-  high = ltb-true (getD r 1 0) 32 (and-right (eqb (length r) 2 && ltb (getD r 0 0) 32) (ltb (getD r 1 0) 32) e);
+  size = eqb-true (length r) 2 (and-left (eqb (length r) 2) (ltb (getD r 0 0) maxLayers) (and-left (eqb (length r) 2 && ltb (getD r 0 0) maxLayers) (ltb (getD r 1 0) maxLayers) e));
+  low = ltb-true (getD r 0 0) maxLayers (and-right (eqb (length r) 2) (ltb (getD r 0 0) maxLayers) (and-left (eqb (length r) 2 && ltb (getD r 0 0) maxLayers) (ltb (getD r 1 0) maxLayers) e));
+  high = ltb-true (getD r 1 0) maxLayers (and-right (eqb (length r) 2 && ltb (getD r 0 0) maxLayers) (ltb (getD r 1 0) maxLayers) e);
 }
 
-module _ (s : List ℕ) (at : ℕ) (h : at < length s) (good : all (arrowOk 32) (records (drop at s)) ≡ true) where
+module _ (s : List ℕ) (at : ℕ) (h : at < length s) (good : all (arrowOk maxLayers) (records (drop at s)) ≡ true) where
   rec-at : List ℕ
   rec-at = take (recordEnd s at - (at + 1)) (drop (at + 1) s)
 
-  opened : (arrowOk 32 rec-at && all (arrowOk 32) (records (drop (recordEnd s at) s))) ≡ true
+  opened : (arrowOk maxLayers rec-at && all (arrowOk maxLayers) (records (drop (recordEnd s at) s))) ≡ true
   unfolding all rec-at
-  opened = sym (ap (all (arrowOk 32)) (records-cut s at h)) ∙ good
+  opened = sym (ap (all (arrowOk maxLayers)) (records-cut s at h)) ∙ good
 
   two : Two rec-at
-  two = two-of rec-at (and-left (arrowOk 32 rec-at) (all (arrowOk 32) (records (drop (recordEnd s at) s))) opened)
+  two = two-of rec-at (and-left (arrowOk maxLayers rec-at) (all (arrowOk maxLayers) (records (drop (recordEnd s at) s))) opened)
 
   ends : recordEnd s at ≡ at + 3
   unfolding rec-at
@@ -75,7 +76,7 @@ module _ (s : List ℕ) (at : ℕ) (h : at < length s) (good : all (arrowOk 32) 
     room = omega (arith, ends, end-in s at h);
     earlier = omega (arith, two .low, first-byte);
     later = omega (arith, two .high, second-byte);
-    rest = rw ends at (and-right (arrowOk 32 rec-at) (all (arrowOk 32) (records (drop (recordEnd s at) s))) opened);
+    rest = rw ends at (and-right (arrowOk maxLayers rec-at) (all (arrowOk maxLayers) (records (drop (recordEnd s at) s))) opened);
     split = split-at ∙ rw (first-byte, second-byte, ends) refl;
   }
 
@@ -100,7 +101,7 @@ left-over m l = any (hit m) l || repeats l
 -- what the walks over arrows have passed
 pub record Walked (s : List ℕ) (at : ℕ) : Type 0 where
   pub inside : at ≤ length s
-  pub good : all (arrowOk 32) (records (drop at s)) ≡ true
+  pub good : all (arrowOk maxLayers) (records (drop at s)) ≡ true
 
 any-none : (m : List ℕ) (l : List Arrow) → ((x y : ℕ) → marked m x y ≡ false) → any (hit m) l ≡ false
 unfolding any hit
@@ -113,8 +114,8 @@ unfolding any hit sameArrow
 any-both m m′ b [] h = refl
 any-both m m′ b (a ∷ l) h = rw (h (a .earlier) (a .later), any-both m m′ b l h) (four (marked m (a .earlier) (a .later)) (eqb (b .earlier) (a .earlier) && eqb (b .later) (a .later)) (any (hit m) l) (any (sameArrow b) l))
 
-pub fresh : (l : List Arrow) → repeats l ≡ left-over (replicate 32 0) l
-fresh l = sym (rw (any-none (replicate 32 0) l none-marked) refl)
+pub fresh : (l : List Arrow) → repeats l ≡ left-over (replicate maxLayers 0) l
+fresh l = sym (rw (any-none (replicate maxLayers 0) l none-marked) refl)
 
 module _ (m : List ℕ) (l r : List Arrow) (i j : ℕ) (e : l ≡ link i j ∷ r) where
   opened-over : left-over m l ≡ (marked m i j || any (hit m) r || (any (sameArrow (link i j)) r || repeats r))
@@ -136,7 +137,7 @@ over-end m s at h = rw (records-done s at h) refl
 abbrev pub linked : List Arrow → ℕ → ℕ → Bool
 linked l x y = any (λ a. sameArrow a (link x y)) l
 
-pub mask-start : (l : List Arrow) (x y : ℕ) → linked l x y ≡ (marked (replicate 32 0) y x || linked l x y)
+pub mask-start : (l : List Arrow) (x y : ℕ) → linked l x y ≡ (marked (replicate maxLayers 0) y x || linked l x y)
 mask-start l x y = sym (rw (none-marked y x) refl)
 
 turned : (i j x y : ℕ) → sameArrow (link j i) (link y x) ≡ sameArrow (link i j) (link x y)

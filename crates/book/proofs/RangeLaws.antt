@@ -10,6 +10,7 @@ use native.Mathlib.Decide.{decLt}
 use borrow.Author.Tests.{le-leb, lt-leb, le-ltb, lt-ltb, leb-true, not-false}
 use lib.Dec.{leb, ltb}
 use lib.ListN.{length, getD, take, drop}
+use Rattle.base.specs.Bounds.{maxAtoms, maxLayers, maxArrows, maxRules}
 use Rattle.base.specs.Lists.{all}
 use Rattle.format.specs.Book.{u16At, u32At, records, sectionBytes, sectionCount, sectionEnd, atomCount, layerCount, ruleSection, arrowRecords, ruleRecords}
 use Rattle.book.specs.Causes.{within, arrowOk, ruleOk, isOutOfRange, hasBadRecord}
@@ -28,22 +29,22 @@ out-high low high x h = go (decLt high x)
     go (yes i) = rw (lt-ltb high x i, le-leb low x h, lt-leb x high i) refl
     go (no i) = rw (le-ltb high x (omega arith), le-leb low x h, le-leb x high (omega arith)) refl
 
-module _ (s : List ℕ) (n : ℕ) (en : n ≡ u16At s 5) (t1 : Bool) (e1 : t1 ≡ not (within 1 256 n)) where
+module _ (s : List ℕ) (n : ℕ) (en : n ≡ u16At s 5) (t1 : Bool) (e1 : t1 ≡ not (within 1 maxAtoms n)) where
   pub five-facts : t1 ≡ true → true ≡ isOutOfRange s
   unfolding isOutOfRange atomCount
   five-facts q = sym (rw (← en, ← e1, q) refl)
 
-  module _ (f1 : t1 ≡ false) (l : ℕ) (el : l ≡ getD s 7 0) (t2 : Bool) (e2 : t2 ≡ not (within 1 32 l)) where
+  module _ (f1 : t1 ≡ false) (l : ℕ) (el : l ≡ getD s 7 0) (t2 : Bool) (e2 : t2 ≡ not (within 1 maxLayers l)) where
     pub five-layers : t2 ≡ true → true ≡ isOutOfRange s
     unfolding isOutOfRange atomCount layerCount
     five-layers q = sym (rw (← en, ← e1, f1, ← el, ← e2, q) refl)
 
-    module _ (f2 : t2 ≡ false) (a : ℕ) (ea : a ≡ u16At s 12) (t3 : Bool) (e3 : t3 ≡ not (within 0 496 a)) where
+    module _ (f2 : t2 ≡ false) (a : ℕ) (ea : a ≡ u16At s 12) (t3 : Bool) (e3 : t3 ≡ not (within 0 maxArrows a)) where
       pub five-arrows : t3 ≡ true → true ≡ isOutOfRange s
       unfolding isOutOfRange atomCount layerCount sectionCount
       five-arrows q = sym (rw (← en, ← e1, f1, ← el, ← e2, f2, ← ea, ← e3, q) refl)
 
-      pub five-rules : t3 ≡ false → (b : ℕ) → b ≡ u32At s 8 → (r : ℕ) → r ≡ u16At s (14 + b + 4) → (t4 : Bool) → t4 ≡ not (within 0 1024 r) → t4 ≡ isOutOfRange s
+      pub five-rules : t3 ≡ false → (b : ℕ) → b ≡ u32At s 8 → (r : ℕ) → r ≡ u16At s (14 + b + 4) → (t4 : Bool) → t4 ≡ not (within 0 maxRules r) → t4 ≡ isOutOfRange s
       unfolding isOutOfRange atomCount layerCount sectionCount ruleSection sectionEnd sectionBytes
       five-rules f3 b eb r er t4 e4 = sym (rw (← en, ← e1, f1, ← el, ← e2, f2, ← ea, ← e3, f3, ← eb, ← er, ← e4) refl)
 
@@ -57,26 +58,26 @@ in-range low high x e =
 -- n, L and the counts are in their ranges
 pub record Ranges (s : List ℕ) : Type 0 where
   pub some-atom : 1 ≤ atomCount s
-  pub atoms-few : atomCount s ≤ 256
-  pub layers-few : layerCount s ≤ 32
-  pub arrows-few : sectionCount s 8 ≤ 496
-  pub rules-few : sectionCount s (ruleSection s) ≤ 1024
+  pub atoms-few : atomCount s ≤ maxAtoms
+  pub layers-few : layerCount s ≤ maxLayers
+  pub arrows-few : sectionCount s 8 ≤ maxArrows
+  pub rules-few : sectionCount s (ruleSection s) ≤ maxRules
 
 pub ranges : (s : List ℕ) → isOutOfRange s ≡ false → Ranges s
 unfolding isOutOfRange
 ranges s e =
-    let a : Bool = not (within 1 256 (atomCount s)) in
-    let b : Bool = not (within 1 32 (layerCount s)) in
-    let c : Bool = not (within 0 496 (sectionCount s 8)) in
-    let d : Bool = not (within 0 1024 (sectionCount s (ruleSection s))) in
+    let a : Bool = not (within 1 maxAtoms (atomCount s)) in
+    let b : Bool = not (within 1 maxLayers (layerCount s)) in
+    let c : Bool = not (within 0 maxArrows (sectionCount s 8)) in
+    let d : Bool = not (within 0 maxRules (sectionCount s (ruleSection s))) in
     let abc : (a || b || c) ≡ false = or-first (a || b || c) d e in
     let ab : (a || b) ≡ false = or-first (a || b) c abc in
     record {
-      some-atom = in-range 1 256 (atomCount s) (or-first a b ab) .0;
-      atoms-few = in-range 1 256 (atomCount s) (or-first a b ab) .1;
-      layers-few = in-range 1 32 (layerCount s) (or-second a b ab) .1;
-      arrows-few = in-range 0 496 (sectionCount s 8) (or-second (a || b) c abc) .1;
-      rules-few = in-range 0 1024 (sectionCount s (ruleSection s)) (or-second (a || b || c) d e) .1;
+      some-atom = in-range 1 maxAtoms (atomCount s) (or-first a b ab) .0;
+      atoms-few = in-range 1 maxAtoms (atomCount s) (or-first a b ab) .1;
+      layers-few = in-range 1 maxLayers (layerCount s) (or-second a b ab) .1;
+      arrows-few = in-range 0 maxArrows (sectionCount s 8) (or-second (a || b) c abc) .1;
+      rules-few = in-range 0 maxRules (sectionCount s (ruleSection s)) (or-second (a || b || c) d e) .1;
     }
 
 -- the records of both sections, as the code cuts them

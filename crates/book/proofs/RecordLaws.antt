@@ -6,13 +6,14 @@ use mathlib.Core.List.{List}
 use Prim.Native.Nat.{ℕ, _+_, _*_, _-_, _/_, _%_, _<_, _≤_}
 use native.Mathlib.Omega.{arith}
 use borrow.Author.Tests.{lt-ltb, le-ltb, eq-eqb, ne-eqb}
-use lib.Dec.{T, ltb, eqb}
+use lib.Dec.{T, ltb, eqb, eqb→eq}
 use lib.ListN.{length, getD, drop}
+use Rattle.base.specs.Bounds.{maxBody}
 use Rattle.base.specs.Lists.{all, any, upTo}
 use Rattle.format.specs.Book.{literalOf, literalsOf, arrowOf, ruleOf}
 use Rattle.book.specs.Causes.{arrowOk, ruleLength, atomBelow, ruleOk}
-use Rattle.base.proofs.UpTo.{passed, upTo-has}
-use Rattle.base.proofs.Members.{any-of}
+use Rattle.base.proofs.UpTo.{passed, failed, upTo-lt, upTo-has}
+use Rattle.base.proofs.Members.{any-at, any-of}
 
 module _ (l : ℕ) (r : List ℕ) where
   pub arrow-length : (length r ≡ 2 → ⊥) → false ≡ arrowOk l r
@@ -28,40 +29,24 @@ module _ (l : ℕ) (r : List ℕ) where
   arrow-later x y e f q h = sym (rw (eq-eqb _ _ q, lt-ltb (getD r 0 0) l (omega arith), f) refl)
 
 -- the length of a rule
-off-length : (k : ℕ) → ((b : ℕ) → b < 17 → k ≡ 3 + 2 * b → ⊥) → ruleLength k ≡ false
-unfolding ruleLength any upTo
-off-length k h = rw (
-  ne-eqb k 3 (h 0 (omega arith)),
-  ne-eqb k 5 (h 1 (omega arith)),
-  ne-eqb k 7 (h 2 (omega arith)),
-  ne-eqb k 9 (h 3 (omega arith)),
-  ne-eqb k 11 (h 4 (omega arith)),
-  ne-eqb k 13 (h 5 (omega arith)),
-  ne-eqb k 15 (h 6 (omega arith)),
-  ne-eqb k 17 (h 7 (omega arith)),
-  ne-eqb k 19 (h 8 (omega arith)),
-  ne-eqb k 21 (h 9 (omega arith)),
-  ne-eqb k 23 (h 10 (omega arith)),
-  ne-eqb k 25 (h 11 (omega arith)),
-  ne-eqb k 27 (h 12 (omega arith)),
-  ne-eqb k 29 (h 13 (omega arith)),
-  ne-eqb k 31 (h 14 (omega arith)),
-  ne-eqb k 33 (h 15 (omega arith)),
-  ne-eqb k 35 (h 16 (omega arith)),
-) refl
+off-length : (k : ℕ) → ((b : ℕ) → b < maxBody + 1 → k ≡ 3 + 2 * b → ⊥) → ruleLength k ≡ false
+unfolding ruleLength
+off-length k h =
+    failed (any (λ b. eqb k (3 + 2 * b)) (upTo (maxBody + 1)))
+    (λ t. let x = any-at (λ b. eqb k (3 + 2 * b)) (upTo (maxBody + 1)) t in h (x .0) (upTo-lt (maxBody + 1) (x .0) (x .1)) (eqb→eq k (3 + 2 * x .0) (x .2)))
 
-of-length : (k : ℕ) → 3 ≤ k → k ≤ 35 → (k % 2 ≡ 0 → ⊥) → ruleLength k ≡ true
+of-length : (k : ℕ) → 3 ≤ k → k ≤ 3 + 2 * maxBody → (k % 2 ≡ 0 → ⊥) → ruleLength k ≡ true
 unfolding ruleLength
 of-length k h i n =
-    passed (any (λ b. eqb k (3 + 2 * b)) (upTo 17))
-    (any-of (λ b. eqb k (3 + 2 * b)) (upTo-has 17 ((k - 3) / 2) (omega arith)) (subst T (sym (eq-eqb k (3 + 2 * ((k - 3) / 2)) (omega arith))) tt))
+    passed (any (λ b. eqb k (3 + 2 * b)) (upTo (maxBody + 1)))
+    (any-of (λ b. eqb k (3 + 2 * b)) (upTo-has (maxBody + 1) ((k - 3) / 2) (omega arith)) (subst T (sym (eq-eqb k (3 + 2 * ((k - 3) / 2)) (omega arith))) tt))
 
 module _ (l n : ℕ) (r : List ℕ) where
   pub rule-short : length r < 3 → false ≡ ruleOk l n r
   unfolding ruleOk
   rule-short h = sym (rw (off-length (length r) (λ b i e. omega arith)) refl)
 
-  pub rule-long : 35 < length r → false ≡ ruleOk l n r
+  pub rule-long : 3 + 2 * maxBody < length r → false ≡ ruleOk l n r
   unfolding ruleOk
   rule-long h = sym (rw (off-length (length r) (λ b i e. omega arith)) refl)
 
@@ -69,7 +54,7 @@ module _ (l n : ℕ) (r : List ℕ) where
   unfolding ruleOk
   rule-even h = sym (rw (off-length (length r) (λ b i e. omega arith)) refl)
 
-  module _ (low : 3 ≤ length r) (high : length r ≤ 35) (odd : length r % 2 ≡ 0 → ⊥) (x : ℕ) (e : x ≡ getD r 0 0) where
+  module _ (low : 3 ≤ length r) (high : length r ≤ 3 + 2 * maxBody) (odd : length r % 2 ≡ 0 → ⊥) (x : ℕ) (e : x ≡ getD r 0 0) where
     pub rule-layer : l ≤ x → false ≡ ruleOk l n r
     unfolding ruleOk ruleOf
     rule-layer h = sym (rw (of-length (length r) low high odd, le-ltb (getD r 0 0) l (omega arith)) refl)

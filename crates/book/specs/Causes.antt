@@ -21,7 +21,7 @@ within low high x = leb low x && leb x high
 unfoldable pub arrowOk : ℕ → List ℕ → Bool
 arrowOk layers r = eqb (length r) 2 && ltb (arrowOf r .earlier) layers && ltb (arrowOf r .later) layers
 
--- a rule's length is 3 + 2b, with b from 0 to 16
+-- a rule's length is 3 + 2b, with b from 0 to `maxBody`
 unfoldable pub ruleLength : ℕ → Bool
 ruleLength k = any (λ b. eqb k (3 + 2 * b)) (upTo (maxBody + 1))
 

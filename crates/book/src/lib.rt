@@ -4,6 +4,7 @@ ghost use mathlib.Core.Bool.{not, true, false};
 ghost use mathlib.Core.List.{map};
 ghost use Prim.Native.Nat.{ℕ};
 ghost use lib.ListN.{drop};
+ghost use Rattle.base.specs.Bounds.{maxLayers};
 ghost use Rattle.base.specs.Lists.{all, any};
 ghost use Rattle.layers.specs.Layers.{link, repeats, sameArrow};
 ghost use Rattle.layers.specs.Masks.{marked, LowerMasks};
@@ -15,12 +16,14 @@ ghost use Rattle.book.specs.declared.Verdict.the-variants.{Refused};
 ghost use Rattle.book.specs.Numbers.{numberOf};
 use base::MAX_ARROWS;
 use base::MAX_ATOMS;
+use base::MAX_BODY;
 use base::MAX_LAYERS;
 use base::MAX_RULES;
 use base::wide;
 use format::be16;
 use format::be32;
 use format::broken_section;
+use format::literal_value;
 use format::record_end;
 
 // The causes of document 01, in the order of test; specs/Numbers.antt has their numbers.
@@ -102,7 +105,7 @@ pub fn arrows_ok(part: &[u8], layers: usize) -> bool
 pub fn atom_ok(a: u8, b: u8, atoms: usize) -> bool
     ensures { λ r. ⌜ r ≡ atomBelow atoms (literalOf a b) ⌝ }
 {
-    (wide(a) * 256 + wide(b)) % 32768 < atoms
+    literal_value(a, b) % 32768 < atoms
 }
 
 // Whether the facts of all literals are.
@@ -119,7 +122,10 @@ pub fn literals_ok(literals: &[u8], atoms: usize) -> bool
     true
 }
 
-// Whether a rule's record has length 3 + 2b with b up to 16, a layer below L and facts below n.
+// Bytes of the longest record of a rule: a layer, a head and a whole body.
+const LONGEST_RULE: usize = 3 + 2 * MAX_BODY;
+
+// Whether a rule's record has length 3 + 2b with b up to MAX_BODY, a layer below L and facts below n.
 pub fn rule_ok(rec: &[u8], layers: usize, atoms: usize) -> bool
     ensures { λ r. ⌜ r ≡ ruleOk layers atoms (now (rec .entry)) ⌝ }
 {
@@ -127,7 +133,7 @@ pub fn rule_ok(rec: &[u8], layers: usize, atoms: usize) -> bool
     if len < 3 {
         return false;
     }
-    if 35 < len {
+    if LONGEST_RULE < len {
         return false;
     }
     if len % 2 == 0 {
@@ -205,10 +211,10 @@ pub fn bad_record(book: &[u8]) -> bool
 
 // Whether two arrow records are equal: each arrow is looked up in the masks of those before it.
 pub fn repeated(part: &[u8]) -> bool
-    requires { ⌜ all (arrowOk 32) (records (now part)) ≡ true ⌝ }
+    requires { ⌜ all (arrowOk maxLayers) (records (now part)) ≡ true ⌝ }
     ensures { λ r. ⌜ r ≡ repeats (map arrowOf (records (now (part .entry)))) ⌝ }
 {
-    let mut m: [u32; 32] = [0; 32];
+    let mut m: [u32; MAX_LAYERS] = [0; MAX_LAYERS];
     let mut at: usize = 0;
     while at < part.len() {
         let i = wide(part[at + 1]);
@@ -223,11 +229,11 @@ pub fn repeated(part: &[u8]) -> bool
 }
 
 // The arrows as masks: bit i of mask j for an arrow from i to j.
-fn arrow_masks(part: &[u8]) -> [u32; 32]
-    requires { ⌜ all (arrowOk 32) (records (now part)) ≡ true ⌝ }
+fn arrow_masks(part: &[u8]) -> [u32; MAX_LAYERS]
+    requires { ⌜ all (arrowOk maxLayers) (records (now part)) ≡ true ⌝ }
     ensures { λ r. ⌜ ((x y : ℕ) → marked r y x ≡ any (λ a. sameArrow a (link x y)) (map arrowOf (records (now (part .entry))))) ⌝ }
 {
-    let mut m: [u32; 32] = [0; 32];
+    let mut m: [u32; MAX_LAYERS] = [0; MAX_LAYERS];
     let mut at: usize = 0;
     while at < part.len() {
         let i = wide(part[at + 1]);
@@ -248,7 +254,7 @@ pub fn repeated_arrow(book: &[u8]) -> bool
 }
 
 // Each layer's mask of the layers below it, once causes 4 to 6 are ruled out: the closure of the arrows.
-fn lower_masks(book: &[u8]) -> [u32; 32]
+fn lower_masks(book: &[u8]) -> [u32; MAX_LAYERS]
     requires { ⌜ (hasBrokenSection (now book) ≡ false) × (isOutOfRange (now book) ≡ false) × (hasBadRecord (now book) ≡ false) ⌝ }
     ensures { λ r. ⌜ LowerMasks (arrowsOf (now (book .entry))) r ⌝ }
 {
@@ -261,7 +267,7 @@ fn lower_masks(book: &[u8]) -> [u32; 32]
 // masks, and so does every call that drives a layer.
 pub struct Checked {
     pub verdict: Verdict,
-    pub lower: [u32; 32],
+    pub lower: [u32; MAX_LAYERS],
 }
 
 // A refusal: its masks are never read.
@@ -270,7 +276,7 @@ fn refused(cause: Cause) -> Checked
 {
     Checked {
         verdict: Verdict::Refused(cause),
-        lower: [0; 32],
+        lower: [0; MAX_LAYERS],
     }
 }
 

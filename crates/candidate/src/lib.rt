@@ -5,6 +5,7 @@ ghost use lib.ListN.{length, take};
 ghost use Rattle.base.specs.Bounds.{maxAtoms};
 ghost use Rattle.models.specs.Listing.{recordSize, bitAt, interpretationOf};
 ghost use Rattle.candidate.specs.Candidate.{isBadCandidate};
+use base::MAX_ATOMS;
 use records::record_size;
 
 // The bit of fact f.
@@ -37,12 +38,12 @@ pub fn bad_candidate(candidate: &[u8], n: usize) -> bool
 }
 
 // The state of n facts that a candidate gives, in the first places.
-pub fn read_candidate(candidate: &[u8], n: usize) -> [bool; 256]
+pub fn read_candidate(candidate: &[u8], n: usize) -> [bool; MAX_ATOMS]
     requires { ⌜ n ≤ maxAtoms ⌝ }
     requires { ⌜ length (now candidate) ≡ recordSize n ⌝ }
     ensures { λ r. ⌜ take n r ≡ interpretationOf n (now (candidate .entry)) ⌝ }
 {
-    let mut m = [false; 256];
+    let mut m = [false; MAX_ATOMS];
     let mut f = 0;
     while f < n {
         m[f] = bit_at(candidate, f);

@@ -8,6 +8,7 @@ use native.Mathlib.Decide.{decLt}
 use native.Mathlib.Omega.{arith}
 use lib.Dec.{T}
 use lib.ListN.{length, set, replicate}
+use Rattle.base.specs.Bounds.{maxAtoms, maxNames}
 use Rattle.base.specs.Lists.{all}
 use Rattle.format.specs.Book.{Literal, Rule}
 use Rattle.models.specs.StableModels.{atomHolds, complement}
@@ -24,7 +25,7 @@ module _ (book rows rejects : List ℕ) where
   -- a pass that began with p₀ and q₀ has come to row j
   pub record Passing (p₀ q₀ p q : List Bool) (added : Bool) (j : ℕ) : Type 0 where
     pub within : j ≤ rowCount rows
-    pub size : (length p ≡ 256) × (length q ≡ 256)
+    pub size : (length p ≡ maxAtoms) × (length q ≡ maxAtoms)
     pub grown : Grown book rows rejects p₀ q₀ p q
     pub fewer : falses p + falses q + cond added 1 0 ≤ falses p₀ + falses q₀
     pub closed : added ≡ false → Closed book rows rejects p q j
@@ -43,16 +44,16 @@ forced true d e t = tt
 forced false d e t = subst T e t
 
 -- at the start no fact is marked
-start-apart : (start : List Bool) → Apart (replicate 256 false) start
+start-apart : (start : List Bool) → Apart (replicate maxAtoms false) start
 unfolding literalMarked atomHolds complement
 start-apart start l t u = one (l .atom) (l .negated) t u
   where
-    one : (f : ℕ) (c : Bool) → T (literalMarked (replicate 256 false) start (record { atom = f; negated = c })) → T (literalMarked (replicate 256 false) start (record { atom = f; negated = not c })) → ⊥
-    one f true t u = subst T (blank 256 f) u
-    one f false t u = subst T (blank 256 f) t
+    one : (f : ℕ) (c : Bool) → T (literalMarked (replicate maxAtoms false) start (record { atom = f; negated = c })) → T (literalMarked (replicate maxAtoms false) start (record { atom = f; negated = not c })) → ⊥
+    one f true t u = subst T (blank maxAtoms f) u
+    one f false t u = subst T (blank maxAtoms f) t
 
 module _ {book rows rejects : List ℕ} where
-  pub pass-start : (p q : List Bool) → (length p ≡ 256) × (length q ≡ 256) → Passing book rows rejects p q p q false 0
+  pub pass-start : (p q : List Bool) → (length p ≡ maxAtoms) × (length q ≡ maxAtoms) → Passing book rows rejects p q p q false 0
   pass-start p q w = record { within = omega arith; size = w; grown = grown-none p q; fewer = omega arith; closed = λ e i h. absurd (omega arith) }
 
   pub pass-skip : {p₀ q₀ p q : List Bool} {ad : Bool} {j : ℕ} → Passing book rows rejects p₀ q₀ p q ad j → j < rowCount rows
@@ -100,12 +101,12 @@ module _ {book rows rejects : List ℕ} where
 
   -- the negations that are assumed follow
   module _ (start : List Bool) where
-    start-literal : (f : ℕ) (c : Bool) → T (literalMarked (replicate 256 false) start (record { atom = f; negated = c })) → FollowsFrom book rows rejects start (record { atom = f; negated = c })
+    start-literal : (f : ℕ) (c : Bool) → T (literalMarked (replicate maxAtoms false) start (record { atom = f; negated = c })) → FollowsFrom book rows rejects start (record { atom = f; negated = c })
     unfolding literalMarked atomHolds
     start-literal f true t = from-start f t
-    start-literal f false t = absurd (subst T (blank 256 f) t)
+    start-literal f false t = absurd (subst T (blank maxAtoms f) t)
 
-    start-sound : SoundMarks book rows rejects start (replicate 256 false) start
+    start-sound : SoundMarks book rows rejects start (replicate maxAtoms false) start
     start-sound = record { sound = λ l t. start-literal (l .atom) (l .negated) t; started = λ f t. t }
 
   -- nothing is added any more: all that follows is marked
@@ -127,7 +128,7 @@ module _ {book rows rejects : List ℕ} where
     clash = λ e. w .clash e start (s .sound);
   }
 
-  pub filled-from-start : {start p q : List Bool} {c : Bool} → FilledOn book rows rejects (replicate 256 false) start p q c → Fills book rows rejects start p q c
+  pub filled-from-start : {start p q : List Bool} {c : Bool} → FilledOn book rows rejects (replicate maxAtoms false) start p q c → Fills book rows rejects start p q c
   filled-from-start {start} w = filled-on (start-sound start) (start-apart start) w
 
   -- the last pass added nothing
@@ -139,11 +140,11 @@ module _ {book rows rejects : List ℕ} where
   clashed v w e = record { grown = grown-both (v .grown) (w .grown); closed = λ y. absurd (true≢false y); clash = λ y start s. w .clash e start (v .grown .sound start s) }
 
   -- a fact both ways
-  pub conflict : {start : List Bool} (h : ℕ) → h < 512 → FollowsFrom book rows rejects start (literalNamed h) → FollowsFrom book rows rejects start (complement (literalNamed h)) → Conflict book rows rejects start
+  pub conflict : {start : List Bool} (h : ℕ) → h < maxNames → FollowsFrom book rows rejects start (literalNamed h) → FollowsFrom book rows rejects start (complement (literalNamed h)) → Conflict book rows rejects start
   unfolding complement
-  conflict {start} h b x y = go (decLt h 256)
+  conflict {start} h b x y = go (decLt h maxAtoms)
     where
-      go : Dec (h < 256) → Conflict book rows rejects start
+      go : Dec (h < maxAtoms) → Conflict book rows rejects start
       go (yes k) = record {
         atom = h;
         bound = k;
@@ -151,7 +152,7 @@ module _ {book rows rejects : List ℕ} where
         as-negative = subst (λ (l : Literal). FollowsFrom book rows rejects start (complement l)) (name-low h k) y;
       }
       go (no k) = record {
-        atom = h - 256;
+        atom = h - maxAtoms;
         bound = omega arith;
         as-positive = subst (λ (l : Literal). FollowsFrom book rows rejects start (complement l)) (name-high h (omega arith)) y;
         as-negative = subst (FollowsFrom book rows rejects start) (name-high h (omega arith)) x;
@@ -160,7 +161,7 @@ module _ {book rows rejects : List ℕ} where
   -- as the code has it: the head's name is in a local
   module _ {p₀ q₀ p q : List Bool} {ad : Bool} {j : ℕ} (w : Passing book rows rejects p₀ q₀ p q ad j) (b : j < rowCount rows) (r : Bool) (er : r ≡ adds p q rejects (rowAt book rows j)) (t : r ≡ true) (h : ℕ) (e : h ≡ headName rows j)
       (o : ℕ) (eo : literalNamed o ≡ complement (literalNamed h)) (c : Bool) (ec : c ≡ literalMarked p q (literalNamed o)) where
-    pub pass-clash : h < 512 → c ≡ true → PassEnd book rows rejects p₀ q₀ p q ad true
+    pub pass-clash : h < maxNames → c ≡ true → PassEnd book rows rejects p₀ q₀ p q ad true
     unfolding rowAt
     pass-clash k f = record { grown = w .grown; fewer = w .fewer; closed = λ y. absurd (true≢false y); clash = λ y start v. conflict h k (head-is start v) (opposite-is start v) }
       where
@@ -177,8 +178,8 @@ module _ {book rows rejects : List ℕ} where
       free : literalMarked p q (complement (rowAt book rows j .head)) ≡ false
       free = opposite-free book rows rejects p q (w .size) j (sym er ∙ t) h e o eo c ec f
 
-      pub pass-low : h < 256 → Passing book rows rejects p₀ q₀ (set p h true) q true (j + 1)
+      pub pass-low : h < maxAtoms → Passing book rows rejects p₀ q₀ (set p h true) q true (j + 1)
       pass-low k = pass-add w b (sym er ∙ t) (one-low book rows rejects p q (w .size) j (sym er ∙ t) h e k) free
 
-      pub pass-high : 256 ≤ h → h < 512 → Passing book rows rejects p₀ q₀ p (set q (h - 256) true) true (j + 1)
+      pub pass-high : maxAtoms ≤ h → h < maxNames → Passing book rows rejects p₀ q₀ p (set q (h - maxAtoms) true) true (j + 1)
       pass-high k i = pass-add w b (sym er ∙ t) (one-high book rows rejects p q (w .size) j (sym er ∙ t) h e k i) free

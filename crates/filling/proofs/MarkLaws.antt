@@ -13,6 +13,7 @@ use lib.Bits.{bitAnd}
 use lib.Dec.{T, eqb, leb}
 use lib.ListN.{length, getD, set, replicate, List·getD-eq-default}
 use lib.Seq.{getD-set-same, getD-set-other}
+use Rattle.base.specs.Bounds.{maxAtoms}
 use Rattle.base.specs.Lists.{all}
 use Rattle.base.proofs.MapLaws.{constant-at}
 use Rattle.layers.specs.Masks.{bitOf}
@@ -46,36 +47,32 @@ set-keeps p f g h t = go (ℕ-discrete g f)
     go (no n) = subst T (sym (getD-set-other p f g true false n)) t
 
 module _ (p q : List Bool) where
-  pub marked-low : (h : ℕ) → h < 256 → atomHolds p h ≡ literalMarked p q (literalNamed h)
+  pub marked-low : (h : ℕ) → h < maxAtoms → atomHolds p h ≡ literalMarked p q (literalNamed h)
   unfolding literalMarked
   marked-low h k = ap (literalMarked p q) (sym (name-low h k))
 
-  pub marked-high : (h : ℕ) → 256 ≤ h → atomHolds q (h - 256) ≡ literalMarked p q (literalNamed h)
+  pub marked-high : (h : ℕ) → maxAtoms ≤ h → atomHolds q (h - maxAtoms) ≡ literalMarked p q (literalNamed h)
   unfolding literalMarked
   marked-high h k = ap (literalMarked p q) (sym (name-high h k))
 
-  -- the two bytes of a literal: its fact is the second where the first has no bit but the sign, and else past the arrays
-  module _ (size : (length p ≡ 256) × (length q ≡ 256)) (a b : ℕ) (k : b < 256) where
-    past : (c : Bool) (f : ℕ) → 256 ≤ f → false ≡ atomHolds (cond c q p) f
+  -- the two bytes of a literal as one number: a fact past the arrays is not marked, and the sign says which array has the mark
+  module _ (size : (length p ≡ maxAtoms) × (length q ≡ maxAtoms)) (a b v : ℕ) (e : v ≡ a * 256 + b) where
+    past : (c : Bool) (f : ℕ) → maxAtoms ≤ f → false ≡ atomHolds (cond c q p) f
     unfolding atomHolds
     past true f h = sym (List·getD-eq-default q false (omega (arith, size .1)))
     past false f h = sym (List·getD-eq-default p false (omega (arith, size .0)))
 
-    pub marked-past : (a % 128 ≡ 0 → ⊥) → false ≡ literalMarked p q (literalOf a b)
+    pub marked-past : maxAtoms ≤ v % 32768 → false ≡ literalMarked p q (literalOf a b)
     unfolding literalMarked literalOf
-    marked-past n = past (leb 32768 (a * 256 + b)) ((a * 256 + b) % 32768) (far (ℕ-discrete (a % 128) 0))
-      where
-        far : Dec (a % 128 ≡ 0) → 256 ≤ (a * 256 + b) % 32768
-        far (yes e) = absurd (n e)
-        far (no m) = omega arith
+    marked-past h = rw (← e) (past (leb 32768 v) (v % 32768) h)
 
-    pub negated-marked : a % 128 ≡ 0 → 128 ≤ a → a < 256 → getD q b false ≡ literalMarked p q (literalOf a b)
+    pub negated-marked : 32768 ≤ v → getD q (v % 32768) false ≡ literalMarked p q (literalOf a b)
     unfolding literalMarked literalOf atomHolds
-    negated-marked e h l = let z : b ≡ (a * 256 + b) % 32768 = omega arith in ap (λ (x : ℕ). getD q x false) z ∙ ap (λ (c : Bool). getD (cond c q p) ((a * 256 + b) % 32768) false) (sym (le-leb 32768 (a * 256 + b) (omega arith)))
+    negated-marked h = rw (← e, le-leb 32768 v h) refl
 
-    pub plain-marked : a % 128 ≡ 0 → a < 128 → getD p b false ≡ literalMarked p q (literalOf a b)
+    pub plain-marked : v < 32768 → getD p (v % 32768) false ≡ literalMarked p q (literalOf a b)
     unfolding literalMarked literalOf atomHolds
-    plain-marked e h = let z : b ≡ (a * 256 + b) % 32768 = omega arith in ap (λ (x : ℕ). getD p x false) z ∙ ap (λ (c : Bool). getD (cond c q p) ((a * 256 + b) % 32768) false) (sym (lt-leb 32768 (a * 256 + b) (omega arith)))
+    plain-marked h = rw (← e, lt-leb 32768 v h) refl
 
 module _ (book rows rejects : List ℕ) (j h i : ℕ) (p : h ≡ headName rows j) (q : i ≡ rowLayer rows j) where
   pub alive-bit : alive rejects (rowAt book rows j) ≡ not (eqb (bitAnd (getD rejects h 0 / 2 ^ i) 1) 1)

@@ -3,16 +3,24 @@
 use mathlib.Core.Path.{_≡_}
 use mathlib.Core.Bool.{Bool, true, false, not, _&&_, cond}
 use mathlib.Core.List.{List, [], _∷_, List·Memᴰ}
-use Prim.Native.Nat.{ℕ, _+_, _<_, _≤_}
+use Prim.Native.Nat.{ℕ, _+_, _*_, _<_, _≤_}
 use lib.Dec.{T, eqb}
 use lib.ListN.{getD}
-use Rattle.base.specs.Bounds.{maxAtoms}
+use Rattle.base.specs.Bounds.{maxAtoms, maxNames, maxRules}
 use Rattle.base.specs.Lists.{all}
 use Rattle.layers.specs.Masks.{bitOf}
 use Rattle.format.specs.Book.{Literal, Rule}
 use Rattle.models.specs.StableModels.{atomHolds, positive, negative, complement}
 use Rattle.table.specs.Names.{nameOf}
 use Rattle.table.specs.Rows.{rowCount, rowAt, rowsOf}
+
+-- entries of the hints, which one filling leaves for the next: the literal that each row watches, then the trail
+abbrev pub hintSize : ℕ
+hintSize = 2 * maxRules
+
+-- links of the waiting lists: one from each name, then one from each row
+abbrev pub linkSize : ℕ
+linkSize = maxNames + maxRules
 
 -- the mark of a literal: the first array is for facts, the second for negations
 unfoldable pub literalMarked : List Bool → List Bool → Literal → Bool

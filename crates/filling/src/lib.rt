@@ -5,43 +5,59 @@
 ghost use mathlib.Core.Path.{_≡_};
 ghost use Prim.Native.Nat.{_<_, _≤_};
 ghost use lib.ListN.{length};
+ghost use Rattle.base.specs.Bounds.{maxAtoms, maxNames, maxRules};
 ghost use Rattle.base.specs.Lists.{all};
 ghost use Rattle.format.specs.Book.{literalOf, literalsOf};
 ghost use Rattle.table.specs.Names.{literalNamed};
 ghost use Rattle.table.specs.Rows.{rowCount, rowAt, RowsFit};
-ghost use Rattle.filling.specs.Marks.{literalMarked, alive, adds, Grown, PassEnd, FilledOn, Fills};
+ghost use Rattle.filling.specs.Marks.{hintSize, linkSize, literalMarked, alive, adds, Grown, PassEnd, FilledOn, Fills};
+use base::MAX_ATOMS;
+use base::MAX_BODY;
+use base::MAX_NAMES;
+use base::MAX_RULES;
 use base::wide16;
-use base::wide;
+use format::literal_value;
 use table::ROW_SIZE;
 use table::opposite;
 use table::row_body;
 use table::row_head;
 use table::row_layer;
 
+// Entries of the hints: the number of the literal that each row watches, then the trail, whose count stands at MAX_RULES.
+pub const HINTS: usize = 2 * MAX_RULES;
+
+// Links of the waiting lists: one from each name, then one from each row.
+const LINKS: usize = MAX_NAMES + MAX_RULES;
+
+// Turns of the waiting lists, more than a lawful book takes: a row is taken up once, tried then and once more for each literal of its
+// body, since it waits once a literal; and its head is taken up once.
+const TURNS: usize = (MAX_BODY + 4) * MAX_RULES;
+
 // The mark of a name.
 fn name_marked(positive: &[bool], negative: &[bool], h: usize) -> bool
-    requires { ⌜ (length (now positive) ≡ 256) × (length (now negative) ≡ 256) × (h < 512) ⌝ }
+    requires { ⌜ (length (now positive) ≡ maxAtoms) × (length (now negative) ≡ maxAtoms) × (h < maxNames) ⌝ }
     ensures { λ r. ⌜ r ≡ literalMarked (now (positive .entry)) (now (negative .entry)) (literalNamed h) ⌝ }
 {
-    if h < 256 {
+    if h < MAX_ATOMS {
         return positive[h];
     }
-    negative[h - 256]
+    negative[h - MAX_ATOMS]
 }
 
 // The mark of the literal of two bytes. Both arrays are read, so that the sign is no branch: bodies mix signs as they like. No fact
-// is 256 or more.
+// is MAX_ATOMS or more.
 fn literal_marked(positive: &[bool], negative: &[bool], a: u8, b: u8) -> bool
-    requires { ⌜ (length (now positive) ≡ 256) × (length (now negative) ≡ 256) ⌝ }
+    requires { ⌜ (length (now positive) ≡ maxAtoms) × (length (now negative) ≡ maxAtoms) ⌝ }
     ensures { λ r. ⌜ r ≡ literalMarked (now (positive .entry)) (now (negative .entry)) (literalOf a b) ⌝ }
 {
-    if a % 128 != 0 {
+    let v = literal_value(a, b);
+    let f = v % 32768;
+    if MAX_ATOMS <= f {
         return false;
     }
-    let f = wide(b);
     let fact = positive[f];
     let negation = negative[f];
-    if 128 <= a {
+    if 32768 <= v {
         return negation;
     }
     fact
@@ -49,7 +65,7 @@ fn literal_marked(positive: &[bool], negative: &[bool], a: u8, b: u8) -> bool
 
 // Whether every literal of a body's bytes is marked. The one numbered `watch` is tried first.
 fn body_marked(positive: &[bool], negative: &[bool], body: &[u8], watch: usize) -> bool
-    requires { ⌜ (length (now positive) ≡ 256) × (length (now negative) ≡ 256) ⌝ }
+    requires { ⌜ (length (now positive) ≡ maxAtoms) × (length (now negative) ≡ maxAtoms) ⌝ }
     ensures { λ r. ⌜ r ≡ all (literalMarked (now (positive .entry)) (now (negative .entry))) (literalsOf (now (body .entry))) ⌝ }
 {
     if watch < body.len() / 2 {
@@ -70,7 +86,7 @@ fn body_marked(positive: &[bool], negative: &[bool], body: &[u8], watch: usize) 
 // Whether a row is alive: its layer's bit is not set in the mask at its head's name.
 pub fn row_alive(book: &[u8], rows: &[u16], rejects: &[u32], j: usize) -> bool
     requires { ⌜ RowsFit (now book) (now rows) ⌝ }
-    requires { ⌜ length (now rejects) ≡ 512 ⌝ }
+    requires { ⌜ length (now rejects) ≡ maxNames ⌝ }
     requires { ⌜ j < rowCount (now rows) ⌝ }
     ensures { λ r. ⌜ r ≡ alive (now (rejects .entry)) (rowAt (now (book .entry)) (now (rows .entry)) j) ⌝ }
 {
@@ -97,7 +113,7 @@ fn row_marked(
     j: usize,
 ) -> bool
     requires { ⌜ RowsFit (now book) (now rows) ⌝ }
-    requires { ⌜ (length (now positive) ≡ 256) × (length (now negative) ≡ 256) ⌝ }
+    requires { ⌜ (length (now positive) ≡ maxAtoms) × (length (now negative) ≡ maxAtoms) ⌝ }
     requires { ⌜ j < rowCount (now rows) ⌝ }
     ensures { λ r. ⌜ r ≡ all (literalMarked (now (positive .entry)) (now (negative .entry))) (rowAt (now (book .entry)) (now (rows .entry)) j .body) ⌝ }
 {
@@ -120,8 +136,8 @@ fn row_adds(
     j: usize,
 ) -> bool
     requires { ⌜ RowsFit (now book) (now rows) ⌝ }
-    requires { ⌜ length (now rejects) ≡ 512 ⌝ }
-    requires { ⌜ (length (now positive) ≡ 256) × (length (now negative) ≡ 256) ⌝ }
+    requires { ⌜ length (now rejects) ≡ maxNames ⌝ }
+    requires { ⌜ (length (now positive) ≡ maxAtoms) × (length (now negative) ≡ maxAtoms) ⌝ }
     requires { ⌜ j < rowCount (now rows) ⌝ }
     ensures { λ r. ⌜ r ≡ adds (now (positive .entry)) (now (negative .entry)) (now (rejects .entry)) (rowAt (now (book .entry)) (now (rows .entry)) j) ⌝ }
 {
@@ -145,8 +161,8 @@ fn add_head(
     j: usize,
 ) -> bool
     requires { ⌜ RowsFit (now book) (now rows) ⌝ }
-    requires { ⌜ length (now rejects) ≡ 512 ⌝ }
-    requires { ⌜ (length (now positive) ≡ 256) × (length (now negative) ≡ 256) ⌝ }
+    requires { ⌜ length (now rejects) ≡ maxNames ⌝ }
+    requires { ⌜ (length (now positive) ≡ maxAtoms) × (length (now negative) ≡ maxAtoms) ⌝ }
     requires { ⌜ j < rowCount (now rows) ⌝ }
     ensures { λ _. ⌜ Grown (now (book .entry)) (now (rows .entry)) (now (rejects .entry)) (now (positive .entry)) (now (negative .entry)) (now (positive .exit)) (now (negative .exit)) ⌝ }
 {
@@ -157,29 +173,29 @@ fn add_head(
     if name_marked(positive, negative, opposite(h)) {
         return false;
     }
-    if h < 256 {
+    if h < MAX_ATOMS {
         positive[h] = true;
         return true;
     }
-    negative[h - 256] = true;
+    negative[h - MAX_ATOMS] = true;
     true
 }
 
-// Puts a row that has added its head on the trail, the rows in the order in which they did so, where one is kept. Entry 1,024 of the
-// hints is one more than the number of rows on it, or 0 as long as no filling has needed the waiting lists. A full trail is begun anew.
+// Puts a row that has added its head on the trail, the rows in the order in which they did so, where one is kept. Entry
+// MAX_RULES of the hints is one more than the number of rows on it, or 0 as long as no filling has needed the waiting lists. A full trail is begun anew.
 fn remember(hints: &mut [u16], j: usize)
-    requires { ⌜ length (now hints) ≡ 2048 ⌝ }
+    requires { ⌜ length (now hints) ≡ hintSize ⌝ }
 {
-    let end = wide16(hints[1024]);
+    let end = wide16(hints[MAX_RULES]);
     if end == 0 {
         return;
     }
-    if end < 1024 {
-        hints[1024 + end] = (j % 65536) as u16;
-        hints[1024] = (end + 1) as u16;
+    if end < MAX_RULES {
+        hints[MAX_RULES + end] = (j % 65536) as u16;
+        hints[MAX_RULES] = (end + 1) as u16;
         return;
     }
-    hints[1024] = 1;
+    hints[MAX_RULES] = 1;
 }
 
 // Tries the rows of the trail in their order: what was reached one after the other at the last setting is often reached so at the
@@ -193,16 +209,16 @@ fn replay(
     hints: &[u16],
 )
     requires { ⌜ RowsFit (now book) (now rows) ⌝ }
-    requires { ⌜ length (now rejects) ≡ 512 ⌝ }
-    requires { ⌜ (length (now positive) ≡ 256) × (length (now negative) ≡ 256) ⌝ }
-    requires { ⌜ length (now hints) ≡ 2048 ⌝ }
+    requires { ⌜ length (now rejects) ≡ maxNames ⌝ }
+    requires { ⌜ (length (now positive) ≡ maxAtoms) × (length (now negative) ≡ maxAtoms) ⌝ }
+    requires { ⌜ length (now hints) ≡ hintSize ⌝ }
     ensures { λ _. ⌜ Grown (now (book .entry)) (now (rows .entry)) (now (rejects .entry)) (now (positive .entry)) (now (negative .entry)) (now (positive .exit)) (now (negative .exit)) ⌝ }
 {
     let count = rows.len() / ROW_SIZE;
-    let end = wide16(hints[1024]) % 1025;
+    let end = wide16(hints[MAX_RULES]) % (MAX_RULES + 1);
     let mut i = 1;
     while i < end {
-        let j = wide16(hints[1024 + i]);
+        let j = wide16(hints[MAX_RULES + i]);
         if j < count {
             add_head(book, rows, rejects, positive, negative, hints, j);
         }
@@ -224,7 +240,7 @@ fn in_turn(i: usize, count: usize) -> usize
 // The number of a literal of a body's bytes that is not marked, looked for from the one numbered `from` on and then from the first
 // on; past them all, if there is none.
 fn unmarked_from(positive: &[bool], negative: &[bool], body: &[u8], from: usize) -> usize
-    requires { ⌜ (length (now positive) ≡ 256) × (length (now negative) ≡ 256) ⌝ }
+    requires { ⌜ (length (now positive) ≡ maxAtoms) × (length (now negative) ≡ maxAtoms) ⌝ }
 {
     let count = body.len() / 2;
     let mut next = from;
@@ -242,12 +258,14 @@ fn unmarked_from(positive: &[bool], negative: &[bool], body: &[u8], from: usize)
 
 // The name under which a row waits for the literal of two bytes.
 fn waiting_name(a: u8, b: u8) -> usize
-    ensures { λ r. ⌜ r < 512 ⌝ }
+    ensures { λ r. ⌜ r < maxNames ⌝ }
 {
-    if a < 128 {
-        return wide(b);
+    let v = literal_value(a, b);
+    let f = v % 32768 % MAX_ATOMS;
+    if v < 32768 {
+        return f;
     }
-    wide(b) + 256
+    f + MAX_ATOMS
 }
 
 // Lets a row wait for a literal of its body that is not marked, and says whether there is one. It is looked for from the one on that
@@ -262,9 +280,9 @@ fn wait(
     j: usize,
 ) -> bool
     requires { ⌜ RowsFit (now book) (now rows) ⌝ }
-    requires { ⌜ (length (now positive) ≡ 256) × (length (now negative) ≡ 256) ⌝ }
-    requires { ⌜ (length (now links) ≡ 1536) × (length (now hints) ≡ 2048) ⌝ }
-    requires { ⌜ (j < rowCount (now rows)) × (j < 1024) ⌝ }
+    requires { ⌜ (length (now positive) ≡ maxAtoms) × (length (now negative) ≡ maxAtoms) ⌝ }
+    requires { ⌜ (length (now links) ≡ linkSize) × (length (now hints) ≡ hintSize) ⌝ }
+    requires { ⌜ (j < rowCount (now rows)) × (j < maxRules) ⌝ }
 {
     let body = row_body(book, rows, j);
     let i = unmarked_from(positive, negative, body, wide16(hints[j]));
@@ -273,8 +291,8 @@ fn wait(
     }
     let h = waiting_name(body[2 * i], body[2 * i + 1]);
     hints[j] = (i % 65536) as u16;
-    links[512 + j] = links[h];
-    links[h] = (512 + j) as u16;
+    links[MAX_NAMES + j] = links[h];
+    links[h] = (MAX_NAMES + j) as u16;
     true
 }
 
@@ -290,10 +308,10 @@ fn settle(
     j: usize,
 ) -> bool
     requires { ⌜ RowsFit (now book) (now rows) ⌝ }
-    requires { ⌜ length (now rejects) ≡ 512 ⌝ }
-    requires { ⌜ (length (now positive) ≡ 256) × (length (now negative) ≡ 256) ⌝ }
-    requires { ⌜ (length (now links) ≡ 1536) × (length (now hints) ≡ 2048) ⌝ }
-    requires { ⌜ (j < rowCount (now rows)) × (j < 1024) ⌝ }
+    requires { ⌜ length (now rejects) ≡ maxNames ⌝ }
+    requires { ⌜ (length (now positive) ≡ maxAtoms) × (length (now negative) ≡ maxAtoms) ⌝ }
+    requires { ⌜ (length (now links) ≡ linkSize) × (length (now hints) ≡ hintSize) ⌝ }
+    requires { ⌜ (j < rowCount (now rows)) × (j < maxRules) ⌝ }
     ensures { λ _. ⌜ Grown (now (book .entry)) (now (rows .entry)) (now (rejects .entry)) (now (positive .entry)) (now (negative .entry)) (now (positive .exit)) (now (negative .exit)) ⌝ }
 {
     if name_marked(positive, negative, row_head(rows, j)) {
@@ -314,9 +332,9 @@ fn settle(
 
 // Marks more of what follows, by waiting lists: a row waits for a literal of its body that is not marked, and is tried again when that
 // one is. Only the order of trying is new: what is added is tested on the spot, and the passes of a filling say when nothing is left.
-// `links` leads from a name (0 to 511) to the first row that waits for it and from a row (512 and its number) to the next; 0 ends a
-// list. On the stack `names` are those just marked, `fresh` is the first row not tried yet, `node` the next row of the list in hand.
-// A row waits once a literal, so no lawful book takes all the turns.
+// `links` leads from a name to the first row that waits for it, and from a row, at MAX_NAMES and its number, to the next; 0 ends a list.
+// On the stack `names` are those just marked, `fresh` is the first row not tried yet, `node` the next row of the list in hand. No lawful
+// book takes all the turns.
 fn propagate(
     book: &[u8],
     rows: &[u16],
@@ -326,28 +344,28 @@ fn propagate(
     hints: &mut [u16],
 )
     requires { ⌜ RowsFit (now book) (now rows) ⌝ }
-    requires { ⌜ length (now rejects) ≡ 512 ⌝ }
-    requires { ⌜ (length (now positive) ≡ 256) × (length (now negative) ≡ 256) ⌝ }
-    requires { ⌜ length (now hints) ≡ 2048 ⌝ }
+    requires { ⌜ length (now rejects) ≡ maxNames ⌝ }
+    requires { ⌜ (length (now positive) ≡ maxAtoms) × (length (now negative) ≡ maxAtoms) ⌝ }
+    requires { ⌜ length (now hints) ≡ hintSize ⌝ }
     ensures { λ _. ⌜ Grown (now (book .entry)) (now (rows .entry)) (now (rejects .entry)) (now (positive .entry)) (now (negative .entry)) (now (positive .exit)) (now (negative .exit)) ⌝ }
 {
     let count = rows.len() / ROW_SIZE;
-    if 1024 < count {
+    if MAX_RULES < count {
         return;
     }
-    if hints[1024] == 0 {
-        hints[1024] = 1;
+    if hints[MAX_RULES] == 0 {
+        hints[MAX_RULES] = 1;
     }
-    let mut links: [u16; 1536] = [0; 1536];
-    let mut names: [u16; 512] = [0; 512];
+    let mut links: [u16; LINKS] = [0; LINKS];
+    let mut names: [u16; MAX_NAMES] = [0; MAX_NAMES];
     let mut top = 0;
     let mut fresh = 0;
     let mut node = 0;
-    let mut turns: usize = 20480;
+    let mut turns = TURNS;
     while 0 < turns {
         turns -= 1;
-        if 512 <= node {
-            let j = node - 512;
+        if MAX_NAMES <= node {
+            let j = node - MAX_NAMES;
             if count <= j {
                 return;
             }
@@ -362,16 +380,16 @@ fn propagate(
                 hints,
                 j,
             ) {
-                if top < 512 {
+                if top < MAX_NAMES {
                     names[top] = row_head(rows, j) as u16;
                     top += 1;
                 }
             }
         } else if 0 < top {
             top -= 1;
-            node = wide16(links[wide16(names[top]) % 512]);
+            node = wide16(links[wide16(names[top]) % MAX_NAMES]);
         } else if fresh < count {
-            node = 512 + fresh;
+            node = MAX_NAMES + fresh;
             fresh += 1;
         } else {
             return;
@@ -395,9 +413,9 @@ fn pass(
     hints: &mut [u16],
 ) -> PassResult
     requires { ⌜ RowsFit (now book) (now rows) ⌝ }
-    requires { ⌜ length (now rejects) ≡ 512 ⌝ }
-    requires { ⌜ (length (now positive) ≡ 256) × (length (now negative) ≡ 256) ⌝ }
-    requires { ⌜ length (now hints) ≡ 2048 ⌝ }
+    requires { ⌜ length (now rejects) ≡ maxNames ⌝ }
+    requires { ⌜ (length (now positive) ≡ maxAtoms) × (length (now negative) ≡ maxAtoms) ⌝ }
+    requires { ⌜ length (now hints) ≡ hintSize ⌝ }
     ensures { λ r. ⌜ PassEnd (now (book .entry)) (now (rows .entry)) (now (rejects .entry)) (now (positive .entry)) (now (negative .entry)) (now (positive .exit)) (now (negative .exit)) (r .added) (r .conflict) ⌝ }
 {
     let count = rows.len() / ROW_SIZE;
@@ -412,10 +430,10 @@ fn pass(
                     conflict: true,
                 };
             }
-            if h < 256 {
+            if h < MAX_ATOMS {
                 positive[h] = true;
             } else {
-                negative[h - 256] = true;
+                negative[h - MAX_ATOMS] = true;
             }
             remember(hints, j);
             added = true;
@@ -430,8 +448,8 @@ fn pass(
 
 // Reached facts, reached negations, and whether a fact was reached both ways.
 pub struct Marks {
-    pub positive: [bool; 256],
-    pub negative: [bool; 256],
+    pub positive: [bool; MAX_ATOMS],
+    pub negative: [bool; MAX_ATOMS],
     pub conflict: bool,
 }
 
@@ -442,13 +460,13 @@ pub fn fill_on(
     book: &[u8],
     rows: &[u16],
     rejects: &[u32],
-    facts: [bool; 256],
-    negations: [bool; 256],
+    facts: [bool; MAX_ATOMS],
+    negations: [bool; MAX_ATOMS],
     hints: &mut [u16],
 ) -> Marks
     requires { ⌜ RowsFit (now book) (now rows) ⌝ }
-    requires { ⌜ length (now rejects) ≡ 512 ⌝ }
-    requires { ⌜ length (now hints) ≡ 2048 ⌝ }
+    requires { ⌜ length (now rejects) ≡ maxNames ⌝ }
+    requires { ⌜ length (now hints) ≡ hintSize ⌝ }
     ensures { λ r. ⌜ FilledOn (now (book .entry)) (now (rows .entry)) (now (rejects .entry)) facts negations (r .positive) (r .negative) (r .conflict) ⌝ }
 {
     let mut positive = facts;
@@ -485,14 +503,14 @@ pub fn fill(
     book: &[u8],
     rows: &[u16],
     rejects: &[u32],
-    start: [bool; 256],
+    start: [bool; MAX_ATOMS],
     hints: &mut [u16],
 ) -> Marks
     requires { ⌜ RowsFit (now book) (now rows) ⌝ }
-    requires { ⌜ length (now rejects) ≡ 512 ⌝ }
-    requires { ⌜ length (now hints) ≡ 2048 ⌝ }
+    requires { ⌜ length (now rejects) ≡ maxNames ⌝ }
+    requires { ⌜ length (now hints) ≡ hintSize ⌝ }
     ensures { λ r. ⌜ Fills (now (book .entry)) (now (rows .entry)) (now (rejects .entry)) start (r .positive) (r .negative) (r .conflict) ⌝ }
 {
-    let positive = [false; 256];
+    let positive = [false; MAX_ATOMS];
     fill_on(book, rows, rejects, positive, start, hints)
 }

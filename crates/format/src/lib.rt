@@ -2,7 +2,7 @@
 // Every count and length is compared with what the walk over the records finds before anything uses it.
 ghost use mathlib.Core.Path.{_≡_};
 ghost use mathlib.Core.Bool.{_&&_};
-ghost use Prim.Native.Nat.{_+_, _≤_, _<_};
+ghost use Prim.Native.Nat.{_+_, _*_, _≤_, _<_};
 ghost use lib.Dec.{eqb};
 ghost use lib.ListN.{length};
 ghost use Rattle.format.specs.Book.{u16At, u32At, records, meetsEnd, recordEnd};
@@ -25,6 +25,13 @@ pub fn be32(s: &[u8], at: usize) -> usize
     ensures { λ r. ⌜ r < 4294967296 ⌝ }
 {
     ((wide(s[at]) * 256 + wide(s[at + 1])) * 256 + wide(s[at + 2])) * 256 + wide(s[at + 3])
+}
+
+// The two bytes of a literal as a number: its fact, and 32,768 more where it is negated.
+pub fn literal_value(a: u8, b: u8) -> usize
+    ensures { λ r. ⌜ (r ≡ a * 256 + b) × (r < 65536) ⌝ }
+{
+    wide(a) * 256 + wide(b)
 }
 
 // Whether the records of a section's bytes meet its end, and their number is the count.

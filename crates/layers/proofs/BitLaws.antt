@@ -14,6 +14,7 @@ use lib.Bits.{bitOr, bitAnd, or-step, or-shr, and-step, and-shr}
 use lib.Dec.{eqb}
 use lib.ListN.{length, getD, set, replicate}
 use lib.Seq.{getD-set-same, getD-set-other}
+use Rattle.base.specs.Bounds.{maxLayers}
 use Rattle.base.proofs.MapLaws.{constant-at}
 use Rattle.layers.specs.Layers.{link, sameArrow}
 use Rattle.layers.specs.Masks.{bitOf, marked}
@@ -42,7 +43,7 @@ and-right false b e = absurd (false≢true e)
 pub bit-small : (a j : ℕ) → bitOf a j < 2
 bit-small a j = omega arith
 
--- the bits of a power of two
+-- the bits of a power of two, in a mask of 32
 pub pow-fits : (j : ℕ) → j < 32 → 1 * 2 ^ j % 4294967296 ≡ 2 ^ j
 pow-fits j h = let b : 2 ^ j < 2 ^ 32 = pow-lt h in mod-eq-of-lt {n = 1 * 2 ^ j} {m = 4294967296} (omega arith) ∙ omega arith
 
@@ -97,7 +98,7 @@ module _ (a b i : ℕ) where
   and-both e f = omega (arith, bit-and)
 
 -- one more bit: bit j of mask i
-module _ (m : List ℕ) (i j : ℕ) (h : i < length m) (k : j < 32) where
+module _ (m : List ℕ) (i j : ℕ) (h : i < length m) (k : j < maxLayers) where
   pub with-bit : (x y : ℕ) → marked (set m i (bitOr (getD m i 0) (1 * 2 ^ j % 4294967296))) x y ≡ (marked m x y || sameArrow (link i j) (link x y))
   unfolding marked sameArrow
   with-bit x y = rw (pow-fits j k) (go (ℕ-discrete i x) (ℕ-discrete j y))
@@ -135,6 +136,6 @@ some-bit (suc k) a h p = go (ℕ-discrete (a % 2) 1) (λ u v. some-bit k (a / 2)
         (suc (r .0), ap (λ (x : ℕ). a / x % 2) (pow-suc 2 (r .0) ∙ mul-comm (2 ^ r .0) 2) ∙ ap (λ (x : ℕ). x % 2) (sym (div-div-eq-div-mul a 2 (2 ^ r .0))) ∙ r .1)
 
 -- no bit is set yet
-pub none-marked : (x y : ℕ) → marked (replicate 32 0) x y ≡ false
+pub none-marked : (x y : ℕ) → marked (replicate maxLayers 0) x y ≡ false
 unfolding marked
-none-marked x y = rw (no-bits 32 x, zero-div (2 ^ y)) refl
+none-marked x y = rw (no-bits maxLayers x, zero-div (2 ^ y)) refl

@@ -9,6 +9,7 @@ use native.Mathlib.Omega.{arith}
 use lib.Bits.{bitOr, bitAnd, and-mask}
 use lib.ListN.{length, getD, set, length-set}
 use lib.Seq.{getD-set-same, getD-set-other}
+use Rattle.base.specs.Bounds.{maxLayers}
 use Rattle.layers.specs.Masks.{bitOf, Linked, Way, edge, join, EmptyFrom}
 use Rattle.layers.proofs.BitLaws.{bit-or, bit-small}
 
@@ -92,12 +93,12 @@ module _ (m₀ m : List ℕ) (k i : ℕ) (r : Row m₀ m k i) (all : EmptyFrom i
 
 -- after the turns before k
 pub record Turns (s m : List ℕ) (k : ℕ) : Type 0 where
-  pub len : length m ≡ 32
+  pub len : length m ≡ maxLayers
   pub sound : (i j : ℕ) → Linked m i j → Way s i j
   pub kept : (i j : ℕ) → Linked s i j → Linked m i j
   pub closed : (x i j : ℕ) → x < k → Linked m i x → Linked m x j → Linked m i j
 
-pub turns-start : (s : List ℕ) → length s ≡ 32 → Turns s s 0
+pub turns-start : (s : List ℕ) → length s ≡ maxLayers → Turns s s 0
 turns-start s e = record { len = e; sound = λ i j a. edge i j a; kept = λ i j a. a; closed = λ x i j h. absurd (omega arith) }
 
 -- a way starts with a bit
@@ -106,7 +107,7 @@ way-from s n e x y (edge i j a) = e i j a
 way-from s n e x y (join i k j b p q) = way-from s n e i k p
 
 -- turns over the first n masks do where the others are empty
-module _ (s : List ℕ) (n : ℕ) (few : n ≤ 32) (empty : EmptyFrom n s) where
+module _ (s : List ℕ) (n : ℕ) (few : n ≤ maxLayers) (empty : EmptyFrom n s) where
   pub turns-more : (m₀ m : List ℕ) (k i : ℕ) → Turns s m₀ k → k < n → Row m₀ m k i → n ≤ i → Turns s m (k + 1)
   turns-more m₀ m k i t b r h = record {
     len = r .len ∙ t .len;

@@ -1,4 +1,4 @@
--- A relation between 32 layers as masks, as the code keeps it: bit j of mask i is set where i is related to j. Assumes nothing.
+-- A relation between at most `maxLayers` layers as masks, as the code keeps it: bit j of mask i is set where i is related to j. Assumes nothing.
 use mathlib.Core.Path.{_≡_}
 use mathlib.Core.Bool.{Bool}
 use mathlib.Core.List.{List}

@@ -1,8 +1,9 @@
--- The numbers that an answer carries fit the 64 bits: k is at most 2^20 and g at most 20, since the call was granted. Used by
--- lesson_list, lesson_one and lesson_place. Assumes nothing.
+-- The numbers that an answer carries fit the 64 bits: g is at most `maxBranching` and k at most 2 to its power, since the call was
+-- granted. Used by lesson_list, lesson_one and lesson_place. Assumes nothing.
 use mathlib.Core.Path.{_≡_, sym, ap, _∙_}
 use mathlib.Core.List.{List}
-use Prim.Native.Nat.{ℕ, _+_, _*_, _≤_}
+use Prim.Native.Nat.{ℕ, _+_, _*_, _^_, _≤_}
+use Rattle.base.specs.Bounds.{maxBranching}
 use Rattle.list_call.specs.declared.ListReply.{ListReply}
 use Rattle.list_call.specs.declared.ListReply.the-variants.{Listed}
 use Rattle.list_call.specs.Reply.{listReply}
@@ -18,13 +19,13 @@ use Rattle.place_call.specs.Reply.{placeReply}
 use Rattle.place_call.proofs.PlaceLaws as place-laws
 use Rattle.lesson.specs.Answers.{placeBits, placeAnswer}
 
-pub list-small : (book : List ℕ) (layer : ℕ) (buffer : List ℕ) (r : ListReply) (k g : ℕ) → r ≡ listReply book layer buffer → r ≡ Listed k g → (k ≤ 1048576) × (g ≤ 20)
+pub list-small : (book : List ℕ) (layer : ℕ) (buffer : List ℕ) (r : ListReply) (k g : ℕ) → r ≡ listReply book layer buffer → r ≡ Listed k g → (k ≤ 2 ^ maxBranching) × (g ≤ maxBranching)
 list-small book layer buffer r k g e q = granted-small (record { book = book; layer = layer; buffer = buffer }) k g (sym e ∙ q)
 
-pub one-small : (book : List ℕ) (layer : ℕ) (buffer : List ℕ) (r : OneReply) (g : ℕ) → r ≡ oneReply book layer buffer → r ≡ Written g → g ≤ 20
+pub one-small : (book : List ℕ) (layer : ℕ) (buffer : List ℕ) (r : OneReply) (g : ℕ) → r ≡ oneReply book layer buffer → r ≡ Written g → g ≤ maxBranching
 one-small book layer buffer r g e q = one-laws.granted-small book layer buffer g (sym e ∙ q)
 
-pub place-small : (book : List ℕ) (layer fact : ℕ) (r : PlaceReply) (p : Place) (g : ℕ) → r ≡ placeReply book layer fact → r ≡ Placed p g → g ≤ 20
+pub place-small : (book : List ℕ) (layer fact : ℕ) (r : PlaceReply) (p : Place) (g : ℕ) → r ≡ placeReply book layer fact → r ≡ Placed p g → g ≤ maxBranching
 place-small book layer fact r p g e q = place-laws.granted-small book layer fact p g (sym e ∙ q)
 
 pub place-number : (book : List ℕ) (layer fact : ℕ) (r : PlaceReply) (p : Place) (g bits : ℕ) → r ≡ placeReply book layer fact → r ≡ Placed p g → bits ≡ placeBits p

@@ -8,7 +8,7 @@ use native.Mathlib.Omega.{arith}
 use borrow.Rule.Slice.PartMut.{putMid}
 use lib.ListN.{length, take, drop, length-map, take-append-drop}
 use lib.Seq.{drop-drop, drop-at, length-take-le}
-use Rattle.base.specs.Bounds.{maxAtoms, maxBranching}
+use Rattle.base.specs.Bounds.{maxAtoms, maxRecord, maxBranching}
 use Rattle.base.specs.Lists.{flat}
 use Rattle.insertion.specs.Runs.{bytesBefore, Held}
 use Rattle.insertion.specs.Sorted.{insertAll}
@@ -24,10 +24,10 @@ map-take f zero xs = refl
 map-take f (suc i) [] = refl
 map-take f (suc i) (x ∷ xs) = ap (λ (l : List _). f x ∷ l) (map-take f i xs)
 
--- as many records as a search may find take 32 megabytes at most
-pub records-fit : (n k w : ℕ) → n ≤ maxAtoms → k ≤ 2 ^ maxBranching → w ≡ recordSize n → k * w ≤ 33554432
+-- the bytes of as many records as a search may find
+pub records-fit : (n k w : ℕ) → n ≤ maxAtoms → k ≤ 2 ^ maxBranching → w ≡ recordSize n → k * w ≤ 2 ^ maxBranching * maxRecord
 unfolding recordSize
-records-fit n k w h b e = let q : w ≤ 32 = omega arith in omega (arith, mul-le-mul b q)
+records-fit n k w h b e = let q : w ≤ maxRecord = omega arith in mul-le-mul b q
 
 -- a part that was all gap, with room for no more records than there are states: it is the least of their records
 pub least-written : (n : ℕ) (ms : List Interpretation) (room hi₀ : ℕ) (part₀ : List ℕ) (lo hi : ℕ) (part : List ℕ) → length part₀ ≡ room * recordSize n → hi₀ ≡ length part₀

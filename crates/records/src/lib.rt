@@ -3,11 +3,13 @@ ghost use mathlib.Core.Path.{_≡_};
 ghost use mathlib.Core.List.{[], _∷_, _++_};
 ghost use Prim.Native.Nat.{_≤_};
 ghost use lib.ListN.{length, take, drop};
-ghost use Rattle.base.specs.Bounds.{maxAtoms};
+ghost use Rattle.base.specs.Bounds.{maxAtoms, maxRecord};
 ghost use Rattle.models.specs.StableModels.{atomHolds};
 ghost use Rattle.models.specs.Listing.{bitValue, bitsValue, recordSize, recordOf, be16, be32};
 ghost use Rattle.insertion.specs.Runs.{Whole};
 ghost use Rattle.records.specs.Written.{LeastFor};
+use base::MAX_ATOMS;
+use base::MAX_RECORD;
 use insertion::Gap;
 use insertion::insert_least;
 use insertion::put_record;
@@ -15,7 +17,7 @@ use insertion::put_record;
 // The bytes of a record of n facts.
 pub fn record_size(n: usize) -> usize
     requires { ⌜ n ≤ maxAtoms ⌝ }
-    ensures { λ r. ⌜ (r ≡ recordSize n) × (r ≤ 32) ⌝ }
+    ensures { λ r. ⌜ (r ≡ recordSize n) × (r ≤ maxRecord) ⌝ }
 {
     (n + 7) / 8
 }
@@ -47,11 +49,11 @@ pub fn record_byte(m: &[bool], at: usize) -> u8
 }
 
 // A state's record, in the first bytes.
-pub fn record_of(m: &[bool]) -> [u8; 32]
+pub fn record_of(m: &[bool]) -> [u8; MAX_RECORD]
     requires { ⌜ length (now m) ≤ maxAtoms ⌝ }
     ensures { λ r. ⌜ take (recordSize (length (now (m .entry)))) r ≡ recordOf (length (now (m .entry))) (now (m .entry)) ⌝ }
 {
-    let mut r = [0; 32];
+    let mut r = [0; MAX_RECORD];
     let w = record_size(m.len());
     let mut j = 0;
     while j < w {
@@ -63,7 +65,7 @@ pub fn record_of(m: &[bool]) -> [u8; 32]
 
 // Puts the record of the first n facts in its place among those in the part, which keeps the least that it has room for. Where it
 // has room for none, as in a pass that only counts, no record is made.
-pub fn insert_state(state: [bool; 256], n: usize, part: &mut [u8], gap: Gap) -> Gap
+pub fn insert_state(state: [bool; MAX_ATOMS], n: usize, part: &mut [u8], gap: Gap) -> Gap
     requires { ⌜ (n ≤ maxAtoms) × Whole (recordSize n) (gap .lo) (gap .hi) (now part) ⌝ }
     ensures { λ r. ⌜ LeastFor n (take n state ∷ []) (gap .lo) (gap .hi) (now (part .entry)) (r .lo) (r .hi) (now (part .exit)) ⌝ }
 {

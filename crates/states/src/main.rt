@@ -1,6 +1,7 @@
 // The program `states` of document 01: reads a book from standard input, drives its last layer, and prints its stable states, or
 // `refused N`. What is printed is the listing's bytes as text; the listing itself is proved.
 ghost use Prim.Native.Nat.{_≤_};
+use base::MAX_ATOMS;
 use base::wide;
 use book::cause_number;
 use io::large_buffer;
@@ -40,12 +41,15 @@ fn digit(record: &[u8], f: usize) -> u8 {
     b'0'
 }
 
-// One line: a digit for each fact from fact 0. No book has more than 256 facts.
+// Bytes of a line: a digit for each fact, and its end.
+const LINE: usize = MAX_ATOMS + 1;
+
+// One line: a digit for each fact from fact 0. No book has more than MAX_ATOMS.
 fn print_state(record: &[u8], n: usize) {
-    let mut text = [b'\n'; 257];
+    let mut text = [b'\n'; LINE];
     let mut f = 0;
     while f < n {
-        if 256 <= f {
+        if MAX_ATOMS <= f {
             return;
         }
         text[f] = digit(record, f);

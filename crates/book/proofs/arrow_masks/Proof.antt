@@ -4,6 +4,7 @@ use mathlib.Core.Bool.{_||_}
 use mathlib.Core.List.{map}
 use Prim.Native.Nat.{ℕ, _-_, _+_}
 use lib.ListN.{length, drop}
+use Rattle.base.specs.Bounds.{maxLayers}
 use Rattle.format.specs.Book.{records, arrowOf}
 use Rattle.layers.specs.Masks.{marked}
 use Rattle.book.proofs.MaskLaws.{Walked, ArrowAt, arrow-at, split-as, linked, mask-start, mask-next, mask-end}
@@ -13,7 +14,7 @@ use Rattle.book.proofs.arrow_masks.Statement.{statement}
 use Rattle.book.proofs.arrow_masks.Tie as tie
 
 abbrev Inv-loop : tie.InvT-loop
-Inv-loop part m₀ at₀ m at = Walked part at × (length m ≡ 32) × ((x y : ℕ) → linked (map arrowOf (records part)) x y ≡ (marked m y x || linked (map arrowOf (records (drop at part))) x y))
+Inv-loop part m₀ at₀ m at = Walked part at × (length m ≡ maxLayers) × ((x y : ℕ) → linked (map arrowOf (records part)) x y ≡ (marked m y x || linked (map arrowOf (records (drop at part))) x y))
 
 abbrev μ-loop : tie.MeasureT-loop
 μ-loop part m₀ at₀ m at = length part - at

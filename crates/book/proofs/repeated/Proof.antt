@@ -5,6 +5,7 @@ use mathlib.Core.Path.{_≡_, refl, sym, _∙_}
 use mathlib.Core.List.{map}
 use Prim.Native.Nat.{_-_, _+_}
 use lib.ListN.{length, drop}
+use Rattle.base.specs.Bounds.{maxLayers}
 use Rattle.format.specs.Book.{records, arrowOf}
 use Rattle.book.proofs.MaskLaws.{Walked, ArrowAt, arrow-at, split-as, left-over, fresh, over-hit, over-next, over-end}
 use borrow.Author.Needs.{needs}
@@ -13,7 +14,7 @@ use Rattle.book.proofs.repeated.Statement.{statement}
 use Rattle.book.proofs.repeated.Tie as tie
 
 abbrev Inv-loop : tie.InvT-loop
-Inv-loop part m₀ at₀ m at = Walked part at × (length m ≡ 32) × (repeats (map arrowOf (records part)) ≡ left-over m (map arrowOf (records (drop at part))))
+Inv-loop part m₀ at₀ m at = Walked part at × (length m ≡ maxLayers) × (repeats (map arrowOf (records part)) ≡ left-over m (map arrowOf (records (drop at part))))
 
 abbrev μ-loop : tie.MeasureT-loop
 μ-loop part m₀ at₀ m at = length part - at

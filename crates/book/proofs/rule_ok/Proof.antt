@@ -1,4 +1,4 @@
--- `rule_ok` meets its contract: the length is odd and from 3 to 35, then the tests of the definition, one after the other.
+-- `rule_ok` meets its contract: the length is odd, from 3 to that of the longest body, then the tests of the definition, one after the other.
 -- Assumes nothing.
 use Prim.Native.Nat.{_-_}
 use lib.ListN.{length, take, drop, length-drop}

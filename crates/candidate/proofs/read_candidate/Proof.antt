@@ -2,6 +2,7 @@
 use mathlib.Core.Path.{_≡_, subst}
 use Prim.Native.Nat.{ℕ, _-_, _≤_}
 use lib.ListN.{length, take}
+use Rattle.base.specs.Bounds.{maxAtoms}
 use Rattle.models.specs.Listing.{interpretationOf}
 use Rattle.candidate.proofs.ReadLaws.{fact-in, read-start, read-more}
 use borrow.Author.Needs.{needs}
@@ -10,7 +11,7 @@ use Rattle.candidate.proofs.read_candidate.Statement.{statement}
 use Rattle.candidate.proofs.read_candidate.Tie as tie
 
 abbrev Inv-loop : tie.InvT-loop
-Inv-loop candidate n m₀ f₀ m f = (f ≤ n) × (length m ≡ 256) × (take f m ≡ interpretationOf f candidate)
+Inv-loop candidate n m₀ f₀ m f = (f ≤ n) × (length m ≡ maxAtoms) × (take f m ≡ interpretationOf f candidate)
 
 abbrev μ-loop : tie.MeasureT-loop
 μ-loop candidate n m₀ f₀ m f = n - f

@@ -5,7 +5,8 @@ use mathlib.Core.Path.{_≡_}
 use mathlib.Core.Bool.{false, cond}
 use Prim.Native.Nat.{_+_}
 use lib.ListN.{length}
-use Rattle.filling.specs.Marks.{falses}
+use Rattle.base.specs.Bounds.{maxAtoms}
+use Rattle.filling.specs.Marks.{hintSize, falses}
 use Rattle.filling.proofs.GrowingLaws.{grown-fewer}
 use Rattle.filling.proofs.FillingLaws.{Filling, filling-start, filling-since, filling-more, filling-grown, filled, clashed}
 use borrow.Author.Needs.{needs}
@@ -15,7 +16,7 @@ use Rattle.filling.proofs.fill_on.Tie as tie
 
 abbrev Inv-loop : tie.InvT-loop
 Inv-loop book rows rejects hints₀ positive₀ negative₀ added₀ first₀ hints positive negative added first =
-    (length hints ≡ 2048) × (length positive ≡ 256) × (length negative ≡ 256) × Filling book rows rejects positive₀ negative₀ positive negative added
+    (length hints ≡ hintSize) × (length positive ≡ maxAtoms) × (length negative ≡ maxAtoms) × Filling book rows rejects positive₀ negative₀ positive negative added
 
 abbrev μ-loop : tie.MeasureT-loop
 μ-loop book rows rejects hints₀ positive₀ negative₀ added₀ first₀ hints positive negative added first =

@@ -1,4 +1,4 @@
--- Names below 256 stand in the first array, the others in the second.
+-- Names below `maxAtoms` stand in the first array, the others in the second.
 use Rattle.models.specs.StableModels.{atomHolds}
 use Rattle.filling.proofs.MarkLaws.{marked-low, marked-high}
 use borrow.Author.Needs.{needs}

@@ -5,6 +5,7 @@ use mathlib.Core.Logic.{⊎-elim}
 use Prim.Native.Nat.{_-_, _/_, _<_}
 use lib.ListN.{length}
 use Rattle.table.specs.Rows.{rowSize}
+use Rattle.filling.specs.Marks.{hintSize}
 use Rattle.filling.proofs.FillingLaws.{Passing, pass-start, pass-skip, pass-low, pass-high, pass-clash, pass-done}
 use borrow.Author.Needs.{needs}
 use Rattle.filling.proofs.pass.Statement.{statement}
@@ -12,7 +13,7 @@ use Rattle.filling.proofs.pass.Tie as tie
 
 abbrev Inv-loop : tie.InvT-loop
 Inv-loop book rows rejects positive₀ negative₀ hints₀ count added₀ j₀ positive negative hints added j =
-    (count ≡ length rows / rowSize) × (length hints ≡ 2048) × Passing book rows rejects positive₀ negative₀ positive negative added j
+    (count ≡ length rows / rowSize) × (length hints ≡ hintSize) × Passing book rows rejects positive₀ negative₀ positive negative added j
 
 abbrev μ-loop : tie.MeasureT-loop
 μ-loop book rows rejects positive₀ negative₀ hints₀ count added₀ j₀ positive negative hints added j = count - j

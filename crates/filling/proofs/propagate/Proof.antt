@@ -4,6 +4,7 @@ use mathlib.Core.Logic.{⊎-elim}
 use Prim.Native.Nat.{_/_, _≤_}
 use lib.ListN.{length, length-set}
 use Rattle.table.specs.Rows.{rowSize}
+use Rattle.base.specs.Bounds.{maxRules}
 use Rattle.filling.proofs.GrowingLaws.{grown-none, grown-both}
 use Rattle.filling.proofs.WaitingLaws.{Turn}
 use borrow.Author.Needs.{needs}
@@ -12,7 +13,7 @@ use Rattle.filling.proofs.propagate.Tie as tie
 
 abbrev Inv-loop : tie.InvT-loop
 Inv-loop book rows rejects positive₀ negative₀ hints₀ count links₀ names₀ top₀ fresh₀ node₀ turns₀ positive negative hints links names top fresh node turns =
-    (count ≡ length rows / rowSize) × (count ≤ 1024) × Turn book rows rejects positive₀ negative₀ positive negative links hints names top
+    (count ≡ length rows / rowSize) × (count ≤ maxRules) × Turn book rows rejects positive₀ negative₀ positive negative links hints names top
 
 abbrev μ-loop : tie.MeasureT-loop
 μ-loop book rows rejects positive₀ negative₀ hints₀ count links₀ names₀ top₀ fresh₀ node₀ turns₀ positive negative hints links names top fresh node turns =

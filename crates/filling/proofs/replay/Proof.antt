@@ -4,6 +4,7 @@ use mathlib.Core.Logic.{⊎-elim}
 use Prim.Native.Nat.{_/_, _-_, _≤_}
 use lib.ListN.{length}
 use Rattle.table.specs.Rows.{rowSize}
+use Rattle.base.specs.Bounds.{maxAtoms, maxRules}
 use Rattle.filling.specs.Marks.{Grown}
 use Rattle.filling.proofs.GrowingLaws.{grown-none, grown-both}
 use borrow.Author.Needs.{needs}
@@ -12,7 +13,7 @@ use Rattle.filling.proofs.replay.Tie as tie
 
 abbrev Inv-loop : tie.InvT-loop
 Inv-loop book rows rejects positive₀ negative₀ hints count end i₀ positive negative i =
-    (count ≡ length rows / rowSize) × (end ≤ 1024) × (length positive ≡ 256) × (length negative ≡ 256) × Grown book rows rejects positive₀ negative₀ positive negative
+    (count ≡ length rows / rowSize) × (end ≤ maxRules) × (length positive ≡ maxAtoms) × (length negative ≡ maxAtoms) × Grown book rows rejects positive₀ negative₀ positive negative
 
 abbrev μ-loop : tie.MeasureT-loop
 μ-loop book rows rejects positive₀ negative₀ hints count end i₀ positive negative i = end - i
@@ -22,6 +23,12 @@ shared-slice-read-wide16 c = search needs
 
 wide16-requires : tie.Need-wide16-requires Inv-loop μ-loop
 wide16-requires c κs = search needs
+
+add-end : tie.Need-add-end Inv-loop μ-loop
+add-end c = search needs
+
+rem-end : tie.Need-rem-end Inv-loop μ-loop
+rem-end c = search needs
 
 loop-holds : tie.Need-loop-holds Inv-loop μ-loop
 loop-holds c = (search needs, search needs, search needs, search needs, grown-none _ _)
@@ -69,6 +76,8 @@ replay-spec =
     μ-loop
     shared-slice-read-wide16
     wide16-requires
+    add-end
+    rem-end
     loop-holds
     add-wide16
     mul-wide16

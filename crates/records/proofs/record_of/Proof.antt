@@ -2,6 +2,7 @@
 use mathlib.Core.Path.{_≡_, refl, _∙_}
 use Prim.Native.Nat.{_-_, _≤_}
 use lib.ListN.{length, take, length-set}
+use Rattle.base.specs.Bounds.{maxRecord}
 use Rattle.models.specs.Listing.{packed, recordSize}
 use Rattle.records.proofs.PackLaws.{record-start, record-step, record-end}
 use borrow.Author.Needs.{needs}
@@ -10,7 +11,7 @@ use Rattle.records.proofs.record_of.Statement.{statement}
 use Rattle.records.proofs.record_of.Tie as tie
 
 abbrev Inv-loop : tie.InvT-loop
-Inv-loop m r₀ w j₀ r j = (w ≡ recordSize (length m)) × (w ≤ 32) × (length r ≡ 32) × (j ≤ w) × (take j r ≡ packed j m)
+Inv-loop m r₀ w j₀ r j = (w ≡ recordSize (length m)) × (w ≤ maxRecord) × (length r ≡ maxRecord) × (j ≤ w) × (take j r ≡ packed j m)
 
 abbrev μ-loop : tie.MeasureT-loop
 μ-loop m r₀ w j₀ r j = w - j

@@ -9,63 +9,48 @@ Inv-loop listing n k w at₀ left₀ at left = Unit {0}
 abbrev μ-loop : tie.MeasureT-loop
 μ-loop listing n k w at₀ left₀ at left = left
 
--- src/main.rt:60:22
 add-w : tie.Need-add-w Inv-loop μ-loop
 add-w c = search needs
 
--- src/main.rt:60:13
 add-w-2 : tie.Need-add-w-2 Inv-loop μ-loop
 add-w-2 c = search needs
 
--- src/main.rt:63:5
 loop-holds : tie.Need-loop-holds Inv-loop μ-loop
 loop-holds c = search needs
 
--- src/main.rt:65:13
 returns : tie.Need-returns Inv-loop μ-loop
 returns c = search needs
 
--- src/main.rt:67:12
 sub-if2 : tie.Need-sub-if2 Inv-loop μ-loop
 sub-if2 c = search needs
 
--- src/main.rt:68:13
 returns-2 : tie.Need-returns-2 Inv-loop μ-loop
 returns-2 c = search needs
 
--- src/main.rt:70:18
 add-to : tie.Need-add-to Inv-loop μ-loop
 add-to c = search needs
 
--- src/main.rt:71:21
 sub-print-state : tie.Need-sub-print-state Inv-loop μ-loop
 sub-print-state c = search needs
 
--- src/main.rt:71:21
 part-print-state-start : tie.Need-part-print-state-start Inv-loop μ-loop
 part-print-state-start c = search needs
 
--- src/main.rt:71:21
 part-print-state-end : tie.Need-part-print-state-end Inv-loop μ-loop
 part-print-state-end c = search needs
 
--- src/main.rt:71:9
 print-state-requires : tie.Need-print-state-requires Inv-loop μ-loop
 print-state-requires c κs = search needs
 
--- src/main.rt:73:9
 sub-left : tie.Need-sub-left Inv-loop μ-loop
 sub-left c = search needs
 
--- src/main.rt:63:5
 loop-less : tie.Need-loop-less Inv-loop μ-loop
 loop-less c = search needs
 
--- src/main.rt:63:5
 loop-again : tie.Need-loop-again Inv-loop μ-loop
 loop-again c = search needs
 
--- src/main.rt:59:1
 returns-3 : tie.Need-returns-3 Inv-loop μ-loop
 returns-3 c = search needs
 
