@@ -5,7 +5,7 @@ use mathlib.Core.Bool.{true}
 use mathlib.Core.Logic.{_↔_}
 use mathlib.Core.List.{List}
 use Prim.Native.Nat.{ℕ, _+_, _*_, _^_, _<_, _≤_}
-use lib.ListN.{take, drop}
+use lib.ListN.{getD, take, drop}
 use Rattle.format.specs.Book.{u16At, u32At, bookOf}
 use Rattle.insertion.specs.Runs.{bytesBefore}
 use Rattle.models.specs.StableModels.{Interpretation, StableModel}
@@ -57,10 +57,17 @@ pub record Lists (c : Call) (k g : ℕ) : Type 0 where
   pub no-other : (i : ℕ) → i < k → (m : Interpretation) × Model c m × (recordAt c i ≡ recordOf (facts c) m)
   pub every : (m : Interpretation) → Model c m → (i : ℕ) × (i < k) × (recordAt c i ≡ recordOf (facts c) m)
   pub once : (i j : ℕ) → i < k → j < k → recordAt c i ≡ recordAt c j → i ≡ j
+  -- a record stands for one stable model: two of them never share it
+  pub distinct : (m o : Interpretation) → Model c m → Model c o → recordOf (facts c) m ≡ recordOf (facts c) o → m ≡ o
   -- the records rise as byte strings
   pub rising : (i j : ℕ) → i < j → j < k → bytesBefore (recordAt c i) (recordAt c j) ≡ true
   -- (iii) "The number of these records is the k that the listing and its answer carry"
   pub head-count : u32At (after c) 7 ≡ k
+  -- the head's other fields; at offset 0 the version
+  pub head-version : getD (after c) 0 0 ≡ 1
+  -- at offset 1 the length of the whole listing in bytes, head and records
+  pub head-length : u32At (after c) 1 ≡ 11 + k * recordSize (facts c)
+  -- at offset 5 the number n of facts
   pub head-facts : u16At (after c) 5 ≡ facts c
   -- (iv) "and it is at most 2 to the power g"
   pub bounded : k ≤ 2 ^ g
