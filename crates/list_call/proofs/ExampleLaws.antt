@@ -2,7 +2,7 @@
 -- bytes and g are those of `examples-say`, and k is read from the bytes by condition 3. Assumes nothing.
 use mathlib.Core.Path.{_≡_, refl, sym, ap, ap₂, subst, _∙_}
 use mathlib.Core.Bool.{Bool, true, false, _&&_}
-use mathlib.Core.List.{List, [], _∷_, _++_, append-nil}
+use mathlib.Core.List.{List, _++_, append-nil}
 use Prim.Native.Nat.{ℕ, _≤_}
 use native.Mathlib.Omega.{arith}
 use borrow.Author.Tests.{le-ltb}
@@ -22,7 +22,7 @@ use Rattle.models.specs.Listing.{stableModels, listing}
 use Rattle.models.specs.Examples.{Example, framed, section, bytesOf, p, notP, q, notQ, ruleIn, arrow, bookB, table, seen}
 use Rattle.models.proofs.ExampleLaws.{examples-say}
 use Rattle.table.specs.Table.{programOf}
-use Rattle.book.specs.Causes.{within, arrowOk, ruleLength, atomBelow, ruleOk, isTooShort, hasWrongVersion, hasWrongLength, isOutOfRange, hasBadRecord, repeatsArrow, hasCycle, tests, verdictIf, firstOf, verdict}
+use Rattle.book.specs.Causes.{within, arrowOk, ruleLength, atomBelow, ruleOk, isTooShort, hasWrongVersion, hasWrongLength, isOutOfRange, hasBadRecord, repeatsArrow, hasCycle, tests, verdictIf, firstOf}
 use Rattle.book.specs.declared.Verdict.{Verdict}
 use Rattle.book.specs.declared.Verdict.the-variants.{Accepted, Refused}
 use Rattle.accepted.specs.Driven.{isNoSuchLayer, layerTests}
@@ -31,7 +31,6 @@ use Rattle.accepted.proofs.FirstLaws.{first-append}
 use Rattle.passes.specs.Limit.{hasTooManyBranching}
 use Rattle.list_call.specs.declared.ListReply.the-variants as reply
 use Rattle.list_call.specs.Reply.{roomTests, searchTests, listTests, replyOf, bufferOf, listReply, listBuffer}
-use Rattle.list_call.specs.Condition3.{Call}
 use Rattle.list_call.specs.Examples.{stateCount, Answered, ExamplesAnswered}
 use Rattle.list_call.proofs.Condition3Laws.{lists-exactly}
 

@@ -1,5 +1,5 @@
--- The buyer's third condition, over what the contract of the listing call promises. proofs/Condition3Laws.antt proves it.
--- Assumes nothing.
+-- The buyer's third condition, over what the contract of the listing call promises. proofs/Condition3Laws.antt proves it, and
+-- crates/lesson/specs/Host.antt says it of the number that a host reads k and g from. Assumes nothing.
 use mathlib.Core.Path.{_≡_}
 use mathlib.Core.Bool.{true}
 use mathlib.Core.Logic.{_↔_}
@@ -44,12 +44,14 @@ recordAt c i = take (recordSize (facts c)) (drop (11 + i * recordSize (facts c))
 abbrev pub Model : Call → Interpretation → Type 0
 Model c m = StableModel (programOf (c .book) (c .layer)) m
 
+-- as many facts, and the same set of stable models at the two layers
+abbrev pub SameModels : Call → Call → Type 0
+SameModels c d = (facts c ≡ facts d) × ((m : Interpretation) → Model c m ↔ Model d m)
+
 -- (i) "Where both listings are granted, they are equal byte for byte exactly when both books have the same number of facts and
 -- the same set of stable models at those layers."
 abbrev pub EqualExactly : Type 0
-EqualExactly =
-    (c d : Call) (k g j h : ℕ) → Granted c k g → Granted d j h
-    → (listed c k ≡ listed d j) ↔ ((facts c ≡ facts d) × ((m : Interpretation) → Model c m ↔ Model d m))
+EqualExactly = (c d : Call) (k g j h : ℕ) → Granted c k g → Granted d j h → (listed c k ≡ listed d j) ↔ SameModels c d
 
 -- (ii) to (v), of one granted call
 pub record Lists (c : Call) (k g : ℕ) : Type 0 where
