@@ -28,7 +28,8 @@ use Rattle.test_call.specs.declared.TestReply.{TestReply}
 use Rattle.test_call.specs.declared.TestReply.the-variants as reply
 use Rattle.lesson.specs.Answers.{checkAnswer, testAnswer, listAnswer, oneAnswer, placeAnswer}
 
--- ---- the functions of include/lesson.h, each behind its C: x >> 8 is x / 256, x & 0xFF is x % 256, (uint32_t)x is x % 4294967296
+-- ---- the functions of include/lesson.h, each behind its C. Of a number below 2^64, x >> 8 is x / 256, x & 0xFF is x % 256, and
+-- (uint32_t)x is x % 4294967296.
 
 -- answer & 0xFF
 abbrev pub lessonCause : ℕ → ℕ
@@ -54,32 +55,36 @@ lessonStateCount answer = answer / 65536 % 4294967296
 abbrev pub lessonPlaceOf : ℕ → ℕ
 lessonPlaceOf answer = answer / 65536 % 4
 
--- enum lesson_place_number
+-- LESSON_IN_NONE, LESSON_IN_SOME, LESSON_IN_EVERY
 abbrev pub placeNumber : Place → ℕ
 placeNumber Nowhere = 0
 placeNumber InSome = 1
 placeNumber Every = 2
 
--- ---- what a host learns from an answer; `own` is what only this call tells
+-- ---- what a host learns from an answer
 pub record Reading (A : Type 0) : Type 0 where
   pub granted : Bool
+  -- the cause's number, or 0
   pub cause : ℕ
+  -- g
   pub branching : ℕ
+  -- what the call tells besides: k, yes or no, or a place
   pub own : A
 
--- by the functions above, `own` by the call's own
+-- by the functions above, and the one that is the call's own
 abbrev pub readBy : {A : Type 0} → (ℕ → A) → ℕ → Reading A
 readBy own answer = record { granted = lessonGranted answer; cause = lessonCause answer; branching = lessonBranchingCount answer; own = own answer }
 
--- "Its low byte is 0 where the call is granted, and the bits above it carry what the answer carries": g, and the call's own
+-- lesson.h: "Its low byte is 0 where the call is granted, and the bits above it carry what the answer carries."
 abbrev pub grantedWith : {A : Type 0} → ℕ → A → Reading A
 grantedWith g own = record { granted = true; cause = 0; branching = g; own = own }
 
--- "Where the call is refused, the low byte is the number of the cause"; g reads as 0
+-- lesson.h: "Where the call is refused, the low byte is the number of the cause"; g is read as 0.
 abbrev pub refusedFor : {A : Type 0} → Cause → A → Reading A
 refusedFor c own = record { granted = false; cause = numberOf c; branching = 0; own = own }
 
--- ---- what each reply has to tell: lesson_check nothing more
+-- ---- what each reply has to tell
+-- lesson_check: nothing more; lessonStateCount reads 0
 abbrev pub checkTold : Verdict → Reading ℕ
 checkTold Accepted = grantedWith 0 0
 checkTold (Refused c) = refusedFor c 0
@@ -95,7 +100,7 @@ abbrev pub listTold : ListReply → Reading ℕ
 listTold (list.Listed k g) = grantedWith g k
 listTold (list.Refused c) = refusedFor c 0
 
--- lesson_one: nothing but g
+-- lesson_one: nothing but g; lessonStateCount reads 0
 abbrev pub oneTold : OneReply → Reading ℕ
 oneTold (one.Written g) = grantedWith g 0
 oneTold (one.Refused c) = refusedFor c 0
@@ -114,8 +119,8 @@ pub record Given : Type 0 where
   pub buffer : List ℕ
   pub fact : ℕ
 
--- Of a call, whatever it is given: a host reads from its number what its reply has to tell, and no two replies share a number.
--- `answer (reply x)` is the number that the call's contract in src/lib.rt promises.
+-- Of a call, whatever it is given: a host reads from its number what its reply has to tell, so that the low byte is 0 exactly where
+-- the call is granted; and no two replies share a number. `answer (reply x)` is the number that the contract in src/lib.rt promises.
 pub record HostReads {Reply A : Type 0} (reply : Given → Reply) (answer : Reply → ℕ) (own : ℕ → A) (told : Reply → Reading A) : Type 0 where
   pub reads : (x : Given) → readBy own (answer (reply x)) ≡ told (reply x)
   pub differ : (x y : Given) → answer (reply x) ≡ answer (reply y) → reply x ≡ reply y
@@ -144,7 +149,8 @@ statesRead c = lessonStateCount (listNumber c)
 abbrev pub branchingRead : Call → ℕ
 branchingRead c = lessonBranchingCount (listNumber c)
 
--- Where lessonGranted says so, conditions (i) to (v) of crates/list_call/specs/Condition3.antt hold with that k and that g.
+-- "the k that the listing and its answer carry" and "the count that the answer carries", as a host reads them: where lessonGranted
+-- says so, (i) to (v) of crates/list_call/specs/Condition3.antt hold with that k and that g.
 pub record Condition3Read : Type 0 where
   pub lists : (c : Call) → lessonGranted (listNumber c) ≡ true → Lists c (statesRead c) (branchingRead c)
   pub equal : (c d : Call) → lessonGranted (listNumber c) ≡ true → lessonGranted (listNumber d) ≡ true
