@@ -1,14 +1,20 @@
 //! Times the calls of the archive beside two Rust programs, on the same books in one run, and prints
 //! one table in Markdown. `plain` makes the same search in the same forms: one pass to count, one to
 //! write, passes over all rules. `bitset` is free of the forms and tries every setting once.
-//! Run it with `cargo run --release`; with `-- --full` the books that take long come too.
+//!
+//! Run it with `cargo run --release`; with `-- --full` the books that take long come too, with
+//! `-- --only WORD` only the rows that have the word in their name. Where LESSON_BEFORE_DIR names a
+//! folder with another liblesson.a, every row times that one too.
+
+mod before;
 
 use lesson_tests::book::Book;
 use lesson_tests::expected::{branching, NO_STABLE_STATE};
+use lesson_tests::ffi::{self, Call};
 use lesson_tests::known::{self, Ending, Following, Known};
-use lesson_tests::rng::{seed, Rng};
+use lesson_tests::rng::Rng;
 use lesson_tests::shapes::{self, Planted};
-use lesson_tests::{bitset, ffi, oracle, plain, reader};
+use lesson_tests::{bitset, oracle, plain, reader};
 use std::env;
 use std::hint::black_box;
 use std::time::{Duration, Instant};
@@ -22,8 +28,57 @@ const BUDGET: Duration = Duration::from_millis(300);
 /// The shortest time that is measured at once.
 const SHORTEST: Duration = Duration::from_millis(10);
 
-/// A program as a row times it.
-type Run<'a> = &'a mut dyn FnMut();
+/// The books are the same in every run, so that runs can be compared.
+const SEED: u64 = 20_261_115;
+
+#[derive(Clone, Copy, PartialEq, Eq)]
+enum Program {
+    Engine,
+    Plain,
+    Bits,
+    /// The second archive.
+    Before,
+}
+
+/// Those that the engine is compared with: their columns in order, and the digits that a ratio has
+/// behind its point.
+const OPPONENTS: &[(Program, &str, usize)] = &[
+    (Program::Plain, "plain Rust", 2),
+    (Program::Bits, "bit sets", 1),
+    (Program::Before, "before", 2),
+];
+
+/// The same without the second archive where there is none.
+fn opponents() -> &'static [(Program, &'static str, usize)] {
+    match before::LINKED {
+        true => OPPONENTS,
+        false => &OPPONENTS[..2],
+    }
+}
+
+impl Program {
+    /// Its answer to a call.
+    fn answer(self, book: &[u8], layer: u32, call: Call) -> u64 {
+        match self {
+            Program::Engine => ffi::answer(Some(book), layer, call),
+            Program::Before => before::answer(book, layer, call),
+            Program::Plain => match call {
+                Call::Check => reader::first_cause(book).into(),
+                Call::Test(candidate) => plain::test(book, layer, candidate.unwrap_or_default()),
+                Call::List(buffer) => plain::list(book, layer, buffer.unwrap_or_default()),
+                Call::One(buffer) => plain::one(book, layer, buffer.unwrap_or_default()),
+                Call::Place(fact) => plain::place(book, layer, fact),
+            },
+            Program::Bits => match call {
+                Call::Check => bitset::check(book),
+                Call::Test(candidate) => bitset::test(book, layer, candidate.unwrap_or_default()),
+                Call::List(buffer) => bitset::list(book, layer, buffer.unwrap_or_default()),
+                Call::One(buffer) => bitset::one(book, layer, buffer.unwrap_or_default()),
+                Call::Place(fact) => bitset::place(book, layer, fact),
+            },
+        }
+    }
+}
 
 /// Seconds for one call, over `calls` of them.
 fn time(calls: u32, run: &mut dyn FnMut()) -> f64 {
@@ -46,6 +101,23 @@ fn enough(run: &mut dyn FnMut()) -> (u32, f64) {
     }
 }
 
+/// Seconds for a call of each of so many programs, the best round of each. They take turns, so that
+/// a disturbance meets all of them.
+fn best_rounds(programs: usize, run: &mut dyn FnMut(usize)) -> Vec<f64> {
+    let start = Instant::now();
+    let measured: Vec<(u32, f64)> = (0..programs).map(|at| enough(&mut || run(at))).collect();
+    let mut best: Vec<f64> = measured.iter().map(|&(_, one)| one).collect();
+    for round in 1..MOST {
+        if round >= FEWEST && start.elapsed() >= BUDGET {
+            break;
+        }
+        for (at, best) in best.iter_mut().enumerate() {
+            *best = best.min(time(measured[at].0, &mut || run(at)));
+        }
+    }
+    best
+}
+
 /// A time in the unit that suits it.
 fn shown(seconds: f64) -> String {
     match seconds {
@@ -55,168 +127,164 @@ fn shown(seconds: f64) -> String {
     }
 }
 
-/// Prints a row with the best round of each: engine, plain, bit sets. They take turns, so that a
-/// disturbance meets all of them.
-fn row(name: &str, book: &[u8], mut runs: [Run; 3]) {
-    let start = Instant::now();
-    let measured = runs.each_mut().map(|run| enough(run));
-    let mut best = measured.map(|(_, one)| one);
-    for round in 1..MOST {
-        if round >= FEWEST && start.elapsed() >= BUDGET {
-            break;
-        }
-        for ((run, (calls, _)), best) in runs.iter_mut().zip(measured).zip(&mut best) {
-            *best = best.min(time(calls, run));
-        }
+/// What a row asks of every program, and the answer that each must give.
+#[derive(Default)]
+struct Asked<'a> {
+    name: String,
+    book: &'a [u8],
+    layer: u32,
+    answer: u64,
+    candidate: &'a [u8],
+    /// The length of a buffer that the call may write.
+    buffer: usize,
+    /// One call of each program, and none of the plain one, which would take far longer.
+    once: bool,
+}
+
+/// The table: of all rows those that have a word in their name.
+struct Table {
+    word: String,
+}
+
+impl Table {
+    fn head(&self) {
+        println!("Time of a call, best of {FEWEST} to {MOST} rounds, seed {SEED}.");
+        println!("Rows without plain Rust are of one call each.\n");
+        let columns = opponents().iter();
+        let columns: String = columns
+            .map(|(_, name, _)| format!(" {name} | ratio |"))
+            .collect();
+        println!("| Call and book | bytes | engine |{columns}");
+        println!("{}|", "|---".repeat(3 + 2 * opponents().len()));
     }
-    let [engine, plain, bits] = best;
-    println!(
-        "| {name} | {} | {} | {} | {:.2} | {} | {:.1} |",
-        book.len(),
-        shown(engine),
-        shown(plain),
-        engine / plain,
-        shown(bits),
-        engine / bits
-    );
-}
 
-/// A row for an accepted book. The bit sets' reader is the plain one.
-fn check_row(name: &str, book: &Book) {
-    let book = &book.bytes()[..];
-    row(
-        &format!("check, {name}"),
-        book,
-        [
-            &mut || assert_eq!(ffi::check_in_place(black_box(book)), 0),
-            &mut || assert_eq!(reader::first_cause(black_box(book)), 0),
-            &mut || assert_eq!(bitset::check(black_box(book)), 0),
-        ],
-    );
-}
+    /// Prints a row, and gives the buffers that the programs wrote. `call` is made of the candidate
+    /// and a program's buffer.
+    fn row<F>(&self, asked: Asked, call: F) -> Vec<Vec<u8>>
+    where
+        F: for<'b> Fn(&'b [u8], &'b mut [u8]) -> Call<'b>,
+    {
+        let Asked {
+            name, book, once, ..
+        } = asked;
+        if !name.contains(&self.word) {
+            return Vec::new();
+        }
+        let mut programs = vec![Program::Engine];
+        programs.extend(opponents().iter().map(|&(program, ..)| program));
+        programs.retain(|&program| !once || program != Program::Plain);
+        let buffers = (0..).map(|filler| vec![filler; asked.buffer]);
+        let mut buffers: Vec<Vec<u8>> = buffers.take(programs.len()).collect();
+        let mut run = |at: usize| {
+            let call = call(asked.candidate, &mut buffers[at]);
+            let given = programs[at].answer(black_box(book), asked.layer, call);
+            assert_eq!(given, asked.answer, "{name}");
+        };
+        let times = match once {
+            true => (0..programs.len())
+                .map(|at| time(1, &mut || run(at)))
+                .collect(),
+            false => best_rounds(programs.len(), &mut run),
+        };
+        let engine = times[0];
+        print!("| {name} | {} | {} |", book.len(), shown(engine));
+        for &(opponent, _, digits) in opponents() {
+            match programs.iter().position(|&program| program == opponent) {
+                Some(at) => print!(" {} | {:.digits$} |", shown(times[at]), engine / times[at]),
+                None => print!(" - | - |"),
+            }
+        }
+        println!();
+        buffers
+    }
 
-/// A row for the test of the stable state of `planted`: a yes, which no early no shortens.
-fn test_row(name: &str, planted: &Planted) {
-    let book = &planted.book.bytes()[..];
-    let layer = planted.layer.into();
-    let candidate = &oracle::record(&planted.state)[..];
-    let yes = 1 << 16;
-    row(
-        &format!("test, {name}"),
-        book,
-        [
-            &mut || assert_eq!(ffi::test_in_place(black_box(book), layer, candidate), yes),
-            &mut || assert_eq!(plain::test(black_box(book), layer, candidate), yes),
-            &mut || assert_eq!(bitset::test(black_box(book), layer, candidate), yes),
-        ],
-    );
-}
+    /// A row for an accepted book. The bit sets' reader is the plain one.
+    fn check(&self, name: &str, book: &Book) {
+        let asked = Asked {
+            name: format!("check, {name}"),
+            book: &book.bytes(),
+            ..Asked::default()
+        };
+        self.row(asked, |_, _| Call::Check);
+    }
 
-fn listing_length(known: &Known) -> usize {
-    11 + known.count * usize::from(known.book.atoms).div_ceil(8)
-}
+    /// A row for the test of the stable state of `planted`: a yes, which no early no shortens.
+    fn test(&self, name: &str, planted: &Planted) {
+        let asked = Asked {
+            name: format!("test, {name}"),
+            book: &planted.book.bytes(),
+            layer: planted.layer.into(),
+            answer: 1 << 16,
+            candidate: &oracle::record(&planted.state),
+            ..Asked::default()
+        };
+        self.row(asked, |candidate, _| Call::Test(Some(candidate)));
+    }
 
-/// A row for a listing. All write the same bytes.
-fn list_row(name: &str, known: &Known) {
-    let book = &known.book.bytes()[..];
-    let layer = known.layer.into();
-    let length = listing_length(known);
-    let answer = known.answer();
-    let mut buffers = [vec![0; length], vec![1; length], vec![2; length]];
-    let [engine, plain, bits] = &mut buffers;
-    row(
-        &format!("list, {name}, g = {}, k = {}", known.branching, known.count),
-        book,
-        [
-            &mut || assert_eq!(ffi::list_in_place(black_box(book), layer, engine), answer),
-            &mut || assert_eq!(plain::list(black_box(book), layer, plain), answer),
-            &mut || assert_eq!(bitset::list(black_box(book), layer, bits), answer),
-        ],
-    );
-    let [engine, others @ ..] = &buffers;
-    assert!(
-        others.iter().all(|listing| listing == engine),
-        "{name}: the listings differ"
-    );
-}
+    /// A row for a listing. All write the same bytes.
+    fn list(&self, name: &str, known: &Known) {
+        self.listing(name, known, false);
+    }
 
-/// A row for a listing that may take a minute: the engine and the bit sets once each, and not the
-/// plain program, which takes far longer.
-fn long_list_row(name: &str, known: &Known) {
-    let book = &known.book.bytes()[..];
-    let layer = known.layer.into();
-    let length = listing_length(known);
-    let answer = known.answer();
-    let [mut listing, mut other] = [vec![0; length], vec![1; length]];
-    let engine = time(1, &mut || {
-        assert_eq!(ffi::list_in_place(book, layer, &mut listing), answer)
-    });
-    let bits = time(1, &mut || {
-        assert_eq!(bitset::list(book, layer, &mut other), answer)
-    });
-    println!(
-        "| list, {name}, g = {}, k = {} | {} | {} | - | - | {} | {:.1} |",
-        known.branching,
-        known.count,
-        book.len(),
-        shown(engine),
-        shown(bits),
-        engine / bits
-    );
-    assert!(listing == other, "{name}: the listings differ");
-}
+    /// A row for a listing that may take a minute.
+    fn long_list(&self, name: &str, known: &Known) {
+        self.listing(name, known, true);
+    }
 
-/// A row for one state of the book, or for the search that finds none. How soon a state is found is
-/// up to the order of each search.
-fn one_row(name: &str, known: &Known) {
-    let book = &known.book.bytes()[..];
-    let layer = known.layer.into();
-    let answer = match known.count {
-        0 => NO_STABLE_STATE,
-        _ => branching(known.branching),
-    };
-    let [mut engine, mut plain, mut bits] = [[0; 32]; 3];
-    row(
-        &format!("one, {name}, g = {}, k = {}", known.branching, known.count),
-        book,
-        [
-            &mut || {
-                assert_eq!(
-                    ffi::one_in_place(black_box(book), layer, &mut engine),
-                    answer
-                )
+    fn listing(&self, name: &str, known: &Known, once: bool) {
+        let asked = Asked {
+            name: format!("list, {name}, g = {}, k = {}", known.branching, known.count),
+            book: &known.book.bytes(),
+            layer: known.layer.into(),
+            answer: known.answer(),
+            buffer: 11 + known.count * usize::from(known.book.atoms).div_ceil(8),
+            once,
+            ..Asked::default()
+        };
+        let listings = self.row(asked, |_, buffer| Call::List(Some(buffer)));
+        let same = listings.windows(2).all(|two| two[0] == two[1]);
+        assert!(same, "{name}: the listings differ");
+    }
+
+    /// A row for one state of the book, or for the search that finds none. How soon a state is found
+    /// is up to the order of each search.
+    fn one(&self, name: &str, known: &Known) {
+        let asked = Asked {
+            name: format!("one, {name}, g = {}, k = {}", known.branching, known.count),
+            book: &known.book.bytes(),
+            layer: known.layer.into(),
+            answer: match known.count {
+                0 => NO_STABLE_STATE,
+                _ => branching(known.branching),
             },
-            &mut || assert_eq!(plain::one(black_box(book), layer, &mut plain), answer),
-            &mut || assert_eq!(bitset::one(black_box(book), layer, &mut bits), answer),
-        ],
-    );
-}
+            buffer: 32,
+            ..Asked::default()
+        };
+        self.row(asked, |_, buffer| Call::One(Some(buffer)));
+    }
 
-/// A row for the place of a fact.
-fn place_row(name: &str, known: &Known, fact: u16) {
-    let book = &known.book.bytes()[..];
-    let layer = known.layer.into();
-    let answer = known.places()[usize::from(fact)];
-    let fact = fact.into();
-    let place = match answer >> 16 {
-        0 if known.count == 0 => "no state",
-        0 => "none",
-        1 => "some",
-        _ => "every",
-    };
-    row(
-        &format!("place, {name}, g = {}, {place}", known.branching),
-        book,
-        [
-            &mut || assert_eq!(ffi::place_in_place(black_box(book), layer, fact), answer),
-            &mut || assert_eq!(plain::place(black_box(book), layer, fact), answer),
-            &mut || assert_eq!(bitset::place(black_box(book), layer, fact), answer),
-        ],
-    );
+    /// A row for the place of a fact.
+    fn place(&self, name: &str, known: &Known, fact: u16) {
+        let answer = known.places()[usize::from(fact)];
+        let place = match answer >> 16 {
+            0 if known.count == 0 => "no state",
+            0 => "none",
+            1 => "some",
+            _ => "every",
+        };
+        let asked = Asked {
+            name: format!("place, {name}, g = {}, {place}", known.branching),
+            book: &known.book.bytes(),
+            layer: known.layer.into(),
+            answer,
+            ..Asked::default()
+        };
+        self.row(asked, |_, _| Call::Place(fact.into()));
+    }
 }
 
 fn rng(name: &str) -> Rng {
-    Rng::named(seed(), name)
+    Rng::named(SEED, name)
 }
 
 fn busy(branching: u16) -> Known {
@@ -234,12 +302,12 @@ const REVERSED: Following = Following {
     opposite: false,
 };
 
-fn checks_and_tests() {
-    check_row("largest lawful book", &shapes::largest(&mut rng("largest")));
-    check_row("B", &shapes::book_b());
+fn checks_and_tests(table: &Table) {
+    table.check("largest lawful book", &shapes::largest(&mut rng("largest")));
+    table.check("B", &shapes::book_b());
     let planted = shapes::planted_largest(&mut rng("planted largest"));
-    test_row("largest lawful book", &planted);
-    test_row(
+    table.test("largest lawful book", &planted);
+    table.test(
         "1,024 rules, worst order for filling",
         &shapes::worst_order(),
     );
@@ -248,122 +316,123 @@ fn checks_and_tests() {
         layer: 3,
         state: vec![false, false, true],
     };
-    test_row("B", &b);
+    table.test("B", &b);
 }
 
-fn searches() {
-    list_row("displacing pairs", &known::displacing_pairs(10, 0));
-    list_row("largest lawful book", &busy(10));
-    list_row("largest lawful book", &busy(14));
-    list_row("worst order for filling", &known::chained(5));
-    list_row("rising, 2 bytes", &known::free(14, 0, 14));
-    list_row("falling, 4 bytes", &known::followed(14, 14, 28, FALLING));
-    list_row("rising, 32 bytes", &known::free(14, 0, 256));
-    list_row("falling, 32 bytes", &known::followed(14, 14, 256, FALLING));
-    list_row("permuted, 4 bytes", &known::followed(10, 10, 28, REVERSED));
-    one_row("pairs", &known::pairs(10, 0));
-    one_row("largest lawful book", &busy(14));
-    place_row("pairs", &known::pairs(10, 0), 0);
+fn searches(table: &Table) {
+    table.list("displacing pairs", &known::displacing_pairs(10, 0));
+    table.list("largest lawful book", &busy(10));
+    table.list("largest lawful book", &busy(14));
+    table.list("worst order for filling", &known::chained(5));
+    table.list("rising, 2 bytes", &known::free(14, 0, 14));
+    table.list("falling, 4 bytes", &known::followed(14, 14, 28, FALLING));
+    table.list("rising, 32 bytes", &known::free(14, 0, 256));
+    table.list("falling, 32 bytes", &known::followed(14, 14, 256, FALLING));
+    table.list("permuted, 4 bytes", &known::followed(10, 10, 28, REVERSED));
+    table.one("pairs", &known::pairs(10, 0));
+    table.one("largest lawful book", &busy(14));
+    table.place("pairs", &known::pairs(10, 0), 0);
     let no_state = known::quarrelled(known::pairs(10, 0));
-    place_row("pairs and a quarrel", &no_state, 0);
+    table.place("pairs and a quarrel", &no_state, 0);
     // The facts after the branching ones always stand.
-    place_row("largest lawful book", &busy(14), 14);
+    table.place("largest lawful book", &busy(14), 14);
 }
 
 /// How the time grows: with g, with the rules at g = 10, and with k at g = 20.
-fn growth(most_states: u16) {
+fn growth(table: &Table, most_states: u16) {
     for choices in 5..=10 {
-        list_row("pairs", &known::pairs(choices, 0));
+        table.list("pairs", &known::pairs(choices, 0));
     }
     for choices in 5..=10 {
         let no_state = known::quarrelled(known::pairs(choices, 0));
-        one_row("pairs and a quarrel", &no_state);
+        table.one("pairs and a quarrel", &no_state);
     }
     for choices in 5..=10 {
         let spared = known::spared(known::pairs(choices, 0));
-        place_row("pairs and a fact without rules", &spared, 2 * choices);
+        table.place("pairs and a fact without rules", &spared, 2 * choices);
     }
     for rules in [8, 32, 128, 512, 1_024] {
         let known = known::sized(&mut rng("sized"), rules);
         let name = format!("{rules} rules");
-        check_row(&name, &known.book);
-        test_row(&name, &known.planted(0));
-        list_row(&name, &known);
+        table.check(&name, &known.book);
+        table.test(&name, &known.planted(0));
+        table.list(&name, &known);
     }
     for choices in [0, 5, 10, 15, 20]
         .into_iter()
         .filter(|&choices| choices <= most_states)
     {
-        list_row("some facts free", &known::chosen(choices, 20));
+        table.list("some facts free", &known::chosen(choices, 20));
     }
 }
 
-fn long_searches() {
-    list_row("largest lawful book", &busy(16));
-    list_row("largest lawful book", &busy(20));
-    list_row("worst order for filling", &known::chained(10));
-    list_row("rising, 3 bytes", &known::free(20, 0, 20));
+fn long_searches(table: &Table) {
+    table.list("largest lawful book", &busy(16));
+    table.list("largest lawful book", &busy(20));
+    table.list("worst order for filling", &known::chained(10));
+    table.list("rising, 3 bytes", &known::free(20, 0, 20));
     let by_16ths = known::followed(20, 4, 24, FALLING);
-    list_row("falling by 16ths, 3 bytes", &by_16ths);
-    list_row("falling, 5 bytes", &known::followed(20, 20, 40, FALLING));
-    list_row("rising, 32 bytes", &known::free(20, 0, 256));
-    list_row("falling, 32 bytes", &known::followed(20, 20, 256, FALLING));
-    list_row("permuted, 4 bytes", &known::followed(14, 14, 28, REVERSED));
-    one_row("largest lawful book", &busy(20));
-    place_row("largest lawful book", &busy(20), 20);
+    table.list("falling by 16ths, 3 bytes", &by_16ths);
+    table.list("falling, 5 bytes", &known::followed(20, 20, 40, FALLING));
+    table.list("rising, 32 bytes", &known::free(20, 0, 256));
+    table.list("falling, 32 bytes", &known::followed(20, 20, 256, FALLING));
+    table.list("permuted, 4 bytes", &known::followed(14, 14, 28, REVERSED));
+    table.one("largest lawful book", &busy(20));
+    table.place("largest lawful book", &busy(20), 20);
 }
 
 /// The slowest lawful books that we found, with so few choices that the plain program can follow,
 /// and records each of which goes past all others.
-fn worst_books() {
+fn worst_books(table: &Table) {
     let slowest = |choices, ending| known::slowest(&mut rng("slowest"), choices, ending);
-    list_row("slowest", &slowest(5, Ending::Stable));
+    table.list("slowest", &slowest(5, Ending::Stable));
     for (name, known) in known::every_slow(&mut rng("slow"), 8) {
         match known.count {
-            0 => one_row(&name, &known),
-            _ => list_row(&name, &known),
+            0 => table.one(&name, &known),
+            _ => table.list(&name, &known),
         }
     }
-    place_row("slowest", &slowest(8, Ending::Unstable), 0);
+    table.place("slowest", &slowest(8, Ending::Unstable), 0);
     for choices in [14, 16] {
         let in_turn = known::front_and_end(choices, 256);
-        list_row("front and end in turn, 32 bytes", &in_turn);
+        table.list("front and end in turn, 32 bytes", &in_turn);
     }
 }
 
 /// The same kinds of books at g = 20: what the longest calls take, measured.
-fn longest_searches() {
+fn longest_searches(table: &Table) {
     use Ending::{Doubtful, Stable, Unstable};
     let rng = &mut rng("longest");
-    long_list_row("slowest, stable", &known::slowest(rng, 19, Stable));
-    long_list_row("slowest, doubtful", &known::slowest(rng, 18, Doubtful));
-    long_list_row("slowest, unstable", &known::slowest(rng, 18, Unstable));
-    long_list_row("ring, stable", &known::ring(rng, 19, Stable));
-    long_list_row("both ways, stable", &known::both_ways(rng, 19, Stable));
-    long_list_row("blocks, stable", &known::blocks(rng, 19, Stable));
-    long_list_row("blocks, doubtful", &known::blocks(rng, 18, Doubtful));
+    table.long_list("slowest, stable", &known::slowest(rng, 19, Stable));
+    table.long_list("slowest, doubtful", &known::slowest(rng, 18, Doubtful));
+    table.long_list("slowest, unstable", &known::slowest(rng, 18, Unstable));
+    table.long_list("ring, stable", &known::ring(rng, 19, Stable));
+    table.long_list("both ways, stable", &known::both_ways(rng, 19, Stable));
+    table.long_list("blocks, stable", &known::blocks(rng, 19, Stable));
+    table.long_list("blocks, doubtful", &known::blocks(rng, 18, Doubtful));
     let displaced = known::displaced(19, 200, Stable);
-    long_list_row("displaced, and a chain, stable", &displaced);
-    long_list_row("worst order for filling", &known::chained(19));
+    table.long_list("displaced, and a chain, stable", &displaced);
+    table.long_list("worst order for filling", &known::chained(19));
 }
 
 fn main() {
-    let full = match env::args().nth(1).as_deref() {
-        None => false,
-        Some("--full") => true,
-        Some(other) => panic!("{other}: the only option is --full"),
-    };
-    let seed = seed();
-    println!("Time of a call, best of {FEWEST} to {MOST} rounds, seed {seed}.");
-    println!("Rows without plain Rust are of one call each.\n");
-    println!("| Call and book | bytes | engine | plain Rust | ratio | bit sets | ratio |");
-    println!("|---|---|---|---|---|---|---|");
-    checks_and_tests();
-    searches();
-    growth(if full { 20 } else { 15 });
+    let (mut full, mut word) = (false, String::new());
+    let mut options = env::args().skip(1);
+    while let Some(option) = options.next() {
+        match option.as_str() {
+            "--full" => full = true,
+            "--only" => word = options.next().expect("--only takes a word"),
+            other => panic!("{other}: the options are --full and --only WORD"),
+        }
+    }
+    let table = &Table { word };
+    table.head();
+    checks_and_tests(table);
+    searches(table);
+    growth(table, if full { 20 } else { 15 });
     if full {
-        long_searches();
-        worst_books();
-        longest_searches();
+        long_searches(table);
+        worst_books(table);
+        longest_searches(table);
     }
 }

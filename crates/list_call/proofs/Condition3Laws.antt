@@ -4,8 +4,8 @@ use mathlib.Core.Path.{_≡_, refl, sym, ap, ap₂, subst, _∙_}
 use mathlib.Core.Logic.{_⊎_, inl, inr}
 use mathlib.Core.Bool.{true, false, false≢true}
 use mathlib.Core.List.{List, [], _∷_, _++_, map, List·Memᴰ·head, List·Memᴰ·tail, List·Memᴰ·cases-cons, List·Memᴰ·not-nil, Memᴰ·append-left, Memᴰ·append-right, Memᴰ·of-map}
-use Prim.Native.Nat.{ℕ, zero, suc, _+_, _*_, _^_, _<_, _≤_}
-use native.Mathlib.Nat.{pow-le-pow-right, mul-le-mul-right}
+use Prim.Native.Nat.{ℕ, zero, suc, _+_, _*_, _/_, _%_, _^_, _<_, _≤_}
+use native.Mathlib.Nat.{pow-le-pow-right, mul-le-mul-right, div-div-eq-div-mul}
 use native.Mathlib.Decide.{decLt}
 use native.Mathlib.Omega.{arith}
 use borrow.Author.Tests.{ltb-false}
@@ -27,9 +27,10 @@ use Rattle.models.specs.Branching.{branchingCount}
 use Rattle.models.specs.Listing.{interpretations, stableModels, recordSize, recordOf, be16, be32, listingOf, listing}
 use Rattle.models.proofs.InterpretationLaws.{_⊏_, interpretations-rising, interpretations-length, interpretations-has}
 use Rattle.models.proofs.LeastLaws.{stable-sound, stable-complete}
-use Rattle.models.proofs.RecordLaws.{record-length, records-length, listing-length}
+use Rattle.models.proofs.RecordLaws.{record-length, record-same, records-length, listing-length}
 use Rattle.models.proofs.ListingLaws.{stableModels-length, listings-decide}
 use Rattle.records.proofs.OrderLaws.{record-rises}
+use Rattle.records.proofs.WrittenLaws.{records-fit}
 use Rattle.book.specs.Causes.{Test, firstOf}
 use Rattle.book.specs.declared.Cause.the-variants.{TooManyBranching, BufferTooShort}
 use Rattle.book.specs.declared.Verdict.{Verdict}
@@ -143,6 +144,13 @@ record-place n ms rest i h =
     at zero (x ∷ xs) h = refl
     at (suc i) (x ∷ xs) h = at i xs (omega arith)
 
+-- a number below 2^32 is read back from its four bytes
+bytes-read : (v c b a : ℕ) → v / 256 ≡ c → c / 256 ≡ b → b / 256 ≡ a → a < 256 → ((a % 256 * 256 + b % 256) * 256 + c % 256) * 256 + v % 256 ≡ v
+bytes-read v c b a p q r h = omega arith
+
+field-read : (v : ℕ) → v < 4294967296 → ((v / 16777216 % 256 * 256 + v / 65536 % 256) * 256 + v / 256 % 256) * 256 + v % 256 ≡ v
+field-read v h = bytes-read v (v / 256) (v / 65536) (v / 16777216) refl (div-div-eq-div-mul v 256 256) (div-div-eq-div-mul v 65536 256) (omega arith)
+
 -- ---- one granted call
 module _ (c : Call) (k g : ℕ) (w : Told c k g) where
   abbrev P : Program
@@ -215,11 +223,28 @@ module _ (c : Call) (k g : ℕ) (w : Told c k g) where
 
   count-in-head : u32At (after c) 7 ≡ k
   unfolding u32At listing listingOf be16 be32
-  count-in-head = ap (λ (b : List ℕ). u32At b 7) (w .bytes) ∙ (let e : length (stableModels P) ≡ k = sym (w .count) in omega (arith, k-small))
+  count-in-head = ap (λ (b : List ℕ). u32At b 7) (w .bytes) ∙ field-read (length (stableModels P)) (omega (arith, k-small, w .count)) ∙ sym (w .count)
+
+  version-in-head : getD (after c) 0 0 ≡ 1
+  unfolding listing listingOf
+  version-in-head = ap (λ (b : List ℕ). getD b 0 0) (w .bytes)
+
+  size-is : 11 + length (stableModels P) * recordSize (P .atoms) ≡ 11 + k * recordSize (facts c)
+  size-is = ap₂ (λ (x n : ℕ). 11 + x * recordSize n) (sym (w .count)) atoms-facts
+
+  size-fits : k * recordSize (facts c) ≤ 33554432
+  size-fits = records-fit (facts c) k (recordSize (facts c)) (ranges .1) k-small refl
+
+  length-in-head : u32At (after c) 1 ≡ 11 + k * recordSize (facts c)
+  unfolding u32At listing listingOf be16 be32
+  length-in-head = ap (λ (b : List ℕ). u32At b 1) (w .bytes) ∙ field-read (11 + length (stableModels P) * recordSize (P .atoms)) (omega (arith, size-is, size-fits)) ∙ size-is
 
   facts-in-head : u16At (after c) 5 ≡ facts c
   unfolding u16At listing listingOf be16 be32
   facts-in-head = ap (λ (b : List ℕ). u16At b 5) (w .bytes) ∙ omega (arith, ranges .1, atoms-facts)
+
+  records-differ : (m o : Interpretation) → Model c m → Model c o → recordOf (facts c) m ≡ recordOf (facts c) o → m ≡ o
+  records-differ m o x y e = record-same (facts c) m o (x .size ∙ atoms-facts) (y .size ∙ atoms-facts) e
 
   lists : Lists c k g
   lists = record {
@@ -231,8 +256,11 @@ module _ (c : Call) (k g : ℕ) (w : Told c k g) where
         let h : q .0 < k = omega (arith, q .1, w .count) in
         (q .0, h, at (q .0) h ∙ ap (recordOf (facts c)) (q .2));
     once = same-place;
+    distinct = records-differ;
     rising = rises;
     head-count = count-in-head;
+    head-version = version-in-head;
+    head-length = length-in-head;
     head-facts = facts-in-head;
     bounded = k-le;
     branching-is = w .branch;
@@ -243,7 +271,7 @@ module _ (c : Call) (k g : ℕ) (w : Told c k g) where
   listed-is =
       ap (take (11 + k * recordSize (facts c))) (w .bytes)
       ∙ take-at (listingOf (P .atoms) (stableModels P)) (drop (length (listingOf (P .atoms) (stableModels P))) (c .buffer)) (11 + k * recordSize (facts c))
-      (listing-length (P .atoms) (stableModels P) ∙ ap₂ (λ (x n : ℕ). 11 + x * recordSize n) (sym (w .count)) atoms-facts)
+      (listing-length (P .atoms) (stableModels P) ∙ size-is)
 
 -- Conditions (ii) to (v): a granted listing has exactly one record for every stable model.
 pub lists-exactly : ListsExactly

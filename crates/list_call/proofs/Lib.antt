@@ -1,2 +1,3 @@
 pub mod ListLaws
 pub mod Condition3Laws
+pub mod ExampleLaws

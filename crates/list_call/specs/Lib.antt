@@ -1,2 +1,3 @@
 pub mod Reply
 pub mod Condition3
+pub mod Examples

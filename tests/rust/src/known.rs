@@ -847,7 +847,7 @@ mod tests {
         for branching in [1, 2, 10, 11, 20] {
             let busy = busy(&mut rng, branching);
             assert_eq!(busy.book.bytes().len(), 38_372);
-            assert_known("busy", &busy);
+            assert_known(&format!("seed {seed}, busy"), &busy);
         }
         let chained = chained(3);
         assert_eq!(chained.book.rules.len(), 1_024);
@@ -860,12 +860,12 @@ mod tests {
         for rules in [8, 32, 128, 512, 1_024] {
             let sized = sized(&mut rng, rules);
             assert_eq!(sized.book.rules.len(), rules);
-            assert_known("sized", &sized);
+            assert_known(&format!("seed {seed}, sized"), &sized);
         }
         for choices in [1, 3, 5] {
             for (what, known) in every_slow(&mut rng, choices) {
                 assert_eq!(known.book.rules.len(), 1_024);
-                assert_known(&what, &known);
+                assert_known(&format!("seed {seed}, {what}"), &known);
             }
         }
     }

@@ -213,14 +213,15 @@ mod tests {
 
     #[test]
     fn every_lawful_book_is_read_back_from_its_bytes() {
-        let mut rng = Rng::named(seed(), "read back");
-        for _ in 0..2_000 {
-            let book = shapes::small(&mut rng);
-            assert_eq!(read(&book.bytes()), Ok(book));
-        }
-        for _ in 0..50 {
-            let book = shapes::large(&mut rng);
-            assert_eq!(read(&book.bytes()), Ok(book));
+        let seed = seed();
+        let mut rng = Rng::named(seed, "read back");
+        for index in 0..2_050 {
+            let book = match index < 2_000 {
+                true => shapes::small(&mut rng),
+                false => shapes::large(&mut rng),
+            };
+            let bytes = book.bytes();
+            assert_eq!(read(&bytes), Ok(book), "seed {seed}, {}", hex(&bytes));
         }
     }
 

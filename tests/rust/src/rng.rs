@@ -1,17 +1,26 @@
 //! A small deterministic generator (SplitMix64), so that a printed seed repeats a run.
 
 use std::env;
+use std::process;
+use std::sync::OnceLock;
+use std::time::SystemTime;
 
-const DEFAULT_SEED: u64 = 20_261_115;
-
-/// The seed of this run: LESSON_SEED, or a fixed one.
+/// The seed of this run: LESSON_SEED, or a fresh one for the process.
 pub fn seed() -> u64 {
-    match env::var("LESSON_SEED") {
+    static SEED: OnceLock<u64> = OnceLock::new();
+    *SEED.get_or_init(|| match env::var("LESSON_SEED") {
         Ok(text) => text
             .parse()
             .unwrap_or_else(|_| panic!("LESSON_SEED is not a number: {text}")),
-        Err(_) => DEFAULT_SEED,
-    }
+        Err(_) => fresh(),
+    })
+}
+
+/// A seed of ten digits at most, from the clock and the process's number.
+fn fresh() -> u64 {
+    let clock = SystemTime::UNIX_EPOCH.elapsed().expect("it is after 1970");
+    let mixed = clock.as_nanos() as u64 ^ u64::from(process::id()) << 32;
+    Rng::new(mixed).word() >> 32
 }
 
 pub struct Rng {

@@ -3,6 +3,7 @@
 
 use lesson_tests::bitset;
 use lesson_tests::book::{hex, Book};
+use lesson_tests::causes::fields;
 use lesson_tests::expected::{self, branching, counts, place_of, yes_or_no, NO_STABLE_STATE};
 use lesson_tests::ffi;
 use lesson_tests::known::{self, Known, EVERY_FOLLOWING};
@@ -139,7 +140,7 @@ fn every_call_in_books_with_choices_is_the_oracles_and_the_engines() {
 
 #[test]
 fn every_call_in_books_in_chains_is_the_oracles_and_the_engines() {
-    sweep("bit sets, chains", 1_500, |rng| {
+    sweep("bit sets, chains", 2_000, |rng| {
         shapes::layered(rng, Layering::Chain)
     });
 }
@@ -195,7 +196,8 @@ fn assert_known(what: &str, known: &Known) {
 
 #[test]
 fn known_states_of_larger_books_are_found_by_both() {
-    let mut rng = Rng::named(seed(), "bit sets, known");
+    let seed = seed();
+    let mut rng = Rng::named(seed, "bit sets, known");
     assert_known("pairs", &known::pairs(4, 1));
     assert_known("displacing pairs", &known::displacing_pairs(4, 1));
     assert_known("free", &known::free(6, 61, 70));
@@ -208,23 +210,25 @@ fn known_states_of_larger_books_are_found_by_both() {
     for atoms in [63, 64, 65, 128, 129, 192, 255, 256] {
         let small = shapes::crowded(&mut rng, Layering::Any);
         let layer = rng.below(small.layers.into()) as u8;
-        assert_known("spread", &known::spread(&mut rng, &small, layer, atoms));
+        let known = known::spread(&mut rng, &small, layer, atoms);
+        assert_known(&format!("seed {seed}, spread"), &known);
     }
-    assert_known("largest", &known::busy(&mut rng, 7));
+    assert_known(&format!("seed {seed}, busy"), &known::busy(&mut rng, 7));
     assert_known("worst order", &known::chained(2));
     for (what, known) in known::every_slow(&mut rng, 1) {
-        assert_known(&what, &known);
+        assert_known(&format!("seed {seed}, {what}"), &known);
     }
 }
 
 #[test]
 fn largest_planted_states_pass_both_and_their_neighbours_fail_both() {
-    let mut rng = Rng::named(seed(), "bit sets, planted");
+    let seed = seed();
+    let mut rng = Rng::named(seed, "bit sets, planted");
     for _ in 0..200 {
         let planted = shapes::planted(&mut rng);
         let book = planted.book.bytes();
         let case = Case {
-            what: "planted",
+            what: &format!("seed {seed}, planted"),
             book: &book,
             layer: planted.layer.into(),
         };
@@ -256,7 +260,11 @@ fn any_bytes_are_refused_by_both_with_the_same_cause() {
             };
             let checked = [bitset::check(&bytes), ffi::check_in_place(&bytes)];
             case.assert_answers("check", checked, checked[1]);
-            let fact = rng.below(300) as u32;
+            let (facts, _) = fields(&bytes);
+            let fact = match rng.chance(80) {
+                true => rng.below(facts.max(1)) as u32,
+                false => rng.below(300) as u32,
+            };
             let placed = ffi::place_in_place(&bytes, case.layer, fact);
             case.place(fact, placed);
             let width = rng.range(1, 2);

@@ -78,7 +78,7 @@ fn engine_and_reader_agree_on_damaged_books() {
     assert_reached(tally, &[0, 2, 3, 4, 5, 6, 7, 8], 300);
     let tally = agree("damaged twice", 200_000, shapes::damaged_twice);
     assert_reached(tally, &[0, 2, 3, 4, 5, 6, 7, 8], 100);
-    let tally = agree("large damaged", 1_000, shapes::large_damaged);
+    let tally = agree("large damaged", 2_000, shapes::large_damaged);
     assert_reached(tally, &[0, 4, 6], 50);
 }
 
@@ -300,86 +300,55 @@ fn largest_with(edit: impl Fn(&mut Draft)) -> Vec<u8> {
     draft.bytes()
 }
 
+/// With that edit it is refused by `cause`.
+fn assert_largest(what: &str, cause: u8, edit: impl Fn(&mut Draft)) {
+    let what = format!("seed {}, largest, {what}", seed());
+    assert_cause(&what, &largest_with(edit), cause);
+}
+
 #[test]
 fn largest_lawful_book_is_accepted() {
-    let bytes = largest_with(|_| ());
-    assert_eq!(bytes.len(), 38_372);
-    assert_cause("largest", &bytes, 0);
+    assert_eq!(largest_with(|_| ()).len(), 38_372);
+    assert_largest("as it is", 0, |_| ());
 }
 
 #[test]
 fn largest_lawful_book_with_one_bound_passed_is_refused() {
-    let arrow = |record: &[u8]| framed(&[record[2], record[1]]);
-    let long_rule = framed(&[0; 37]);
-    assert_cause("version", &largest_with(|draft| draft.version = 2), 2);
-    let length = Some(38_373);
-    assert_cause("length", &largest_with(|draft| draft.length = length), 3);
-    assert_cause("a byte more", &largest_with(|draft| draft.tail.push(0)), 4);
-    let count = Some(495);
-    assert_cause(
-        "arrow count",
-        &largest_with(|draft| draft.arrows.count = count),
-        4,
-    );
-    let count = Some(1_023);
-    assert_cause(
-        "rule count",
-        &largest_with(|draft| draft.rules.count = count),
-        4,
-    );
-    assert_cause("facts", &largest_with(|draft| draft.atoms = 257), 5);
-    assert_cause("layers", &largest_with(|draft| draft.layers = 33), 5);
-    assert_cause(
-        "497 arrows",
-        &largest_with(|draft| draft.arrows.records.push(framed(&[0, 1]))),
-        5,
-    );
-    assert_cause(
-        "1,025 rules",
-        &largest_with(|draft| draft.rules.records.push(framed(&[0, 0, 0]))),
-        5,
-    );
-    assert_cause(
-        "17 body literals",
-        &largest_with(|draft| draft.rules.records[1_023] = long_rule.clone()),
-        6,
-    );
-    assert_cause(
-        "arrow of length 3",
-        &largest_with(|draft| draft.arrows.records[495] = framed(&[0, 1, 0])),
-        6,
-    );
-    assert_cause(
-        "fact 256",
-        &largest_with(|draft| draft.rules.records[1_023][34..].copy_from_slice(&[0x81, 0x00])),
-        6,
-    );
-    assert_cause(
-        "layer 32",
-        &largest_with(|draft| draft.rules.records[1_023][1] = 32),
-        6,
-    );
-    assert_cause(
-        "layer 31 for 32",
-        &largest_with(|draft| draft.layers = 31),
-        6,
-    );
-    assert_cause(
-        "facts 255 for 256",
-        &largest_with(|draft| draft.atoms = 255),
-        6,
-    );
-    assert_cause(
-        "last arrow equal to the first",
-        &largest_with(|draft| draft.arrows.records[495] = draft.arrows.records[0].clone()),
-        7,
-    );
-    // The first arrow joins the ends of the line, so that turned round it closes a cycle.
-    assert_cause(
-        "first arrow turned round",
-        &largest_with(|draft| draft.arrows.records[0] = arrow(&draft.arrows.records[0])),
-        8,
-    );
+    assert_largest("version", 2, |draft| draft.version = 2);
+    assert_largest("length", 3, |draft| draft.length = Some(38_373));
+    assert_largest("a byte more", 4, |draft| draft.tail.push(0));
+    assert_largest("arrow count", 4, |draft| draft.arrows.count = Some(495));
+    assert_largest("rule count", 4, |draft| draft.rules.count = Some(1_023));
+    assert_largest("facts", 5, |draft| draft.atoms = 257);
+    assert_largest("layers", 5, |draft| draft.layers = 33);
+    assert_largest("497 arrows", 5, |draft| {
+        draft.arrows.records.push(framed(&[0, 1]))
+    });
+    assert_largest("1,025 rules", 5, |draft| {
+        draft.rules.records.push(framed(&[0, 0, 0]))
+    });
+    assert_largest("17 body literals", 6, |draft| {
+        draft.rules.records[1_023] = framed(&[0; 37])
+    });
+    assert_largest("arrow of length 3", 6, |draft| {
+        draft.arrows.records[495] = framed(&[0, 1, 0])
+    });
+    assert_largest("fact 256", 6, |draft| {
+        draft.rules.records[1_023][34..].copy_from_slice(&[0x81, 0x00])
+    });
+    assert_largest("layer 32", 6, |draft| draft.rules.records[1_023][1] = 32);
+    assert_largest("layer 31 for 32", 6, |draft| draft.layers = 31);
+    assert_largest("facts 255 for 256", 6, |draft| draft.atoms = 255);
+    assert_largest("last arrow equal to the first", 7, |draft| {
+        draft.arrows.records[495] = draft.arrows.records[0].clone()
+    });
+    assert_largest("first arrow turned round", 8, turn_first_arrow_round);
+}
+
+/// The first arrow joins the ends of the line, so that turned round it closes a cycle.
+fn turn_first_arrow_round(draft: &mut Draft) {
+    let first = &mut draft.arrows.records[0];
+    *first = framed(&[first[2], first[1]]);
 }
 
 #[test]
@@ -441,16 +410,14 @@ fn book_of_more_than_4_gib_is_refused_3() {
 #[test]
 fn four_threads_on_one_book_get_the_same_answer() {
     let lawful = largest_with(|_| ());
-    let circular = largest_with(|draft| {
-        let first = &draft.arrows.records[0];
-        draft.arrows.records[0] = framed(&[first[2], first[1]]);
-    });
+    let circular = largest_with(turn_first_arrow_round);
+    let seed = seed();
     thread::scope(|scope| {
         for _ in 0..4 {
             scope.spawn(|| {
                 for _ in 0..500 {
-                    assert_eq!(ffi::check_in_place(&lawful), 0);
-                    assert_eq!(ffi::check_in_place(&circular), 8);
+                    assert_eq!(ffi::check_in_place(&lawful), 0, "seed {seed}");
+                    assert_eq!(ffi::check_in_place(&circular), 8, "seed {seed}");
                     assert_eq!(ffi::check_in_place(&B), 0);
                 }
             });

@@ -113,7 +113,7 @@ fn assert_telling(tally: &Tally, listings: [usize; 4], lost: usize) {
 
 #[test]
 fn listings_of_books_in_chains_are_the_oracles() {
-    let tally = sweep("list, chains", 3_000, |rng| {
+    let tally = sweep("list, chains", 6_000, |rng| {
         shapes::layered(rng, Layering::Chain)
     });
     assert_telling(&tally, [500, 1_000, 100, 0], 10);
@@ -137,7 +137,7 @@ fn listings_of_books_in_unrelated_branches_are_the_oracles() {
 
 #[test]
 fn listings_of_books_with_any_arrows_are_the_oracles() {
-    let tally = sweep("list, any arrows", 3_000, |rng| {
+    let tally = sweep("list, any arrows", 6_000, |rng| {
         shapes::layered(rng, Layering::Any)
     });
     assert_telling(&tally, [500, 1_000, 100, 0], 10);
@@ -587,7 +587,8 @@ fn buffer_of_more_than_4_gib_is_long_enough() {
 
 #[test]
 fn four_threads_on_one_book_get_the_same_listing() {
-    let known = known::busy(&mut Rng::named(seed(), "list, threads"), 8);
+    let seed = seed();
+    let known = known::busy(&mut Rng::named(seed, "list, threads"), 8);
     let bytes = known.book.bytes();
     let listing = known.listing();
     let (layer, answer) = (known.layer.into(), known.answer());
@@ -599,8 +600,9 @@ fn four_threads_on_one_book_get_the_same_listing() {
                     let short = listing.len() - 1;
                     assert_eq!(ffi::list_in_place(&bytes, layer, &mut buffer[..short]), 13);
                     assert_eq!(buffer, vec![7; listing.len()]);
-                    assert_eq!(ffi::list_in_place(&bytes, layer, &mut buffer), answer);
-                    assert_eq!(buffer, listing);
+                    let listed = ffi::list_in_place(&bytes, layer, &mut buffer);
+                    assert_eq!(listed, answer, "seed {seed}");
+                    assert_eq!(buffer, listing, "seed {seed}");
                 }
             });
         }

@@ -156,7 +156,7 @@ fn records_have_their_length_at_every_number_of_facts() {
     let mut empty = 0;
     let sizes = [8, 9, 16, 17, 64, 65, 255, 256];
     for atoms in sizes {
-        for index in 0..12 {
+        for index in 0..20 {
             let small = match index % 2 {
                 0 => shapes::crowded(&mut rng, Layering::Chain),
                 _ => shapes::layered(&mut rng, Layering::Diamond),
@@ -167,7 +167,7 @@ fn records_have_their_length_at_every_number_of_facts() {
             empty += usize::from(known.count == 0);
         }
     }
-    let number = 12 * sizes.len();
+    let number = 20 * sizes.len();
     println!("seed {seed}, one, spread: {number} books, {empty} without a state");
     assert!(empty > 5 && number - empty > 30);
 }
@@ -373,7 +373,8 @@ fn buffer_of_more_than_4_gib_is_long_enough() {
 
 #[test]
 fn four_threads_on_one_book_get_a_state_each() {
-    let known = known::busy(&mut Rng::named(seed(), "one, threads"), 8);
+    let seed = seed();
+    let known = known::busy(&mut Rng::named(seed, "one, threads"), 8);
     let bytes = known.book.bytes();
     thread::scope(|scope| {
         for _ in 0..4 {
@@ -381,9 +382,10 @@ fn four_threads_on_one_book_get_a_state_each() {
                 for _ in 0..5 {
                     let mut buffer = [7; 33];
                     let answer = ffi::one_in_place(&bytes, known.layer.into(), &mut buffer);
-                    assert_eq!(answer, branching(8));
+                    assert_eq!(answer, branching(8), "seed {seed}");
                     let state = oracle::state(&buffer[..32], 256).expect("a record");
-                    assert!(Driven::new(&known.book, known.layer).stable(&state));
+                    let driven = Driven::new(&known.book, known.layer);
+                    assert!(driven.stable(&state), "seed {seed}: {}", hex(&buffer));
                     assert_eq!(buffer[32], 7);
                 }
             });

@@ -53,7 +53,7 @@ fn sweep(shape: &str, number: usize, generate: impl Fn(&mut Rng) -> Book) {
 
 #[test]
 fn places_in_books_in_chains_are_the_oracles() {
-    sweep("place, chains", 2_000, |rng| {
+    sweep("place, chains", 3_000, |rng| {
         shapes::layered(rng, Layering::Chain)
     });
 }
@@ -296,7 +296,8 @@ fn of_several_causes_the_smallest_is_given() {
 
 #[test]
 fn four_threads_on_one_book_get_the_same_answers() {
-    let known = known::busy(&mut Rng::named(seed(), "place, threads"), 8);
+    let seed = seed();
+    let known = known::busy(&mut Rng::named(seed, "place, threads"), 8);
     let bytes = known.book.bytes();
     let places = known.places();
     thread::scope(|scope| {
@@ -304,7 +305,7 @@ fn four_threads_on_one_book_get_the_same_answers() {
             scope.spawn(|| {
                 for fact in [0, 3, 8, 100, 200, 255] {
                     let answer = ffi::place_in_place(&bytes, known.layer.into(), fact);
-                    assert_eq!(answer, places[fact as usize]);
+                    assert_eq!(answer, places[fact as usize], "seed {seed}, fact {fact}");
                 }
             });
         }

@@ -229,9 +229,10 @@ fn input_that_comes_in_pieces_is_put_together() {
     let bytes: Vec<&[u8]> = B.chunks(1).collect();
     let lines = "facts 3 models 1 branching 2\n001\n";
     assert_eq!(run_in_pieces(&bytes, pause), lines);
-    let largest = shapes::largest(&mut Rng::named(seed(), "states, largest")).bytes();
+    let seed = seed();
+    let largest = shapes::largest(&mut Rng::named(seed, "states, largest")).bytes();
     let pieces: Vec<&[u8]> = largest.chunks(4_099).collect();
-    assert_eq!(run_in_pieces(&pieces, pause), "refused 12\n");
+    assert_eq!(run_in_pieces(&pieces, pause), "refused 12\n", "seed {seed}");
     let over = framed_book(LIMIT + 1);
     let (most, last) = over.split_at(LIMIT);
     let pause = Duration::from_millis(20);

@@ -373,7 +373,7 @@ fn main() {
     let arguments: Vec<&str> = arguments.iter().map(String::as_str).collect();
     let (wish, seed, valgrind) = match arguments[..] {
         ["only", at, ref seed @ ..] => (Wish::Only(number(at)), seed, false),
-        ["valgrind", seconds, ref seed @ ..] => (trial(seconds, 1_000, 10), seed, true),
+        ["valgrind", seconds, ref seed @ ..] => (trial(seconds, 2_000, 10), seed, true),
         [seconds, ref seed @ ..] => (trial(seconds, 40_000, 1_000), seed, false),
         [] => panic!("how many seconds?"),
     };
