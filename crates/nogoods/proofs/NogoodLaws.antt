@@ -1,6 +1,5 @@
 -- What the loops keep: the masks of what can be rejected, the nogood of a row, and the entries made. Assumes nothing.
 use mathlib.Core.Path.{_≡_, refl, sym, ap, subst, _∙_}
-use mathlib.Core.Logic.{inl, inr}
 use mathlib.Core.Bool.{Bool, true, false, not, cond}
 use mathlib.Core.List.{List}
 use Prim.Native.Nat.{ℕ, suc, _+_, _*_, _-_, _/_, _<_, _≤_}
@@ -22,7 +21,7 @@ use Rattle.table.proofs.NameLaws.{name-low, name-high, one-name}
 use Rattle.filling.specs.Marks.{alive}
 use Rattle.setting.specs.RuleMasks.{AtomBits, BodyMasked}
 use Rattle.setting.proofs.BitMaskLaws.{joined-keeps, joined-has}
-use Rattle.nogoods.specs.Nogoods.{maxNogoods, Rejectable, Within, AllWithin, NogoodOf, NogoodsTo, Nogoods, withNogood, NogoodPut}
+use Rattle.nogoods.specs.Nogoods.{maxNogoods, Rejectable, Within, AllWithin, NogoodOf, NogoodsTo, Nogoods, withNogood, NogoodPut, no-nogood, one-nogood}
 
 -- ---- what can be rejected
 pub rejectable-start : (rows : List ℕ) → Rejectable rows (replicate {A = ℕ} maxNames 0) 0
@@ -119,8 +118,8 @@ module _ {book rows rejectable bits masks : List ℕ} {n : ℕ} (w : NogoodsTo b
 -- a nogood more, if it is whole, or none
 pub entries-put : {book rows rejectable bits masks : List ℕ} {n : ℕ} → NogoodsTo book rows rejectable bits masks n → {j s d : ℕ} {whole : Bool} {masks′ : List ℕ} {n′ : ℕ}
     → (whole ≡ true → NogoodOf book rows rejectable bits j s d) → NogoodPut masks n s d whole masks′ n′ → NogoodsTo book rows rejectable bits masks′ n′
-entries-put {book} {rows} {rejectable} {bits} w f (inl e) = rw (e .0, e .1) w
-entries-put {book} {rows} {rejectable} {bits} w {j} {s} {d} f (inr e) = rw (e .2, e .3) (entries-more w (e .1) j s d (f (e .0)))
+entries-put w f no-nogood = w
+entries-put w {j} {s} {d} f (one-nogood t b) = entries-more w b j s d (f t)
 
 -- the entries, lent
 pub nogoods-lent : {book rows atoms rejectable bits masks : List ℕ} {n : ℕ} → NogoodsTo book rows rejectable bits masks n → Rejectable rows rejectable (rowCount rows)

@@ -2,7 +2,6 @@
 -- all these are branching atoms it is two masks over them, bit i for the i-th: those that stand in it and those that do not.
 -- Assumes nothing.
 use mathlib.Core.Path.{_≡_}
-use mathlib.Core.Logic.{_⊎_}
 use mathlib.Core.Bool.{Bool, true, cond}
 use mathlib.Core.List.{List, List·Memᴰ}
 use Prim.Native.Nat.{ℕ, _+_, _*_, _<_, _≤_}
@@ -62,10 +61,10 @@ pub record Nogoods (book rows atoms masks : List ℕ) (n : ℕ) : Type 0 where
 abbrev pub withNogood : List ℕ → ℕ → ℕ → ℕ → List ℕ
 withNogood masks k standing denied = set (set masks (2 * k) standing) (2 * k + 1) denied
 
--- an entry more, which is whole, or none
-abbrev pub NogoodPut : List ℕ → ℕ → ℕ → ℕ → Bool → List ℕ → ℕ → Type 0
-NogoodPut masks made standing denied whole masks′ made′ =
-    ((masks′ ≡ masks) × (made′ ≡ made)) ⊎ ((whole ≡ true) × (made < maxNogoods) × (masks′ ≡ withNogood masks made standing denied) × (made′ ≡ made + 1))
+-- the entries and their number afterwards: one more, which is whole, or none
+pub data NogoodPut (masks : List ℕ) (made standing denied : ℕ) (whole : Bool) : List ℕ → ℕ → Type 0 where
+  no-nogood : NogoodPut masks made standing denied whole masks made
+  one-nogood : whole ≡ true → made < maxNogoods → NogoodPut masks made standing denied whole (withNogood masks made standing denied) (made + 1)
 
 -- all that an entry has is decided so
 pub record Met (masks : List ℕ) (n standing denied : ℕ) : Type 0 where

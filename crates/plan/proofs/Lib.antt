@@ -1,2 +1,2 @@
 pub mod PartLaws
-
+pub mod PlanLaws

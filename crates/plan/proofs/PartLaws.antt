@@ -5,18 +5,8 @@ use Prim.Native.Nat.{ℕ, zero, suc, _+_, _-_, _≤_}
 use native.Mathlib.Omega.{arith}
 use borrow.Rule.Slice.PartMut.{putMid, take-put, drop-put}
 use lib.ListN.{length, take, drop, length-take, length-drop}
-use lib.Seq.{drop-drop, take-append-seam, drop-append-le, take-nil}
+use lib.Seq.{take-take, drop-drop, drop-at, take-append-seam}
 use Rattle.plan.specs.Plan.{part}
-
-drop-nil : (i : ℕ) → drop i ([] {A = ℕ}) ≡ []
-drop-nil zero = refl
-drop-nil (suc i) = refl
-
-take-take : (m n : ℕ) (l : List ℕ) → m ≤ n → take m (take n l) ≡ take m l
-take-take zero n l h = refl
-take-take (suc m) zero l h = absurd (omega arith)
-take-take (suc m) (suc n) [] h = refl
-take-take (suc m) (suc n) (x ∷ l) h = ap (λ (r : List ℕ). x ∷ r) (take-take m n l (omega arith))
 
 -- of a list, only what is taken counts for a part before that end
 part-of-take : (a e n : ℕ) (l : List ℕ) → e ≤ n → part a e (take n l) ≡ part a e l
@@ -24,7 +14,7 @@ part-of-take zero e n l h = take-take (e - 0) n l (omega arith)
 part-of-take (suc a) e zero [] h = refl
 part-of-take (suc a) e (suc n) [] h = refl
 part-of-take (suc a) e zero (x ∷ l) h = ap (λ (k : ℕ). take k []) {x = e - suc a} {y = 0} (omega arith) ∙ ap (λ (k : ℕ). take k (drop a l)) {x = 0} {y = e - suc a} (omega arith)
-part-of-take (suc a) zero (suc n) (x ∷ l) h = refl
+part-of-take (suc a) zero (suc n) (x ∷ l) h = ap (λ (k : ℕ). take k (drop a (take n l))) {x = 0 - suc a} {y = 0} (omega arith) ∙ ap (λ (k : ℕ). take k (drop a l)) {x = 0} {y = 0 - suc a} (omega arith)
 part-of-take (suc a) (suc e) (suc n) (x ∷ l) h =
     ap (λ (k : ℕ). take k (drop a (take n l))) {x = suc e - suc a} {y = e - a} (omega arith)
     ∙ part-of-take a e n l (omega arith)
@@ -53,15 +43,8 @@ module _ (a e : ℕ) (l ys : List ℕ) (h : a ≤ e) (b : e ≤ length l) (sz : 
 
   pub part-back : part a e back ≡ ys
   part-back =
-      ap (take (e - a)) (ap (λ (k : ℕ). drop k back) (sym front) ∙ drop-at)
+      ap (take (e - a)) (drop-at (take a l) (ys ++ drop (e - a) (drop a l)) a front)
       ∙ ap (λ (k : ℕ). take k (ys ++ drop (e - a) (drop a l))) (sym size) ∙ take-append-seam ys (drop (e - a) (drop a l))
-    where
-      drop-at : drop (length (take a l)) (take a l ++ (ys ++ drop (e - a) (drop a l))) ≡ ys ++ drop (e - a) (drop a l)
-      drop-at = seam (take a l) (ys ++ drop (e - a) (drop a l))
-        where
-          seam : (xs zs : List ℕ) → drop (length xs) (xs ++ zs) ≡ zs
-          seam [] zs = refl
-          seam (x ∷ xs) zs = seam xs zs
 
   -- a part before it
   pub part-before : (c d : ℕ) → d ≤ a → part c d back ≡ part c d l

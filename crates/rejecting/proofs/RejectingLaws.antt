@@ -1,7 +1,7 @@
 -- What the loops keep: the entries of the rows passed, and what the entries passed reject at a setting; and the entries, lent. Used by
 -- put_rejecting and reject_at, and by what lends the entries to a search. Assumes nothing.
 use mathlib.Core.Path.{_≡_, refl, sym, ap, subst, _∙_}
-use mathlib.Core.Logic.{inl, inr, ⊎-elim}
+use mathlib.Core.Logic.{⊎-elim}
 use mathlib.Core.Bool.{Bool, true, false, cond}
 use mathlib.Core.List.{List}
 use Prim.Native.Nat.{ℕ, _+_, _*_, _-_, _/_, _<_, _≤_}
@@ -20,7 +20,7 @@ use Rattle.table.specs.Rows.{rowCount, headName, rowAt, overridden}
 use Rattle.setting.specs.RuleMasks.{AtomBits, BodyMasked}
 use Rattle.setting.proofs.BitMaskLaws.{joined, joined-cases, joined-keeps, joined-has}
 use Rattle.setting.proofs.RuleMaskLaws.{mask-literal}
-use Rattle.rejecting.specs.Rejecting.{SignMask, EntryOf, entryName, entryLayers, EntryAt, withEntry, RejectingPut, RejectingMade, Rejecting, Named, Fits, FitsAt, RejectsAt}
+use Rattle.rejecting.specs.Rejecting.{SignMask, EntryOf, entryName, entryLayers, EntryAt, withEntry, RejectingPut, no-entry, one-entry, RejectingMade, Rejecting, Named, Fits, FitsAt, RejectsAt}
 
 -- ---- a row's entry
 sign-mask : {atoms bits : List ℕ} {body : List Literal} {plain negated : ℕ} {whole : Bool} → AtomBits atoms bits (length atoms) → BodyMasked bits body plain negated whole
@@ -139,8 +139,8 @@ module _ {book rows atoms : List ℕ} where
 -- an entry more, or none where the row overrides no rule
 pub made-put : {book rows atoms masks : List ℕ} {j k : ℕ} → RejectingMade book rows atoms masks j k → {a b c d : ℕ} {masks′ : List ℕ} {k′ : ℕ} → 4 * k + 4 ≤ length masks
     → d ≡ overridden rows j → EntryOf book rows atoms j a b c d → RejectingPut masks k a b c d masks′ k′ → RejectingMade book rows atoms masks′ (j + 1) k′
-made-put w h e r (inl x) = rw (x .1, x .2) (made-skip w (sym e ∙ x .0))
-made-put w {a} {b} {c} {d} h e r (inr x) = rw (x .0, x .1) (made-more w a b c d h r)
+made-put w h e r (no-entry z) = made-skip w (sym e ∙ z)
+made-put w {a} {b} {c} {d} h e r one-entry = made-more w a b c d h r
 
 -- the entries, lent
 pub rejecting-lent : {book rows atoms masks : List ℕ} {k : ℕ} → RejectingMade book rows atoms masks (rowCount rows) k → k ≤ maxRules → (m : ℕ) → m ≡ 4 * k → Rejecting book rows atoms (take m masks)

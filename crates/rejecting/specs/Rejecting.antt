@@ -1,7 +1,6 @@
 -- The rows that can reject rules (document 01: displace), as masks over the branching atoms, bit i for the i-th of them; and which rules
 -- they reject at a setting of these atoms, which is a mask too. Assumes nothing.
 use mathlib.Core.Path.{_≡_}
-use mathlib.Core.Logic.{_⊎_}
 use mathlib.Core.Bool.{Bool, true, false}
 use mathlib.Core.List.{List, List·Memᴰ}
 use Prim.Native.Nat.{ℕ, _+_, _*_, _/_, _<_, _≤_}
@@ -53,10 +52,10 @@ pub record RejectingTo (book rows atoms rejecting : List ℕ) (n count : ℕ) : 
 abbrev pub withEntry : List ℕ → ℕ → ℕ → ℕ → ℕ → ℕ → List ℕ
 withEntry masks k plain negated name layers = set (set (set (set masks (4 * k) plain) (4 * k + 1) negated) (4 * k + 2) name) (4 * k + 3) layers
 
--- an entry more, or none where the row overrides no rule
-abbrev pub RejectingPut : List ℕ → ℕ → ℕ → ℕ → ℕ → ℕ → List ℕ → ℕ → Type 0
-RejectingPut masks made plain negated name layers masks′ made′ =
-    ((layers ≡ 0) × (masks′ ≡ masks) × (made′ ≡ made)) ⊎ ((masks′ ≡ withEntry masks made plain negated name layers) × (made′ ≡ made + 1))
+-- the entries and their number afterwards: one more, or none where the row overrides no rule
+pub data RejectingPut (masks : List ℕ) (made plain negated name layers : ℕ) : List ℕ → ℕ → Type 0 where
+  no-entry : layers ≡ 0 → RejectingPut masks made plain negated name layers masks made
+  one-entry : RejectingPut masks made plain negated name layers (withEntry masks made plain negated name layers) (made + 1)
 
 -- as the code makes them: there is room for all rows
 pub record RejectingMade (book rows atoms masks : List ℕ) (n count : ℕ) : Type 0 where

@@ -22,7 +22,7 @@ use Rattle.format.proofs.LiteralLaws.{literals-next, literals-none}
 use Rattle.models.specs.StableModels.{positive}
 use Rattle.table.specs.Names.{literalNamed}
 use Rattle.table.specs.Rows.{rowCount, headName, rowAt}
-use Rattle.setting.specs.RuleMasks.{AtomBits, BodyMasked, RuleMask, headMask, withRule, RulePut, MaskOf, MasksMade, RuleMasks, Open, Headed}
+use Rattle.setting.specs.RuleMasks.{AtomBits, BodyMasked, RuleMask, headMask, withRule, RulePut, no-rule, one-rule, MaskOf, MasksMade, RuleMasks, Open, Headed}
 use Rattle.setting.proofs.BitMaskLaws.{single, single-only, single-has, joined, joined-cases, joined-keeps, joined-has, or-absorbs}
 
 -- ---- the bits of the atoms
@@ -272,9 +272,9 @@ no-head book rows atoms bits j h w eh x ex z i b e =
 pub masks-put : (book rows atoms bits masks : List ℕ) (j k : ℕ) → MasksMade book rows atoms masks j k → AtomBits atoms bits (length atoms) → {plain negated : ℕ} {whole : Bool}
     → BodyMasked bits (rowAt book rows j .body) plain negated whole → (h : ℕ) → h ≡ headName rows j → (x : ℕ) → x ≡ getD bits h 0 → 3 * k + 3 ≤ length masks
     → {masks′ : List ℕ} {k′ : ℕ} → RulePut masks k plain negated x masks′ k′ → MasksMade book rows atoms masks′ (j + 1) k′
-masks-put book rows atoms bits masks j k w b m h eh x ex room (inl e) = rw (e .1, e .2) (masks-skip book rows atoms masks j k w (no-head book rows atoms bits j h b eh x ex (e .0)))
-masks-put book rows atoms bits masks j k w b {plain} {negated} m h eh x ex room (inr e) =
-    rw (e .0, e .1) (masks-more book rows atoms masks j k w plain negated x room (subst (RuleMask atoms (rowAt book rows j) plain negated) (sym ex) (rule-mask book rows j b m h eh)))
+masks-put book rows atoms bits masks j k w b m h eh x ex room (no-rule z) = masks-skip book rows atoms masks j k w (no-head book rows atoms bits j h b eh x ex z)
+masks-put book rows atoms bits masks j k w b {plain} {negated} m h eh x ex room one-rule =
+    masks-more book rows atoms masks j k w plain negated x room (subst (RuleMask atoms (rowAt book rows j) plain negated) (sym ex) (rule-mask book rows j b m h eh))
 
 -- the entries, lent
 pub masks-lent : (book rows atoms masks : List ℕ) (k : ℕ) → MasksMade book rows atoms masks (rowCount rows) k → k ≤ maxRules → (m : ℕ) → m ≡ 3 * k → RuleMasks book rows atoms (take m masks)

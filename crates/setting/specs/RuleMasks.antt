@@ -1,7 +1,6 @@
 -- Rules as masks over the branching atoms, bit i for the i-th of them: what these atoms alone can say against a rule.
 -- Assumes nothing.
 use mathlib.Core.Path.{_≡_}
-use mathlib.Core.Logic.{_⊎_}
 use mathlib.Core.Bool.{Bool, true, cond}
 use mathlib.Core.List.{List, List·Memᴰ}
 use Prim.Native.Nat.{ℕ, _+_, _*_, _/_, _<_, _≤_}
@@ -51,10 +50,10 @@ headMask masks k = getD masks (3 * k + 2) 0
 abbrev pub withRule : List ℕ → ℕ → ℕ → ℕ → ℕ → List ℕ
 withRule masks k plain negated head = set (set (set masks (3 * k) plain) (3 * k + 1) negated) (3 * k + 2) head
 
--- an entry more, or none where the head has no bit
-abbrev pub RulePut : List ℕ → ℕ → ℕ → ℕ → ℕ → List ℕ → ℕ → Type 0
-RulePut masks made plain negated head masks′ made′ =
-    ((head ≡ 0) × (masks′ ≡ masks) × (made′ ≡ made)) ⊎ ((masks′ ≡ withRule masks made plain negated head) × (made′ ≡ made + 1))
+-- the entries and their number afterwards: one more, or none where the head has no bit
+pub data RulePut (masks : List ℕ) (made plain negated head : ℕ) : List ℕ → ℕ → Type 0 where
+  no-rule : head ≡ 0 → RulePut masks made plain negated head masks made
+  one-rule : RulePut masks made plain negated head (withRule masks made plain negated head) (made + 1)
 
 -- one of the first n entries has the masks of row j
 pub record MaskOf (book rows atoms masks : List ℕ) (n j : ℕ) : Type 0 where

@@ -1,17 +1,16 @@
 -- Two numbers behind the others, or nothing.
-use mathlib.Core.Path.{refl}
-use mathlib.Core.Logic.{inl, inr}
 use borrow.Author.Tests.{not-false}
 use lib.ListN.{length-set}
+use Rattle.nogoods.specs.Nogoods.{no-nogood, one-nogood}
 use borrow.Author.Needs.{needs}
 use Rattle.nogoods.proofs.put_nogood.Statement.{statement}
 use Rattle.nogoods.proofs.put_nogood.Tie as tie
 
 returns : tie.Need-returns
-returns c = inl (refl, refl)
+returns c = no-nogood
 
 returns-2 : tie.Need-returns-2
-returns-2 c = inl (refl, refl)
+returns-2 c = no-nogood
 
 mul-masks : tie.Need-mul-masks
 mul-masks c = search needs
@@ -41,7 +40,7 @@ same-length : tie.Need-same-length
 same-length c = search needs
 
 returns-3 : tie.Need-returns-3
-returns-3 c = inr (not-false _ (c .before .if1 .left), search needs, refl, refl)
+returns-3 c = one-nogood (not-false _ (c .before .if1 .left)) (search needs)
 
 pub put-nogood-spec : {M : Type 1} → statement M
 put-nogood-spec =

@@ -1,13 +1,12 @@
 -- Four numbers behind the others, or nothing.
-use mathlib.Core.Path.{refl}
-use mathlib.Core.Logic.{inl, inr}
 use lib.ListN.{length-set}
+use Rattle.rejecting.specs.Rejecting.{no-entry, one-entry}
 use borrow.Author.Needs.{needs}
 use Rattle.rejecting.proofs.put_rejecting.Statement.{statement}
 use Rattle.rejecting.proofs.put_rejecting.Tie as tie
 
 returns : tie.Need-returns
-returns c = inl (search needs, refl, refl)
+returns c = no-entry (search needs)
 
 mul-at : tie.Need-mul-at
 mul-at c = search needs
@@ -55,7 +54,7 @@ same-length : tie.Need-same-length
 same-length c = search needs
 
 returns-2 : tie.Need-returns-2
-returns-2 c = inr (refl, refl)
+returns-2 c = one-entry
 
 pub put-rejecting-spec : {M : Type 1} → statement M
 put-rejecting-spec =

@@ -1,13 +1,12 @@
 -- Three numbers behind the others, or nothing.
-use mathlib.Core.Path.{refl}
-use mathlib.Core.Logic.{inl, inr}
 use lib.ListN.{length-set}
+use Rattle.setting.specs.RuleMasks.{no-rule, one-rule}
 use borrow.Author.Needs.{needs}
 use Rattle.setting.proofs.put_rule.Statement.{statement}
 use Rattle.setting.proofs.put_rule.Tie as tie
 
 returns : tie.Need-returns
-returns c = inl (search needs, refl, refl)
+returns c = no-rule (search needs)
 
 mul-at : tie.Need-mul-at
 mul-at c = search needs
@@ -43,7 +42,7 @@ same-length : tie.Need-same-length
 same-length c = search needs
 
 returns-2 : tie.Need-returns-2
-returns-2 c = inr (refl, refl)
+returns-2 c = one-rule
 
 pub put-rule-spec : {M : Type 1} → statement M
 put-rule-spec =
