@@ -31,10 +31,3 @@ pub fn wide16(x: u16) -> usize
 {
     x as usize
 }
-
-// A branching fact, as a plan has it, as an index.
-pub fn wide32(x: u32) -> usize
-    ensures { λ r. ⌜ r ≡ x ⌝ }
-{
-    x as usize
-}

@@ -11,6 +11,7 @@ use lib.Bits.{bitAnd, bitOr}
 use lib.Dec.{T, T-not, not-T, eqb}
 use lib.ListN.{length, getD, set, take, drop, length-set}
 use lib.Seq.{drop-cons, take-all, set-set, getD-set-same, getD-set-other}
+use Rattle.base.specs.Bounds.{maxAtoms}
 use Rattle.base.proofs.Members.{_∈_, and-left, any-at}
 use Rattle.layers.specs.Masks.{bitOf}
 use Rattle.layers.proofs.BitLaws.{no-bit, or-cases, and-first, and-second, some-bit}
@@ -19,7 +20,7 @@ use Rattle.models.specs.Program.{Program}
 use Rattle.models.specs.StableModels.{Interpretation, atomHolds, positive, negative, complement, signed, holds, bodyHolds, overrides, rejected, Derived, by-default, by-rule, StableModel}
 use Rattle.models.specs.Branching.{branchingAtoms}
 use Rattle.table.specs.Names.{literalNamed, nameOf}
-use Rattle.table.specs.Rows.{rowCount, headName, rowAt}
+use Rattle.table.specs.Rows.{rowCount, headName, rowAt, overridden}
 use Rattle.table.specs.Tabled.{tabled}
 use Rattle.table.proofs.NameLaws.{name-back, complement-twice}
 use Rattle.table.proofs.RowLaws.{row-in, row-of}
@@ -32,10 +33,10 @@ use Rattle.setting.proofs.SettingLaws.{setting-size, setting-false, setting-tru
 use Rattle.nogoods.specs.Nogoods.{Rejectable, Within, NogoodOf, Nogoods, Met}
 use Rattle.insertion.proofs.Once.{Once}
 use Rattle.insertion.proofs.SortedLaws.{getD-member}
-use Rattle.search.specs.Found.{atSetting, foundBy}
+use Rattle.leaf.specs.Found.{atSetting, foundBy}
 use Rattle.search.specs.Decided.{DecidedAt, Decided}
-use Rattle.search.specs.Searchable.{Searchable}
-use Rattle.search.proofs.FoundLaws.{branching-small, branching-once, found-decided}
+use Rattle.leaf.specs.Searchable.{Searchable}
+use Rattle.leaf.proofs.FoundLaws.{branching-small, branching-once, found-decided}
 
 -- a mask with no bit
 none-set : (a : ℕ) → ((i : ℕ) → bitOf a i ≡ 1 → ⊥) → a ≡ 0
@@ -45,10 +46,10 @@ none-set a none = go (ℕ-discrete a 0)
     go (yes e) = e
     go (no n) = let x : (i : ℕ) × (bitOf a i ≡ 1) = some-bit (suc a) a (omega arith) (omega arith) in absurd (none (x .0) (x .1))
 
-module _ {book rows overridden atoms : List ℕ} {n : ℕ} (w : Searchable book rows overridden atoms n) {masks : List ℕ}
+module _ {book rows atoms : List ℕ} {n : ℕ} (w : Searchable book rows atoms n) {masks : List ℕ}
     (k : RuleMasks book rows atoms masks) {undecided : List ℕ} (o : Interpretation) {standing denied : ℕ} (s : Decided atoms undecided o standing denied) where
   abbrev P : Program
-  P = tabled book rows overridden n
+  P = tabled book rows n
 
   module _ (m : Interpretation) (sm : StableModel P m) (same : (f : ℕ) → f ∈ branchingAtoms P → (f ∈ undecided → ⊥) → atomHolds m f ≡ atomHolds o f) where
     listed-at : (i : ℕ) → i < length atoms → getD atoms i 0 ∈ branchingAtoms P
@@ -128,7 +129,7 @@ module _ {book rows overridden atoms : List ℕ} {n : ℕ} (w : Searchable book 
           go false z = let d = s .standing-in i (and-second stand standing i (subst (λ (y : ℕ). bitOf y i ≡ 1) (sym es) z)) in subst T (sym (agrees-at i (d .0))) (d .1)
 
     -- a rule that nothing can reject is not rejected
-    never-rejected : {rejectable : List ℕ} → Rejectable rows overridden rejectable (rowCount rows) → (r : Rule) → r ∈ P .rules → (h : ℕ) → h < 512 → literalNamed h ≡ r .head → T (alive rejectable r) → T (not (rejected P m r))
+    never-rejected : {rejectable : List ℕ} → Rejectable rows rejectable (rowCount rows) → (r : Rule) → r ∈ P .rules → (h : ℕ) → h < 512 → literalNamed h ≡ r .head → T (alive rejectable r) → T (not (rejected P m r))
     unfolding alive rejected rowAt
     never-rejected {rejectable} q r i h b e live =
         not-T (rejected P m r)
@@ -137,7 +138,7 @@ module _ {book rows overridden atoms : List ℕ} {n : ℕ} (w : Searchable book 
         let u : (j : ℕ) × (j < rowCount rows) × (rowAt book rows j ≡ v .0) = row-of book rows (v .0) (subst (λ (rs : List Rule). v .0 ∈ rs) (sym (w .table .rules)) (v .1)) in
         let t : Rule = rowAt book rows (u .0) in
         let over : T (overrides P t r) = subst (λ (y : Rule). T (overrides P y r)) (sym (u .2)) (and-left (overrides P (v .0) r) (bodyHolds m (v .0)) (v .2)) in
-        let z : bitOf (getD overridden (u .0) 0) (r .layer) ≡ 1 = w .table .full (u .0) (u .1) r (subst (λ (rs : List Rule). r ∈ rs) (sym (w .table .rules)) i) over in
+        let z : bitOf (overridden rows (u .0)) (r .layer) ≡ 1 = w .table .full (u .0) (u .1) r (subst (λ (rs : List Rule). r ∈ rs) (sym (w .table .rules)) i) over in
         let y : bitOf (getD rejectable h 0) (r .layer) ≡ 1 = q .full (u .0) (u .1) h (e ∙ facing t (u .0) refl (overrides-heads P t r over)) b (r .layer) z in
         T-not (eqb (bitOf (getD rejectable (nameOf (r .head)) 0) (r .layer)) 1) live
         (subst (λ (x : ℕ). T (eqb (bitOf (getD rejectable x 0) (r .layer)) 1)) (sym (name-back h) ∙ ap nameOf e) (subst (λ (x : ℕ). T (eqb x 1)) (sym y) tt)))
@@ -149,7 +150,7 @@ module _ {book rows overridden atoms : List ℕ} {n : ℕ} (w : Searchable book 
         facing t j et eh = sym (complement-twice (r .head)) ∙ ap complement (sym eh ∙ ap (λ (x : Rule). x .head) et ∙ row-head-is j)
 
     -- so no nogood is decided
-    no-nogood : {nogoods : List ℕ} {n : ℕ} → Nogoods book rows overridden atoms nogoods n → Met nogoods n standing denied → ⊥
+    no-nogood : {nogoods : List ℕ} {n : ℕ} → Nogoods book rows atoms nogoods n → Met nogoods n standing denied → ⊥
     unfolding rowAt holds signed complement
     no-nogood {nogoods} g x =
         let v = g .each (x .place) (x .before) in
@@ -186,12 +187,12 @@ module _ {book rows overridden atoms : List ℕ} {n : ℕ} (w : Searchable book 
   pub none-headed : (r : Bool) → (Headed masks (length masks / 3) standing denied → r ≡ true) → not r ≡ true → foundBy (atSetting P atoms) undecided o ≡ []
   none-headed r told e = nothing-found (λ m sm same. false≢true (subst (λ (c : Bool). not c ≡ true) (told (all-headed m sm same)) e))
 
-  pub none-allowed : {nogoods : List ℕ} → Nogoods book rows overridden atoms nogoods (length nogoods / 2) → (r : Bool) → (r ≡ true → Met nogoods (length nogoods / 2) standing denied) → r ≡ true → foundBy (atSetting P atoms) undecided o ≡ []
+  pub none-allowed : {nogoods : List ℕ} → Nogoods book rows atoms nogoods (length nogoods / 2) → (r : Bool) → (r ≡ true → Met nogoods (length nogoods / 2) standing denied) → r ≡ true → foundBy (atSetting P atoms) undecided o ≡ []
   none-allowed g r told e = nothing-found (λ m sm same. no-nogood m sm same g (told e))
 
 -- ---- what is decided, from call to call
-pub listed-once : {book rows overridden atoms : List ℕ} {n : ℕ} → Searchable book rows overridden atoms n → Once atoms
-listed-once {book} {rows} {overridden} {n = n} w = subst Once (sym (w .listed)) (branching-once (tabled book rows overridden n) (w .formed))
+pub listed-once : {book rows atoms : List ℕ} {n : ℕ} → Searchable book rows atoms n → Once atoms
+listed-once {book} {rows} {overridden} {n = n} w = subst Once (sym (w .listed)) (branching-once (tabled book rows n) (w .formed))
 
 pub decided-start : (atoms : List ℕ) → Decided atoms atoms (settingOf atoms 0) 0 0
 decided-start atoms = record {
@@ -209,7 +210,7 @@ once-drop (suc i) (x ∷ xs) w = once-drop i xs (w .1)
 
 -- one atom more is decided: f, the first of the undecided ones, the i-th of all
 module _ (atoms : List ℕ) (once : Once atoms) (few : length atoms ≤ 20) (undecided : List ℕ) (o : Interpretation) (standing denied : ℕ) (s : Decided atoms undecided o standing denied)
-    (some : length undecided ≡ 0 → ⊥) (f : ℕ) (ef : f ≡ getD undecided 0 0) (bf : f < 256) where
+    (some : length undecided ≡ 0 → ⊥) (f : ℕ) (ef : f ≡ getD undecided 0 0) (bf : f < maxAtoms) where
   abbrev i : ℕ
   i = length atoms - length undecided
 
@@ -291,7 +292,7 @@ module _ (atoms : List ℕ) (once : Once atoms) (few : length atoms ≤ 20) (und
 
 -- the same for the setting that the masks stand for, as the two halves of the search have it
 module _ (atoms : List ℕ) (once : Once atoms) (few : length atoms ≤ 20) (undecided : List ℕ) (standing denied : ℕ) (s : Decided atoms undecided (settingOf atoms standing) standing denied)
-    (some : length undecided ≡ 0 → ⊥) (bf : getD undecided 0 0 < 256) where
+    (some : length undecided ≡ 0 → ⊥) (bf : getD undecided 0 0 < maxAtoms) where
   abbrev X : Interpretation
   X = settingOf atoms standing
 
@@ -322,10 +323,10 @@ module _ (atoms : List ℕ) (once : Once atoms) (few : length atoms ≤ 20) (und
       (decided-true atoms once few undecided X standing denied s some f refl bf)
 
 -- an undecided atom is one of 256
-pub first-small : {book rows overridden atoms : List ℕ} {n : ℕ} (w : Searchable book rows overridden atoms n) (undecided : List ℕ) (o : Interpretation) (standing denied : ℕ)
-    → Decided atoms undecided o standing denied → (length undecided ≡ 0 → ⊥) → getD undecided 0 0 < 256
+pub first-small : {book rows atoms : List ℕ} {n : ℕ} (w : Searchable book rows atoms n) (undecided : List ℕ) (o : Interpretation) (standing denied : ℕ)
+    → Decided atoms undecided o standing denied → (length undecided ≡ 0 → ⊥) → getD undecided 0 0 < maxAtoms
 first-small {book} {rows} {overridden} {atoms = atoms} {n = n} w undecided o standing denied s some =
     let h : length atoms - length undecided < length atoms = omega (arith, s .few) in
     let e : getD undecided 0 0 ≡ getD atoms (length atoms - length undecided) 0 = ap (λ (l : List ℕ). getD l 0 0) (s .last ∙ drop-cons atoms (length atoms - length undecided) 0 h) in
-    let m : getD atoms (length atoms - length undecided) 0 ∈ branchingAtoms (tabled book rows overridden n) = subst (λ (l : List ℕ). getD atoms (length atoms - length undecided) 0 ∈ l) (w .listed) (getD-member atoms (length atoms - length undecided) 0 h) in
-    omega (arith, branching-small (tabled book rows overridden n) (w .formed) (getD atoms (length atoms - length undecided) 0) m, w .size, w .few)
+    let m : getD atoms (length atoms - length undecided) 0 ∈ branchingAtoms (tabled book rows n) = subst (λ (l : List ℕ). getD atoms (length atoms - length undecided) 0 ∈ l) (w .listed) (getD-member atoms (length atoms - length undecided) 0 h) in
+    omega (arith, branching-small (tabled book rows n) (w .formed) (getD atoms (length atoms - length undecided) 0) m, w .size, w .few)

@@ -11,16 +11,16 @@ use lib.Seq.{take-all, set-set}
 use Rattle.base.specs.Lists.{consIf}
 use Rattle.models.specs.StableModels.{Interpretation}
 use Rattle.search.specs.declared.Visit.{Visit}
-use Rattle.search.specs.Found.{atSetting, foundBy}
+use Rattle.leaf.specs.Found.{atSetting, foundBy}
 use Rattle.search.specs.Visits.{Kept, Met, Searched}
-use Rattle.table.specs.Rows.{rowCount}
+use Rattle.table.specs.Rows.{rowCount, overridden}
 use Rattle.table.specs.Tabled.{tabled}
 use Rattle.tester.specs.Masks.{RejectedMasks}
 use Rattle.setting.specs.Setting.{settingOf}
-use Rattle.displacing.specs.Displacing.{Displacing, RejectsAt}
-use Rattle.displacing.proofs.RejectedLaws.{rejected-at}
-use Rattle.search.specs.Searchable.{Searchable}
-use Rattle.search.proofs.FoundLaws.{setting-one, found-le}
+use Rattle.rejecting.specs.Rejecting.{Rejecting, RejectsAt}
+use Rattle.rejecting.proofs.RejectedLaws.{rejected-at}
+use Rattle.leaf.specs.Searchable.{Searchable}
+use Rattle.leaf.proofs.FoundLaws.{setting-one, found-le}
 use Rattle.search.proofs.VisitLaws.{searched-none, searched-one, searched-append, visits-kept, visits-count}
 
 -- no more than so many models, so that the count fits
@@ -28,7 +28,7 @@ abbrev pub limit : ℕ
 limit = 4294967296
 
 abbrev pub leafOf : List ℕ → List ℕ → List ℕ → ℕ → List ℕ → Interpretation → List Interpretation
-leafOf book rows overridden n atoms = atSetting (tabled book rows overridden n) atoms
+leafOf book rows n atoms = atSetting (tabled book rows n) atoms
 
 kept-yes : (ok : Bool) (m : Interpretation) → ok ≡ true → consIf ok m [] ≡ m ∷ []
 unfolding consIf
@@ -43,11 +43,11 @@ unfolding foundBy
 at-leaf leaf [] o e = refl
 at-leaf leaf (f ∷ fs) o e = absurd (omega arith)
 
--- what the masks of the displacing rules say of the setting of a mask
-pub setting-rejects : {book rows overridden atoms displacing rejects : List ℕ} {n : ℕ} → Searchable book rows overridden atoms n → (standing : ℕ) (o : Interpretation) → o ≡ settingOf atoms standing
-    → Displacing book rows overridden atoms displacing → RejectsAt displacing standing rejects (length displacing / 4) → RejectedMasks book rows overridden o rejects (rowCount rows)
+-- what the masks of the rejecting rules say of the setting of a mask
+pub setting-rejects : {book rows atoms rejecting rejects : List ℕ} {n : ℕ} → Searchable book rows atoms n → (standing : ℕ) (o : Interpretation) → o ≡ settingOf atoms standing
+    → Rejecting book rows atoms rejecting → RejectsAt rejecting standing rejects (length rejecting / 4) → RejectedMasks book rows o rejects (rowCount rows)
 setting-rejects {book} {rows} {overridden} {rejects = rejects} {n = n} w standing o e d r =
-    subst (λ (x : Interpretation). RejectedMasks book rows overridden x rejects (rowCount rows)) (sym e) (rejected-at n (w .formed) (omega (arith, w .size, w .few)) (w .table) (w .listed) standing d r)
+    subst (λ (x : Interpretation). RejectedMasks book rows x rejects (rowCount rows)) (sym e) (rejected-at n (w .formed) (omega (arith, w .size, w .few)) (w .table) (w .listed) standing d r)
 
 -- a setting whose model is known, or that has none
 module _ (n : ℕ) (ms : List Interpretation) (ok : Bool) (m : Interpretation) (is : ms ≡ consIf ok m []) where
@@ -118,9 +118,9 @@ module _ (n : ℕ) (leaf : Interpretation → List Interpretation) (undecided : 
           )
 
 -- at most one model for each setting, in the code's words
-pub leaf-one : (book rows overridden atoms : List ℕ) (n : ℕ) → Searchable book rows overridden atoms n → (o : Interpretation) → length (leafOf book rows overridden n atoms o) ≤ 1
-leaf-one book rows overridden atoms n w o =
-    subst (λ (fs : List ℕ). length (atSetting (tabled book rows overridden n) fs o) ≤ 1) (sym (w .listed)) (setting-one (tabled book rows overridden n) (w .formed) o)
+pub leaf-one : (book rows atoms : List ℕ) (n : ℕ) → Searchable book rows atoms n → (o : Interpretation) → length (leafOf book rows n atoms o) ≤ 1
+leaf-one book rows atoms n w o =
+    subst (λ (fs : List ℕ). length (atSetting (tabled book rows n) fs o) ≤ 1) (sym (w .listed)) (setting-one (tabled book rows n) (w .formed) o)
 
 pub count-fits : (c k : ℕ) → c + 2 ^ k ≤ limit → c < limit
 count-fits c k h = omega (arith, pow-pos k)

@@ -1,4 +1,2 @@
-pub mod Found
 pub mod Visits
-pub mod Searchable
 pub mod Decided

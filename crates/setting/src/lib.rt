@@ -5,16 +5,23 @@ ghost use mathlib.Core.Path.{_≡_};
 ghost use mathlib.Core.Bool.{true};
 ghost use Prim.Native.Nat.{_+_, _*_, _/_, _<_, _≤_};
 ghost use lib.ListN.{length, getD};
-ghost use Rattle.base.specs.Bounds.{maxBranching};
+ghost use Rattle.base.specs.Bounds.{maxAtoms, maxBranching};
 ghost use Rattle.format.specs.Book.{literalsOf};
 ghost use Rattle.table.specs.Rows.{rowCount, rowAt, RowsFit};
 ghost use Rattle.setting.specs.Setting.{settingOf};
 ghost use Rattle.setting.specs.RuleMasks.{Low, AtomBits, BodyMasked, RulePut, Headed};
 use base::MAX_ATOMS;
-use base::wide32;
 use base::wide;
 use table::row_body;
 use table::row_head;
+
+// The i-th branching fact, as an index.
+pub fn atom_at(atoms: &[u32], i: usize) -> usize
+    requires { ⌜ (i < length (now atoms)) × Low (now atoms) ⌝ }
+    ensures { λ r. ⌜ (r ≡ getD (now (atoms .entry)) i 0) × (r < maxAtoms) ⌝ }
+{
+    atoms[i] as usize
+}
 
 // Bit i at the i-th atom; none at the others.
 pub fn atom_bits(atoms: &[u32]) -> [u32; MAX_ATOMS]
@@ -25,7 +32,7 @@ pub fn atom_bits(atoms: &[u32]) -> [u32; MAX_ATOMS]
     let mut bits: [u32; MAX_ATOMS] = [0; MAX_ATOMS];
     let mut i = 0;
     while i < atoms.len() {
-        let f = wide32(atoms[i]);
+        let f = atom_at(atoms, i);
         bits[f] = bits[f] | (1 << (i as u32));
         i += 1;
     }
@@ -111,7 +118,7 @@ pub fn setting_of(atoms: &[u32], standing: u32) -> [bool; MAX_ATOMS]
     let mut i = 0;
     while i < atoms.len() {
         if (standing >> (i as u32)) & 1 == 1 {
-            setting[wide32(atoms[i])] = true;
+            setting[atom_at(atoms, i)] = true;
         }
         i += 1;
     }

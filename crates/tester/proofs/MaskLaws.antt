@@ -20,7 +20,7 @@ use Rattle.layers.proofs.BitLaws.{no-bits, zero-bit, or-cases, or-left, or-righ
 use Rattle.table.specs.Names.{literalNamed}
 use Rattle.table.specs.Rows.{headName, rowAt, overridden}
 use Rattle.table.proofs.NameLaws.{name-low, name-high, one-name}
-use Rattle.tester.specs.Masks.{Rejection, RejectedMasks, Support, Supported, Violation, Decided, Uncontested, Others}
+use Rattle.tester.specs.Masks.{Rejection, RejectedMasks, Support, Supported, Violation, Others}
 use Rattle.filling.specs.Marks.{alive}
 use Rattle.filling.proofs.MarkLaws.{blank, set-only, set-keeps}
 
@@ -207,42 +207,6 @@ module _ {book rows rejects : List ℕ} {m : Interpretation} where
     holds-in = subst T (sym (sym er ∙ tr)) tt;
     fails-in = subst T (sym (ap not (sym (head-holds book rows m j h e x ex)) ∙ tx)) tt;
   }
-
-  -- one row on, where row j is not contested
-  module _ {q : List Bool} {j : ℕ} (w : Uncontested book rows rejects m q j) where
-    uncontested-more : (alive rejects (rowAt book rows j) ≡ false → T (bodyHolds m (rowAt book rows j)) → Decided m q (rowAt book rows j .head)) → Uncontested book rows rejects m q (j + 1)
-    uncontested-more k = record { each = λ i b. go i b (decLt i j) }
-      where
-        go : (i : ℕ) → i < j + 1 → Dec (i < j) → alive rejects (rowAt book rows i) ≡ false → T (bodyHolds m (rowAt book rows i)) → Decided m q (rowAt book rows i .head)
-        go i b (yes y) = w .each i y
-        go i b (no y) =
-            let e : j ≡ i = omega arith in
-            subst (λ (z : ℕ). alive rejects (rowAt book rows z) ≡ false → T (bodyHolds m (rowAt book rows z)) → Decided m q (rowAt book rows z .head)) e k
-
-    pub uncontested-alive : (a : Bool) → a ≡ alive rejects (rowAt book rows j) → not a ≡ false → Uncontested book rows rejects m q (j + 1)
-    uncontested-alive a e t = uncontested-more (λ n. absurd (true≢false (sym (not-false a t) ∙ e ∙ n)))
-
-    pub uncontested-decided : (h : ℕ) → h ≡ headName rows j → Decided m q (literalNamed h) → Uncontested book rows rejects m q (j + 1)
-    unfolding rowAt
-    uncontested-decided h e d = uncontested-more (λ n u. subst (λ (z : ℕ). Decided m q (literalNamed z)) e d)
-
-    pub uncontested-not : (r : Bool) → r ≡ bodyHolds m (rowAt book rows j) → r ≡ false → Uncontested book rows rejects m q (j + 1)
-    uncontested-not r e n = uncontested-more (λ d u. absurd (subst T (sym e ∙ n) u))
-
--- a fact that is decided, as the code tests it
-module _ (m : Interpretation) (q : List Bool) (h : ℕ) where
-  pub decided-negated : maxAtoms ≤ h → Decided m q (literalNamed h)
-  decided-negated b f e n = absurd (true≢false (ap (λ (l : Literal). l .negated) (sym (name-high h b) ∙ e)))
-
-  module _ (b : h < maxAtoms) where
-    atom-is : (f : ℕ) → literalNamed h ≡ positive f → h ≡ f
-    atom-is f e = ap (λ (l : Literal). l .atom) (sym (name-low h b) ∙ e)
-
-    pub decided-holds : (r : Bool) → r ≡ atomHolds m h → r ≡ true → Decided m q (literalNamed h)
-    decided-holds r er t f e n = subst (λ (x : ℕ). T (atomHolds m x)) (atom-is f e) (subst T (sym (sym er ∙ t)) tt)
-
-    pub decided-marked : (r : Bool) → r ≡ atomHolds q h → not r ≡ false → Decided m q (literalNamed h)
-    decided-marked r er t f e n = absurd (true≢false (sym (not-false r t) ∙ er ∙ ap (atomHolds q) (atom-is f e) ∙ n))
 
 -- the other atoms
 module _ {atoms : List Bool} where

@@ -1,5 +1,5 @@
 -- What an interpretation does to the rows: which are rejected, as masks of layers at each name, which atoms are supported, and
--- which rows are violated or contested. Assumes nothing.
+-- which rows are violated. Assumes nothing.
 use mathlib.Core.Path.{_≡_}
 use mathlib.Core.Bool.{Bool, true, false, not}
 use mathlib.Core.List.{List}
@@ -8,7 +8,6 @@ use lib.Dec.{T}
 use lib.ListN.{length, getD}
 use Rattle.base.specs.Bounds.{maxAtoms, maxNames}
 use Rattle.layers.specs.Masks.{bitOf}
-use Rattle.format.specs.Book.{Literal}
 use Rattle.models.specs.StableModels.{Interpretation, atomHolds, positive, complement, holds, bodyHolds}
 use Rattle.table.specs.Names.{literalNamed}
 use Rattle.table.specs.Rows.{rowAt, overridden}
@@ -59,13 +58,3 @@ pub record Others (atoms others : List Bool) (n : ℕ) : Type 0 where
   pub size : length others ≡ maxAtoms
   pub sound : (f : ℕ) → T (atomHolds others f) → (f < n) × T (not (atomHolds atoms f))
   pub full : (f : ℕ) → f < n → T (not (atomHolds atoms f)) → T (atomHolds others f)
-
--- a plain literal holds, or its negation is marked
-abbrev pub Decided : Interpretation → List Bool → Literal → Type 0
-Decided m q l = (f : ℕ) → l ≡ positive f → atomHolds q f ≡ false → T (atomHolds m f)
-
--- of the rows before n, none is contested: where a rejected row's body holds and its head is plain, the head holds too, or its
--- negation is marked
-pub record Uncontested (book rows rejects : List ℕ) (m : Interpretation) (q : List Bool) (n : ℕ) : Type 0 where
-  pub each : (j : ℕ) → j < n → alive rejects (rowAt book rows j) ≡ false
-      → T (bodyHolds m (rowAt book rows j)) → Decided m q (rowAt book rows j .head)

@@ -1,10 +1,11 @@
 // The candidate test: is this interpretation a stable model of the table's program? What depends on the candidate alone
 // (which rows are rejected, which atoms are supported) is worked out once; then the marks are filled from the defaults and compared
-// with the candidate. At the end stands `contested`, by which the search does without the second filling.
+// with the candidate.
 ghost use mathlib.Core.Path.{_≡_};
 ghost use mathlib.Core.Bool.{false, cond};
 ghost use Prim.Native.Nat.{_<_, _≤_};
 ghost use lib.ListN.{length, getD, replicate};
+ghost use Rattle.filling.specs.Marks.{hintSize};
 ghost use Rattle.base.specs.Bounds.{maxAtoms, maxNames};
 ghost use Rattle.base.specs.Lists.{all, upTo};
 ghost use Rattle.models.specs.StableModels.{holds, bodyHolds, stable, WellFormed};
@@ -13,7 +14,7 @@ ghost use Rattle.table.specs.Rows.{rowCount, rowAt, RowsFit, overridden};
 ghost use Rattle.table.specs.Table.{Tabulates};
 ghost use Rattle.table.specs.Tabled.{tabled};
 ghost use Rattle.tester.specs.Agreement.{marksAgree};
-ghost use Rattle.tester.specs.Masks.{RejectedMasks, Supports, Decided, Uncontested, Others};
+ghost use Rattle.tester.specs.Masks.{RejectedMasks, Supports, Others};
 use base::MAX_ATOMS;
 use base::MAX_NAMES;
 use filling::fill;
@@ -161,7 +162,7 @@ pub fn is_stable(
     requires { ⌜ n ≡ tabled (now book) (now rows) n .atoms ⌝ }
     requires { ⌜ n ≤ maxAtoms ⌝ }
     requires { ⌜ length (now m) ≡ n ⌝ }
-    requires { ⌜ length (now hints) ≡ 2048 ⌝ }
+    requires { ⌜ length (now hints) ≡ hintSize ⌝ }
     ensures { λ r. ⌜ r ≡ stable (tabled (now (book .entry)) (now (rows .entry)) n) (now (m .entry)) ⌝ }
 {
     let mut rejects: [u32; MAX_NAMES] = [0; MAX_NAMES];
@@ -176,39 +177,4 @@ pub fn is_stable(
         return false;
     }
     marks_agree(&marks.positive, &marks.negative, m, n)
-}
-
-// Whether a name is an atom that does not hold and whose negation is not marked.
-fn undecided(m: &[bool], negative: &[bool], h: usize) -> bool
-    ensures { λ r. ⌜ (r ≡ false → Decided (now (m .entry)) (now (negative .entry)) (literalNamed h)) ⌝ }
-{
-    if MAX_ATOMS <= h {
-        return false;
-    }
-    if atom_holds(m, h) {
-        return false;
-    }
-    !atom_holds(negative, h)
-}
-
-// Whether a rejected row's body holds, but not its plain head, whose negation is not marked either. Where none is so, marks that were
-// filled from a setting need no second filling from the defaults.
-pub fn contested(book: &[u8], rows: &[u16], rejects: &[u32], m: &[bool], negative: &[bool]) -> bool
-    requires { ⌜ RowsFit (now book) (now rows) ⌝ }
-    requires { ⌜ length (now rejects) ≡ maxNames ⌝ }
-    ensures { λ r. ⌜ (r ≡ false → Uncontested (now (book .entry)) (now (rows .entry)) (now (rejects .entry)) (now (m .entry)) (now (negative .entry)) (rowCount (now (rows .entry)))) ⌝ }
-{
-    let count = rows.len() / ROW_SIZE;
-    let mut j = 0;
-    while j < count {
-        if !row_alive(book, rows, rejects, j) {
-            if undecided(m, negative, row_head(rows, j)) {
-                if row_holds(book, rows, m, j) {
-                    return true;
-                }
-            }
-        }
-        j += 1;
-    }
-    false
 }

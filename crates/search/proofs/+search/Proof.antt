@@ -63,7 +63,7 @@ search-same-length-2 : (t : ℕ) → search-lts.Need-same-length-2 (claims t) (s
 search-same-length-2 t c = search needs
 
 search-returns-4 : (t : ℕ) → search-lts.Need-returns-4 (claims t) (search-at t) search′.Post
-search-returns-4 t c = let s = c .before .before .before .before .before .before .before .before .before .before .before .before .before .before .before .before .before .before .before .before .before .before .before .before in let a = s .args in let q = s .pre .1 .0 in laws.leaf-searched (a .n) (laws.leafOf (a .book .now) (a .rows .now) (a .overridden .now) (a .n) (a .atoms .now)) (a .undecided .now) (settingOf (a .atoms .now) (a .standing)) (c .before .before .before .before .before .before .before .if4 .taken) (a .v) (a .part .now) _ _ (c .before .before .before .before .visit-setting .ensures)
+search-returns-4 t c = let s = c .before .before .before .before .before .before .before .before .before .before .before .before .before .before .before .before .before .before .before .before .before .before .before .before in let a = s .args in let q = s .pre .1 .0 in laws.leaf-searched (a .n) (laws.leafOf (a .book .now) (a .rows .now) (a .n) (a .atoms .now)) (a .undecided .now) (settingOf (a .atoms .now) (a .standing)) (c .before .before .before .before .before .before .before .if4 .taken) (a .v) (a .part .now) _ _ (c .before .before .before .before .visit-setting .ensures)
 
 search-sub-bit : (t : ℕ) → search-lts.Need-sub-bit (claims t) (search-at t) search′.Post
 search-sub-bit t c = let s = c .before .before .before .before .before .before .before .before .before .before .before .before .before .before .before .before .before in let a = s .args in let q = s .pre .1 .0 in omega (arith, q .4 .few)
@@ -84,7 +84,7 @@ search-part-search-end : (t : ℕ) → search-lts.Need-part-search-end (claims t
 search-part-search-end t c = search needs
 
 search-search-requires : (t : ℕ) → search-lts.Need-search-requires (claims t) (search-at t) search′.Post
-search-search-requires t c κs = let s = c .before .before .before .before .before .before .before .before .before .before .before .before .before .before .before .before .before .before .before .before in let a = s .args in let q = s .pre .1 .0 in (omega (arith, laws.later-length (a .n) (laws.leafOf (a .book .now) (a .rows .now) (a .overridden .now) (a .n) (a .atoms .now)) (a .undecided .now) (settingOf (a .atoms .now) (a .standing)) (c .before .before .before .if4 .left)), ((q .0, q .1, laws.first-fits (a .n) (laws.leafOf (a .book .now) (a .rows .now) (a .overridden .now) (a .n) (a .atoms .now)) (a .undecided .now) (settingOf (a .atoms .now) (a .standing)) (c .before .before .before .if4 .left) (a .v .count) (q .2), q .3, quick.decided-first (a .atoms .now) (quick.listed-once (q .0)) (q .0 .atoms-few) (a .undecided .now) (a .standing) (a .denied) (q .4) (c .before .before .before .if4 .left) (quick.first-small (q .0) (a .undecided .now) (settingOf (a .atoms .now) (a .standing)) (a .standing) (a .denied) (q .4) (c .before .before .before .if4 .left))), (s .pre .1 .1 .0, (s .pre .1 .1 .1 .0, s .pre .1 .1 .1 .1))))
+search-search-requires t c κs = let s = c .before .before .before .before .before .before .before .before .before .before .before .before .before .before .before .before .before .before .before .before in let a = s .args in let q = s .pre .1 .0 in (omega (arith, laws.later-length (a .n) (laws.leafOf (a .book .now) (a .rows .now) (a .n) (a .atoms .now)) (a .undecided .now) (settingOf (a .atoms .now) (a .standing)) (c .before .before .before .if4 .left)), ((q .0, q .1, laws.first-fits (a .n) (laws.leafOf (a .book .now) (a .rows .now) (a .n) (a .atoms .now)) (a .undecided .now) (settingOf (a .atoms .now) (a .standing)) (c .before .before .before .if4 .left) (a .v .count) (q .2), q .3, quick.decided-first (a .atoms .now) (quick.listed-once (q .0)) (q .0 .atoms-few) (a .undecided .now) (a .standing) (a .denied) (q .4) (c .before .before .before .if4 .left) (quick.first-small (q .0) (a .undecided .now) (settingOf (a .atoms .now) (a .standing)) (a .standing) (a .denied) (q .4) (c .before .before .before .if4 .left))), (s .pre .1 .1 .0, (s .pre .1 .1 .1 .0, s .pre .1 .1 .1 .1))))
 
 search-sub-search-2 : (t : ℕ) → search-lts.Need-sub-search-2 (claims t) (search-at t) search′.Post
 search-sub-search-2 t c = search needs
@@ -96,7 +96,7 @@ search-part-search-end-2 : (t : ℕ) → search-lts.Need-part-search-end-2 (clai
 search-part-search-end-2 t c = search needs
 
 search-search-requires-2 : (t : ℕ) → search-lts.Need-search-requires-2 (claims t) (search-at t) search′.Post
-search-search-requires-2 t c κs = let s = c .before .before .before .before .before .before .before .before .before .before .before .before .before .before .before .before .before .before .before .before .before .before .before .before .before .before .before .before in let a = s .args in let q = s .pre .1 .0 in let one = laws.leaf-one (a .book .now) (a .rows .now) (a .overridden .now) (a .atoms .now) (a .n) (q .0) in (omega (arith, laws.later-length (a .n) (laws.leafOf (a .book .now) (a .rows .now) (a .overridden .now) (a .n) (a .atoms .now)) (a .undecided .now) (settingOf (a .atoms .now) (a .standing)) (c .before .before .before .before .before .before .before .before .before .before .before .if4 .left)), ((q .0, laws.second-kept (a .n) (laws.leafOf (a .book .now) (a .rows .now) (a .overridden .now) (a .n) (a .atoms .now)) (a .undecided .now) (settingOf (a .atoms .now) (a .standing)) (c .before .before .before .before .before .before .before .before .before .before .before .if4 .left) one _ (a .v) (a .part .now) _ _ (c .before .before .before .before .before .before .before .search .ensures) (q .1), laws.second-fits (a .n) (laws.leafOf (a .book .now) (a .rows .now) (a .overridden .now) (a .n) (a .atoms .now)) (a .undecided .now) (settingOf (a .atoms .now) (a .standing)) (c .before .before .before .before .before .before .before .before .before .before .before .if4 .left) one _ (a .v) (a .part .now) _ _ (c .before .before .before .before .before .before .before .search .ensures) (q .2), q .3, quick.decided-second (a .atoms .now) (quick.listed-once (q .0)) (q .0 .atoms-few) (a .undecided .now) (a .standing) (a .denied) (q .4) (c .before .before .before .before .before .before .before .before .before .before .before .if4 .left) (quick.first-small (q .0) (a .undecided .now) (settingOf (a .atoms .now) (a .standing)) (a .standing) (a .denied) (q .4) (c .before .before .before .before .before .before .before .before .before .before .before .if4 .left))), (s .pre .1 .1 .0, (s .pre .1 .1 .1 .0, search needs))))
+search-search-requires-2 t c κs = let s = c .before .before .before .before .before .before .before .before .before .before .before .before .before .before .before .before .before .before .before .before .before .before .before .before .before .before .before .before in let a = s .args in let q = s .pre .1 .0 in let one = laws.leaf-one (a .book .now) (a .rows .now) (a .atoms .now) (a .n) (q .0) in (omega (arith, laws.later-length (a .n) (laws.leafOf (a .book .now) (a .rows .now) (a .n) (a .atoms .now)) (a .undecided .now) (settingOf (a .atoms .now) (a .standing)) (c .before .before .before .before .before .before .before .before .before .before .before .if4 .left)), ((q .0, laws.second-kept (a .n) (laws.leafOf (a .book .now) (a .rows .now) (a .n) (a .atoms .now)) (a .undecided .now) (settingOf (a .atoms .now) (a .standing)) (c .before .before .before .before .before .before .before .before .before .before .before .if4 .left) one _ (a .v) (a .part .now) _ _ (c .before .before .before .before .before .before .before .search .ensures) (q .1), laws.second-fits (a .n) (laws.leafOf (a .book .now) (a .rows .now) (a .n) (a .atoms .now)) (a .undecided .now) (settingOf (a .atoms .now) (a .standing)) (c .before .before .before .before .before .before .before .before .before .before .before .if4 .left) one _ (a .v) (a .part .now) _ _ (c .before .before .before .before .before .before .before .search .ensures) (q .2), q .3, quick.decided-second (a .atoms .now) (quick.listed-once (q .0)) (q .0 .atoms-few) (a .undecided .now) (a .standing) (a .denied) (q .4) (c .before .before .before .before .before .before .before .before .before .before .before .if4 .left) (quick.first-small (q .0) (a .undecided .now) (settingOf (a .atoms .now) (a .standing)) (a .standing) (a .denied) (q .4) (c .before .before .before .before .before .before .before .before .before .before .before .if4 .left))), (s .pre .1 .1 .0, (s .pre .1 .1 .1 .0, search needs))))
 
 search-same-length-3 : (t : ℕ) → search-lts.Need-same-length-3 (claims t) (search-at t) search′.Post
 search-same-length-3 t c = search needs
@@ -105,7 +105,7 @@ search-same-length-4 : (t : ℕ) → search-lts.Need-same-length-4 (claims t) (s
 search-same-length-4 t c = search needs
 
 search-returns-5 : (t : ℕ) → search-lts.Need-returns-5 (claims t) (search-at t) search′.Post
-search-returns-5 t c = let s = c .before .before .before .before .before .before .before .before .before .before .before .before .before .before .before .before .before .before .before .before .before .before .before .before .before .before .before .before .before .before .before .before .before in let a = s .args in let q = s .pre .1 .0 in laws.both-halves (a .n) (laws.leafOf (a .book .now) (a .rows .now) (a .overridden .now) (a .n) (a .atoms .now)) (a .undecided .now) (settingOf (a .atoms .now) (a .standing)) (c .before .before .before .before .before .before .before .before .before .before .before .before .before .before .before .before .if4 .left) _ (quick.first-half (a .atoms .now) (quick.listed-once (q .0)) (q .0 .atoms-few) (a .undecided .now) (a .standing) (a .denied) (q .4) (c .before .before .before .before .before .before .before .before .before .before .before .before .before .before .before .before .if4 .left) (quick.first-small (q .0) (a .undecided .now) (settingOf (a .atoms .now) (a .standing)) (a .standing) (a .denied) (q .4) (c .before .before .before .before .before .before .before .before .before .before .before .before .before .before .before .before .if4 .left))) _ (quick.second-half (a .atoms .now) (quick.listed-once (q .0)) (q .0 .atoms-few) (a .undecided .now) (a .standing) (a .denied) (q .4) (c .before .before .before .before .before .before .before .before .before .before .before .before .before .before .before .before .if4 .left) (quick.first-small (q .0) (a .undecided .now) (settingOf (a .atoms .now) (a .standing)) (a .standing) (a .denied) (q .4) (c .before .before .before .before .before .before .before .before .before .before .before .before .before .before .before .before .if4 .left))) (a .v) (a .part .now) _ _ _ _ (c .before .before .before .before .before .before .before .before .before .before .before .before .search .ensures) (c .before .before .before .before .search2 .ensures)
+search-returns-5 t c = let s = c .before .before .before .before .before .before .before .before .before .before .before .before .before .before .before .before .before .before .before .before .before .before .before .before .before .before .before .before .before .before .before .before .before in let a = s .args in let q = s .pre .1 .0 in laws.both-halves (a .n) (laws.leafOf (a .book .now) (a .rows .now) (a .n) (a .atoms .now)) (a .undecided .now) (settingOf (a .atoms .now) (a .standing)) (c .before .before .before .before .before .before .before .before .before .before .before .before .before .before .before .before .if4 .left) _ (quick.first-half (a .atoms .now) (quick.listed-once (q .0)) (q .0 .atoms-few) (a .undecided .now) (a .standing) (a .denied) (q .4) (c .before .before .before .before .before .before .before .before .before .before .before .before .before .before .before .before .if4 .left) (quick.first-small (q .0) (a .undecided .now) (settingOf (a .atoms .now) (a .standing)) (a .standing) (a .denied) (q .4) (c .before .before .before .before .before .before .before .before .before .before .before .before .before .before .before .before .if4 .left))) _ (quick.second-half (a .atoms .now) (quick.listed-once (q .0)) (q .0 .atoms-few) (a .undecided .now) (a .standing) (a .denied) (q .4) (c .before .before .before .before .before .before .before .before .before .before .before .before .before .before .before .before .if4 .left) (quick.first-small (q .0) (a .undecided .now) (settingOf (a .atoms .now) (a .standing)) (a .standing) (a .denied) (q .4) (c .before .before .before .before .before .before .before .before .before .before .before .before .before .before .before .before .if4 .left))) (a .v) (a .part .now) _ _ _ _ (c .before .before .before .before .before .before .before .before .before .before .before .before .search .ensures) (c .before .before .before .before .search2 .ensures)
 
 pub +search-spec : {M : Type 1} → statement M
 +search-spec = close μ-search λ t. search-lts.spec (claims t)

@@ -2,8 +2,8 @@
 use mathlib.Core.Path.{refl, sym, ap, _∙_}
 use Rattle.models.specs.StableModels.{Interpretation}
 use Rattle.table.specs.Tabled.{tabled}
-use Rattle.displacing.proofs.DisplacingLaws.{displacing-named}
-use Rattle.search.specs.Found.{atSetting}
+use Rattle.rejecting.proofs.RejectingLaws.{rejecting-named}
+use Rattle.leaf.specs.Found.{atSetting}
 use Rattle.search.proofs.StepLaws.{setting-rejects, setting-met, setting-empty}
 use borrow.Author.Needs.{needs}
 use Rattle.search.proofs.visit_setting.Statement.{statement}
@@ -16,7 +16,7 @@ slice-aggregate-reject-at : tie.Need-slice-aggregate-reject-at
 slice-aggregate-reject-at c = search needs
 
 reject-at-requires : tie.Need-reject-at-requires
-reject-at-requires c κs = (displacing-named (c .before .before .before .before .before .before .before .before .before .pre .1 .0), refl)
+reject-at-requires c κs = (rejecting-named (c .before .before .before .before .before .before .before .before .before .pre .1 .0), refl)
 
 slice-aggregate-model-at : tie.Need-slice-aggregate-model-at
 slice-aggregate-model-at c = search needs
@@ -36,7 +36,7 @@ same-length-2 c = search needs
 returns : tie.Need-returns
 returns c =
     let a = c .before .before .before .before .before .before .before .before .before .before .before .before .before .before .before .before .before .before .before .before .before .before .args in
-    setting-met (a .n) _ (c .before .before .before .before .before .before .before .before .model-at .result .ok) _ (ap (λ (o : Interpretation). atSetting (tabled (a .book .now) (a .rows .now) (a .overridden .now) (a .n)) (a .atoms .now) o) (sym (c .before .before .before .before .before .before .before .before .before .before .before .before .before .before .setting-of .ensures)) ∙ c .before .before .before .before .before .before .before .before .model-at .ensures) (c .before .before .before .before .if1 .taken) (a .v) (a .part .now) _ _ (c .before .before .meet .ensures)
+    setting-met (a .n) _ (c .before .before .before .before .before .before .before .before .model-at .result .ok) _ (ap (λ (o : Interpretation). atSetting (tabled (a .book .now) (a .rows .now) (a .n)) (a .atoms .now) o) (sym (c .before .before .before .before .before .before .before .before .before .before .before .before .before .before .setting-of .ensures)) ∙ c .before .before .before .before .before .before .before .before .model-at .ensures) (c .before .before .before .before .if1 .taken) (a .v) (a .part .now) _ _ (c .before .before .meet .ensures)
 
 same-length-3 : tie.Need-same-length-3
 same-length-3 c = search needs
@@ -44,7 +44,7 @@ same-length-3 c = search needs
 returns-2 : tie.Need-returns-2
 returns-2 c =
     let a = c .before .before .before .before .before .before .before .before .before .before .before .before .before .before .before .before .before .before .args in
-    setting-empty (a .n) _ (c .before .before .before .before .model-at .result .ok) _ (ap (λ (o : Interpretation). atSetting (tabled (a .book .now) (a .rows .now) (a .overridden .now) (a .n)) (a .atoms .now) o) (sym (c .before .before .before .before .before .before .before .before .before .before .setting-of .ensures)) ∙ c .before .before .before .before .model-at .ensures) (c .if1 .left) (a .v) (a .part .now)
+    setting-empty (a .n) _ (c .before .before .before .before .model-at .result .ok) _ (ap (λ (o : Interpretation). atSetting (tabled (a .book .now) (a .rows .now) (a .n)) (a .atoms .now) o) (sym (c .before .before .before .before .before .before .before .before .before .before .setting-of .ensures)) ∙ c .before .before .before .before .model-at .ensures) (c .if1 .left) (a .v) (a .part .now)
 
 pub visit-setting-spec : {M : Type 1} → statement M
 visit-setting-spec =

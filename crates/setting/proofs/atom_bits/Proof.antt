@@ -19,20 +19,14 @@ abbrev μ-loop : tie.MeasureT-loop
 loop-holds : tie.Need-loop-holds Inv-loop μ-loop
 loop-holds c = (c .before .pre .0, c .before .pre .1, omega arith, bits-start (c .before .args .atoms .now))
 
-mul-wide32 : tie.Need-mul-wide32 Inv-loop μ-loop
-mul-wide32 c = search needs
-
-shared-slice-read-wide32 : tie.Need-shared-slice-read-wide32 Inv-loop μ-loop
-shared-slice-read-wide32 c = search needs
-
-wide32-requires : tie.Need-wide32-requires Inv-loop μ-loop
-wide32-requires c κs = search needs
+atom-at-requires : tie.Need-atom-at-requires Inv-loop μ-loop
+atom-at-requires c κs = search needs
 
 mul-bits : tie.Need-mul-bits Inv-loop μ-loop
-mul-bits c = let l = c .before .before .before .loop in omega (arith, c .wide32 .ensures, l .inv .1 (l .i) (c .before .before .loop-test .taken))
+mul-bits c = omega (arith, c .atom-at .ensures .1)
 
 array-read-bits : tie.Need-array-read-bits Inv-loop μ-loop
-array-read-bits c = let l = c .before .before .before .loop in omega (arith, c .wide32 .ensures, l .inv .1 (l .i) (c .before .before .loop-test .taken))
+array-read-bits c = omega (arith, c .atom-at .ensures .1)
 
 cast-bits : tie.Need-cast-bits Inv-loop μ-loop
 cast-bits c = search needs
@@ -41,10 +35,10 @@ shl-bits : tie.Need-shl-bits Inv-loop μ-loop
 shl-bits c = search needs
 
 mul-bits-2 : tie.Need-mul-bits-2 Inv-loop μ-loop
-mul-bits-2 c = let l = c .before .before .before .loop in omega (arith, c .wide32 .ensures, l .inv .1 (l .i) (c .before .before .loop-test .taken))
+mul-bits-2 c = omega (arith, c .atom-at .ensures .1)
 
 array-write-bits : tie.Need-array-write-bits Inv-loop μ-loop
-array-write-bits c = let l = c .before .before .before .loop in omega (arith, c .wide32 .ensures, l .inv .1 (l .i) (c .before .before .loop-test .taken))
+array-write-bits c = omega (arith, c .atom-at .ensures .1)
 
 add-i : tie.Need-add-i Inv-loop μ-loop
 add-i c = search needs
@@ -54,9 +48,9 @@ loop-less c = search needs
 
 loop-again : tie.Need-loop-again Inv-loop μ-loop
 loop-again c = 
-    let l = c .before .before .before .loop in
-    let f = c .wide32 in
-    (l .inv .0, l .inv .1, omega arith, bits-more (c .before .before .before .before .before .args .atoms .now) (l .bits) (l .i) (f .result) (l .inv .3) (f .ensures) (omega (arith, f .ensures, l .inv .1 (l .i) (c .before .before .loop-test .taken))) (omega (arith, l .inv .0, c .before .before .loop-test .taken)))
+    let l = c .before .before .loop in
+    let f = c .atom-at in
+    (l .inv .0, l .inv .1, omega arith, bits-more (c .before .before .before .before .args .atoms .now) (l .bits) (l .i) (f .result) (l .inv .3) (f .ensures .0) (f .ensures .1) (omega (arith, l .inv .0, c .before .loop-test .taken)))
 
 returns : tie.Need-returns Inv-loop μ-loop
 returns c = 
@@ -71,9 +65,7 @@ atom-bits-spec =
     Inv-loop
     μ-loop
     loop-holds
-    mul-wide32
-    shared-slice-read-wide32
-    wide32-requires
+    atom-at-requires
     mul-bits
     array-read-bits
     cast-bits

@@ -27,17 +27,11 @@ cast-if1 c = search needs
 shr-if1 : tie.Need-shr-if1 Inv-loop μ-loop
 shr-if1 c = omega (arith, c .before .loop .inv .0, c .loop-test .taken)
 
-mul-wide32 : tie.Need-mul-wide32 Inv-loop μ-loop
-mul-wide32 c = search needs
-
-shared-slice-read-wide32 : tie.Need-shared-slice-read-wide32 Inv-loop μ-loop
-shared-slice-read-wide32 c = search needs
-
-wide32-requires : tie.Need-wide32-requires Inv-loop μ-loop
-wide32-requires c κs = search needs
+atom-at-requires : tie.Need-atom-at-requires Inv-loop μ-loop
+atom-at-requires c κs = search needs
 
 array-write-setting : tie.Need-array-write-setting Inv-loop μ-loop
-array-write-setting c = let l = c .before .before .before .before .loop in omega (arith, c .wide32 .ensures, l .inv .1 (l .i) (c .before .before .before .loop-test .taken))
+array-write-setting c = omega (arith, c .atom-at .ensures .1)
 
 add-i : tie.Need-add-i Inv-loop μ-loop
 add-i c = search needs
@@ -46,15 +40,14 @@ loop-less : tie.Need-loop-less Inv-loop μ-loop
 loop-less c = search needs
 
 loop-again : tie.Need-loop-again Inv-loop μ-loop
-loop-again c = 
+loop-again c =
     let a = c .before .before .before .before .args in
-    let l = c .before .before .loop in
-    let t = c .before .loop-test .taken in (
+    let l = c .before .before .loop in (
       l .inv .0,
       l .inv .1,
       omega arith,
       ⊎-elim
-          (λ w. rw (w .3) (to-more (a .atoms .now) (a .standing) (l .i) (l .setting) (l .inv .3) (w .2 .result) (w .2 .ensures) (omega (arith, w .2 .ensures, l .inv .1 (l .i) t)) (sym (test-bit (a .standing) (l .i)) ∙ w .0 .taken)))
+          (λ w. rw (w .2) (to-more (a .atoms .now) (a .standing) (l .i) (l .setting) (l .inv .3) (w .1 .result) (w .1 .ensures .0) (w .1 .ensures .1) (sym (test-bit (a .standing) (l .i)) ∙ w .0 .taken)))
           (λ w. rw (w .1) (to-pass (a .atoms .now) (a .standing) (l .i) (l .setting) (l .inv .3) (λ e. w .0 .left (test-bit (a .standing) (l .i) ∙ e))))
           (c .if1 .came),
     )
@@ -71,9 +64,7 @@ setting-of-spec =
     loop-holds
     cast-if1
     shr-if1
-    mul-wide32
-    shared-slice-read-wide32
-    wide32-requires
+    atom-at-requires
     array-write-setting
     add-i
     loop-less
