@@ -12,7 +12,6 @@ use native.Mathlib.Omega.{arith}
 use lib.Dec.{T}
 use lib.ListN.{length, getD, set, drop, drop-of-length-le}
 use lib.Seq.{drop-cons, getD-set-same, getD-set-other}
-use Rattle.table.specs.Rows.{overridden}
 use Rattle.base.specs.Bounds.{maxAtoms}
 use Rattle.base.specs.Lists.{any}
 use Rattle.base.proofs.Members.{and-left, and-right, and-both, any-at, any-of}
@@ -91,7 +90,7 @@ early-begun u filled e = record { sound = λ l t. follows-wider (u .among) l (fi
 
 module _ {book rows rejects : List ℕ} {start p q : List Bool} (b : Begun book rows rejects start p q) {atoms : List ℕ} {o : Interpretation} (d : Denied atoms o start) (r : Bool) (er : r ≡ reachesDenied atoms start p) where
   -- a denied fact that is reached follows both ways
-  pub denied-conflict : {overridden : List ℕ} {n : ℕ} → Searchable book rows atoms n → r ≡ true → Conflict book rows rejects start
+  pub denied-conflict : {n : ℕ} → Searchable book rows atoms n → r ≡ true → Conflict book rows rejects start
   unfolding reachesDenied literalMarked
   denied-conflict w t =
       let x = any-at (λ f. atomHolds start f && atomHolds p f) atoms (subst T (sym (sym er ∙ t)) tt) in

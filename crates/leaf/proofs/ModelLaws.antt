@@ -22,7 +22,7 @@ use Rattle.models.specs.Program.{Program}
 use Rattle.models.specs.StableModels.{Interpretation, atomHolds, negative, stable, StableModel}
 use Rattle.models.specs.Branching.{branching, branchingAtoms}
 use Rattle.models.proofs.LeastLaws.{beq-same}
-use Rattle.table.specs.Rows.{rowCount, overridden}
+use Rattle.table.specs.Rows.{rowCount}
 use Rattle.table.specs.Tabled.{tabled}
 use Rattle.filling.specs.Marks.{literalMarked, Conflict, Fills}
 use Rattle.tester.specs.Masks.{RejectedMasks}
@@ -30,9 +30,10 @@ use Rattle.leaf.specs.Contested.{Uncontested}
 use Rattle.leaf.proofs.UncontestedLaws.{fills-wider, uncontested-stable}
 use Rattle.leaf.proofs.SettingMarks.{SettingStart, no-conflict, marks-found}
 use Rattle.insertion.proofs.SortedLaws.{getD-member}
+use Rattle.setting.specs.RuleMasks.{Low}
 use Rattle.leaf.specs.Found.{agreeOn, fits, atSetting}
 use Rattle.leaf.specs.Searchable.{Searchable, Denied, Undisputed, Covered, Early, OnlyState}
-use Rattle.leaf.proofs.FoundLaws.{branching-listed, setting-is, setting-none}
+use Rattle.leaf.proofs.FoundLaws.{branching-listed, branching-small, setting-is, setting-none}
 
 -- ---- the start
 -- of the first i atoms, those that the setting denies
@@ -270,9 +271,9 @@ module _ {book rows rejects : List ℕ} {start assumed : List Bool} (u : Undispu
   early-marks = record { assumed = assumed; undisputed = u; follows = λ f t. filled .sound (negative f) t }
 
   -- where it comes to mark the rest of the start it is the filling from all of it
-  pub covered-candidate : {overridden atoms : List ℕ} {o : Interpretation} → RejectedMasks book rows o rejects (rowCount rows) → Denied atoms o start → (k : Bool) → (k ≡ true → Covered atoms start q (length atoms)) → k ≡ true → c ≡ false
+  pub covered-candidate : {atoms : List ℕ} {o : Interpretation} → RejectedMasks book rows o rejects (rowCount rows) → Denied atoms o start → (k : Bool) → (k ≡ true → Covered atoms start q (length atoms)) → k ≡ true → c ≡ false
       → OnlyState book rows rejects atoms o p q
-  covered-candidate {overridden} {atoms} g d k ek tk e = record {
+  covered-candidate {atoms} g d k ek tk e = record {
     masks = g;
     start = start;
     denied = d;
@@ -284,7 +285,7 @@ module _ {book rows rejects : List ℕ} {start assumed : List Bool} (u : Undispu
 -- the filling from all of the start
 pub filled-candidate : {book rows rejects atoms : List ℕ} {o : Interpretation} {start early p q : List Bool} {c : Bool} → RejectedMasks book rows o rejects (rowCount rows) → Denied atoms o start → Early book rows rejects start early
     → Fills book rows rejects start p q c → c ≡ false → OnlyState book rows rejects atoms o p early
-filled-candidate {book} {rows} {overridden} {rejects} {atoms} {o} {start} {early} {p} {q} {c} g d b filled e = record {
+filled-candidate {book} {rows} {rejects} {atoms} {o} {start} {early} {p} {q} {c} g d b filled e = record {
   masks = g;
   start = start;
   denied = d;
@@ -292,3 +293,10 @@ filled-candidate {book} {rows} {overridden} {rejects} {atoms} {o} {start} {early
   negations = q;
   filled = subst (λ (x : Bool). Fills book rows rejects start p q x) e filled;
 }
+
+-- every branching fact is one that there may be
+pub atoms-low : {book rows atoms : List ℕ} {n : ℕ} → Searchable book rows atoms n → Low atoms
+unfolding branchingAtoms
+atoms-low {atoms = atoms} w i h =
+    let k : getD atoms i 0 ∈ branchingAtoms (tabled _ _ _) = subst (λ (fs : List ℕ). getD atoms i 0 ∈ fs) (w .listed) (getD-member atoms i 0 h) in
+    omega (arith, w .size, w .few, branching-small _ (w .formed) (getD atoms i 0) k)

@@ -38,7 +38,7 @@ loop-again : tie.Need-loop-again Inv-loop μ-loop
 loop-again c = let a = c .before .before .before .before .before .before .before .before .before .args in (omega arith, agree-more (a .atoms .now) (a .state .now) (a .setting .now) (c .before .before .before .before .before .loop .i) (c .before .before .before .before .loop-test .taken) (c .before .before .before .atom-at .result) (c .before .before .before .atom-at .ensures .0) (c .before .before .atom-holds .result) (c .before .atom-holds2 .result) (c .before .before .atom-holds .ensures) (c .before .atom-holds2 .ensures) (c .before .before .before .before .before .loop .inv .1) (c .if1 .left))
 
 returns-2 : tie.Need-returns-2 Inv-loop μ-loop
-returns-2 c = let a = c .before .before .before .before .before .args in agree-end (a .atoms .now) (a .state .now) (a .setting .now) (c .before .loop .i) (c .before .loop-test .left) (c .before .loop .inv .1)
+returns-2 c = let a = c .before .before .before .before .before .args in agree-end (a .atoms .now) (a .state .now) (a .setting .now) (c .before .loop .i) (c .loop-test .left) (c .before .loop .inv .1)
 
 pub agrees-spec : {M : Type 1} → statement M
 agrees-spec =

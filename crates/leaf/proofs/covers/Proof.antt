@@ -53,7 +53,7 @@ loop-again c =
     (c .if1 .came)
 
 returns-2 : tie.Need-returns-2 Inv-loop μ-loop
-returns-2 c = let l = c .before .loop in λ e i h. l .inv .1 i (omega (arith, c .before .loop-test .left))
+returns-2 c = let l = c .before .loop in λ e i h. l .inv .1 i (omega (arith, c .loop-test .left))
 
 pub covers-spec : {M : Type 1} → statement M
 covers-spec =

@@ -1,6 +1,6 @@
 -- The state is the only one that can be stable at the setting. It is not where it does not agree with it, it is where it does and no
 -- rejected rule is contested, and else the test decides.
-use Rattle.leaf.proofs.ModelLaws.{model-apart, model-tested, model-uncontested, state-size}
+use Rattle.leaf.proofs.ModelLaws.{atoms-low, model-apart, model-tested, model-uncontested, state-size}
 use borrow.Author.Needs.{needs}
 use Rattle.leaf.proofs.decide.Statement.{statement}
 use Rattle.leaf.proofs.decide.Tie as tie
@@ -18,10 +18,10 @@ slice-aggregate-agrees : tie.Need-slice-aggregate-agrees
 slice-aggregate-agrees c = search needs
 
 agrees-requires : tie.Need-agrees-requires
-agrees-requires c κs = search needs
+agrees-requires c κs = atoms-low (c .before .before .before .before .before .before .before .before .before .pre .0)
 
 returns : tie.Need-returns
-returns c = let h = c .before .before .before .before .before .before .before .before .before .before .before .before .pre in model-apart (h .0) _ (h .1 .0) (search (needs, c .before .before .before .before .before .before .before .before .before .before .before .before .good)) (c .before .agrees .result) (c .before .agrees .ensures) (c .if1 .taken)
+returns c = let h = c .before .before .before .before .before .before .before .before .before .before .before .pre in model-apart (h .0) _ (h .1 .0) (search (needs, c .before .before .before .before .before .before .before .before .before .before .before .good)) (c .before .agrees .result) (c .before .agrees .ensures) (c .if1 .taken)
 
 sub-contested : tie.Need-sub-contested
 sub-contested c = search needs
@@ -36,7 +36,7 @@ contested-requires : tie.Need-contested-requires
 contested-requires c κs = search needs
 
 returns-2 : tie.Need-returns-2
-returns-2 c = let h = c .before .before .before .before .before .before .before .before .before .before .before .before .before .before .before .before .pre in model-uncontested (h .0) _ (h .1 .0) (search (needs, c .before .before .before .before .before .before .before .before .before .before .before .before .before .before .before .before .good)) (c .before .before .before .before .before .agrees .result) (c .before .before .before .before .before .agrees .ensures) (c .before .before .before .before .if1 .left) (c .before .contested .result) (c .before .contested .ensures) (c .if2 .taken)
+returns-2 c = let h = c .before .before .before .before .before .before .before .before .before .before .before .before .before .before .before .pre in model-uncontested (h .0) _ (h .1 .0) (search (needs, c .before .before .before .before .before .before .before .before .before .before .before .before .before .before .before .good)) (c .before .before .before .before .before .agrees .result) (c .before .before .before .before .before .agrees .ensures) (c .before .before .before .before .if1 .left) (c .before .contested .result) (c .before .contested .ensures) (c .if2 .taken)
 
 sub-is-stable : tie.Need-sub-is-stable
 sub-is-stable c = search needs
@@ -48,13 +48,13 @@ part-is-stable-end : tie.Need-part-is-stable-end
 part-is-stable-end c = search needs
 
 is-stable-requires : tie.Need-is-stable-requires
-is-stable-requires c κs = let h = c .before .before .before .before .before .before .before .before .before .before .before .before .before .before .before .before .before .before .before .pre in (h .0 .formed, (h .0 .table, (h .0 .size, (h .0 .few, (state-size (h .0) _ (h .1 .0) (search (needs, c .before .before .before .before .before .before .before .before .before .before .before .before .before .before .before .before .before .before .before .good)), h .1 .1)))))
+is-stable-requires c κs = let h = c .before .before .before .before .before .before .before .before .before .before .before .before .before .before .before .before .before .before .pre in (h .0 .formed, (h .0 .table, (h .0 .size, (h .0 .few, (state-size (h .0) _ (h .1 .0) (search (needs, c .before .before .before .before .before .before .before .before .before .before .before .before .before .before .before .before .before .before .good)), h .1 .1)))))
 
 same-length : tie.Need-same-length
 same-length c = search needs
 
 returns-3 : tie.Need-returns-3
-returns-3 c = let h = c .before .before .before .before .before .before .before .before .before .before .before .before .before .before .before .before .before .before .before .before .before .before .pre in model-tested (h .0) _ (h .1 .0) (search (needs, c .before .before .before .before .before .before .before .before .before .before .before .before .before .before .before .before .before .before .before .before .before .before .good)) (c .before .before .before .before .before .before .before .before .before .before .before .agrees .result) (c .before .before .before .before .before .before .before .before .before .before .before .agrees .ensures) (c .before .before .before .before .before .before .before .before .before .before .if1 .left) (c .before .before .is-stable .result) (c .before .before .is-stable .ensures)
+returns-3 c = let h = c .before .before .before .before .before .before .before .before .before .before .before .before .before .before .before .before .before .before .before .before .before .pre in model-tested (h .0) _ (h .1 .0) (search (needs, c .before .before .before .before .before .before .before .before .before .before .before .before .before .before .before .before .before .before .before .before .before .good)) (c .before .before .before .before .before .before .before .before .before .before .before .agrees .result) (c .before .before .before .before .before .before .before .before .before .before .before .agrees .ensures) (c .before .before .before .before .before .before .before .before .before .before .if1 .left) (c .before .before .is-stable .result) (c .before .before .is-stable .ensures)
 
 pub decide-spec : {M : Type 1} → statement M
 decide-spec =

@@ -49,7 +49,7 @@ loop-again c =
     (c .if1 .came)
 
 returns-2 : tie.Need-returns-2 Inv-loop μ-loop
-returns-2 c = let e = c .before .before .before .before .before .args in reached-end (e .atoms .now) (e .start .now) (e .positive .now) (c .before .loop .i) (c .before .loop-test .left) (c .before .loop .inv)
+returns-2 c = let e = c .before .before .before .before .before .args in reached-end (e .atoms .now) (e .start .now) (e .positive .now) (c .before .loop .i) (c .loop-test .left) (c .before .loop .inv)
 
 pub reaches-denied-spec : {M : Type 1} → statement M
 reaches-denied-spec =
