@@ -1,3 +1,4 @@
 pub mod VisitLaws
 pub mod StepLaws
 pub mod QuickLaws
+pub mod TurnLaws

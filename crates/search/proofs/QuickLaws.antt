@@ -11,7 +11,7 @@ use lib.Bits.{bitAnd, bitOr}
 use lib.Dec.{T, T-not, not-T, eqb}
 use lib.ListN.{length, getD, set, take, drop, length-set}
 use lib.Seq.{drop-cons, take-all, set-set, getD-set-same, getD-set-other}
-use Rattle.base.specs.Bounds.{maxAtoms}
+use Rattle.base.specs.Bounds.{maxAtoms, maxNames, maxBranching}
 use Rattle.base.proofs.Members.{_∈_, and-left, any-at}
 use Rattle.layers.specs.Masks.{bitOf}
 use Rattle.layers.proofs.BitLaws.{no-bit, or-cases, and-first, and-second, some-bit}
@@ -20,11 +20,11 @@ use Rattle.models.specs.Program.{Program}
 use Rattle.models.specs.StableModels.{Interpretation, atomHolds, positive, negative, complement, signed, holds, bodyHolds, overrides, rejected, Derived, by-default, by-rule, StableModel}
 use Rattle.models.specs.Branching.{branchingAtoms}
 use Rattle.table.specs.Names.{literalNamed, nameOf}
-use Rattle.table.specs.Rows.{rowCount, headName, rowAt, overridden}
+use Rattle.table.specs.Rows.{rowCount, headName, rowAt}
 use Rattle.table.specs.Tabled.{tabled}
 use Rattle.table.proofs.NameLaws.{name-back, complement-twice}
 use Rattle.table.proofs.RowLaws.{row-in, row-of}
-use Rattle.table.proofs.TableLaws.{overrides-heads}
+use Rattle.table.proofs.NamedLaws.{overrides-named}
 use Rattle.filling.specs.Marks.{alive}
 use Rattle.setting.specs.Setting.{settingOf}
 use Rattle.setting.specs.RuleMasks.{AtomBits, RuleMask, plainMask, negatedMask, headMask, MaskOf, RuleMasks, Open, Headed}
@@ -129,7 +129,7 @@ module _ {book rows atoms : List ℕ} {n : ℕ} (w : Searchable book rows atoms 
           go false z = let d = s .standing-in i (and-second stand standing i (subst (λ (y : ℕ). bitOf y i ≡ 1) (sym es) z)) in subst T (sym (agrees-at i (d .0))) (d .1)
 
     -- a rule that nothing can reject is not rejected
-    never-rejected : {rejectable : List ℕ} → Rejectable rows rejectable (rowCount rows) → (r : Rule) → r ∈ P .rules → (h : ℕ) → h < 512 → literalNamed h ≡ r .head → T (alive rejectable r) → T (not (rejected P m r))
+    never-rejected : {rejectable : List ℕ} → Rejectable rows rejectable (rowCount rows) → (r : Rule) → r ∈ P .rules → (h : ℕ) → h < maxNames → literalNamed h ≡ r .head → T (alive rejectable r) → T (not (rejected P m r))
     unfolding alive rejected rowAt
     never-rejected {rejectable} q r i h b e live =
         not-T (rejected P m r)
@@ -137,9 +137,8 @@ module _ {book rows atoms : List ℕ} {n : ℕ} (w : Searchable book rows atoms 
         let v : (t : Rule) × t ∈ P .rules × T (overrides P t r && bodyHolds m t) = any-at (λ t. overrides P t r && bodyHolds m t) (P .rules) d in
         let u : (j : ℕ) × (j < rowCount rows) × (rowAt book rows j ≡ v .0) = row-of book rows (v .0) (subst (λ (rs : List Rule). v .0 ∈ rs) (sym (w .table .rules)) (v .1)) in
         let t : Rule = rowAt book rows (u .0) in
-        let over : T (overrides P t r) = subst (λ (y : Rule). T (overrides P y r)) (sym (u .2)) (and-left (overrides P (v .0) r) (bodyHolds m (v .0)) (v .2)) in
-        let z : bitOf (overridden rows (u .0)) (r .layer) ≡ 1 = w .table .full (u .0) (u .1) r (subst (λ (rs : List Rule). r ∈ rs) (sym (w .table .rules)) i) over in
-        let y : bitOf (getD rejectable h 0) (r .layer) ≡ 1 = q .full (u .0) (u .1) h (e ∙ facing t (u .0) refl (overrides-heads P t r over)) b (r .layer) z in
+        let over = overrides-named (w .table) (u .1) i (subst (λ (y : Rule). T (overrides P y r)) (sym (u .2)) (and-left (overrides P (v .0) r) (bodyHolds m (v .0)) (v .2))) in
+        let y : bitOf (getD rejectable h 0) (r .layer) ≡ 1 = q .full (u .0) (u .1) h (e ∙ facing t (u .0) refl (over .1)) b (r .layer) (over .0) in
         T-not (eqb (bitOf (getD rejectable (nameOf (r .head)) 0) (r .layer)) 1) live
         (subst (λ (x : ℕ). T (eqb (bitOf (getD rejectable x 0) (r .layer)) 1)) (sym (name-back h) ∙ ap nameOf e) (subst (λ (x : ℕ). T (eqb x 1)) (sym y) tt)))
       where
@@ -192,7 +191,7 @@ module _ {book rows atoms : List ℕ} {n : ℕ} (w : Searchable book rows atoms 
 
 -- ---- what is decided, from call to call
 pub listed-once : {book rows atoms : List ℕ} {n : ℕ} → Searchable book rows atoms n → Once atoms
-listed-once {book} {rows} {overridden} {n = n} w = subst Once (sym (w .listed)) (branching-once (tabled book rows n) (w .formed))
+listed-once {book} {rows} {n = n} w = subst Once (sym (w .listed)) (branching-once (tabled book rows n) (w .formed))
 
 pub decided-start : (atoms : List ℕ) → Decided atoms atoms (settingOf atoms 0) 0 0
 decided-start atoms = record {
@@ -209,7 +208,7 @@ once-drop (suc i) [] w = tt
 once-drop (suc i) (x ∷ xs) w = once-drop i xs (w .1)
 
 -- one atom more is decided: f, the first of the undecided ones, the i-th of all
-module _ (atoms : List ℕ) (once : Once atoms) (few : length atoms ≤ 20) (undecided : List ℕ) (o : Interpretation) (standing denied : ℕ) (s : Decided atoms undecided o standing denied)
+module _ (atoms : List ℕ) (once : Once atoms) (few : length atoms ≤ maxBranching) (undecided : List ℕ) (o : Interpretation) (standing denied : ℕ) (s : Decided atoms undecided o standing denied)
     (some : length undecided ≡ 0 → ⊥) (f : ℕ) (ef : f ≡ getD undecided 0 0) (bf : f < maxAtoms) where
   abbrev i : ℕ
   i = length atoms - length undecided
@@ -291,7 +290,7 @@ module _ (atoms : List ℕ) (once : Once atoms) (few : length atoms ≤ 20) (und
   })
 
 -- the same for the setting that the masks stand for, as the two halves of the search have it
-module _ (atoms : List ℕ) (once : Once atoms) (few : length atoms ≤ 20) (undecided : List ℕ) (standing denied : ℕ) (s : Decided atoms undecided (settingOf atoms standing) standing denied)
+module _ (atoms : List ℕ) (once : Once atoms) (few : length atoms ≤ maxBranching) (undecided : List ℕ) (standing denied : ℕ) (s : Decided atoms undecided (settingOf atoms standing) standing denied)
     (some : length undecided ≡ 0 → ⊥) (bf : getD undecided 0 0 < maxAtoms) where
   abbrev X : Interpretation
   X = settingOf atoms standing
@@ -322,10 +321,10 @@ module _ (atoms : List ℕ) (once : Once atoms) (few : length atoms ≤ 20) (und
       subst (λ (o : Interpretation). Decided atoms (take (length undecided - 1) (drop 1 undecided)) o (bitOr standing (single (length atoms - length undecided))) denied) second-half
       (decided-true atoms once few undecided X standing denied s some f refl bf)
 
--- an undecided atom is one of 256
+-- an undecided atom is one that there may be
 pub first-small : {book rows atoms : List ℕ} {n : ℕ} (w : Searchable book rows atoms n) (undecided : List ℕ) (o : Interpretation) (standing denied : ℕ)
     → Decided atoms undecided o standing denied → (length undecided ≡ 0 → ⊥) → getD undecided 0 0 < maxAtoms
-first-small {book} {rows} {overridden} {atoms = atoms} {n = n} w undecided o standing denied s some =
+first-small {book} {rows} {atoms = atoms} {n = n} w undecided o standing denied s some =
     let h : length atoms - length undecided < length atoms = omega (arith, s .few) in
     let e : getD undecided 0 0 ≡ getD atoms (length atoms - length undecided) 0 = ap (λ (l : List ℕ). getD l 0 0) (s .last ∙ drop-cons atoms (length atoms - length undecided) 0 h) in
     let m : getD atoms (length atoms - length undecided) 0 ∈ branchingAtoms (tabled book rows n) = subst (λ (l : List ℕ). getD atoms (length atoms - length undecided) 0 ∈ l) (w .listed) (getD-member atoms (length atoms - length undecided) 0 h) in

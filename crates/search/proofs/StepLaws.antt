@@ -27,7 +27,7 @@ use Rattle.search.proofs.VisitLaws.{searched-none, searched-one, search
 abbrev pub limit : ℕ
 limit = 4294967296
 
-abbrev pub leafOf : List ℕ → List ℕ → List ℕ → ℕ → List ℕ → Interpretation → List Interpretation
+abbrev pub leafOf : List ℕ → List ℕ → ℕ → List ℕ → Interpretation → List Interpretation
 leafOf book rows n atoms = atSetting (tabled book rows n) atoms
 
 kept-yes : (ok : Bool) (m : Interpretation) → ok ≡ true → consIf ok m [] ≡ m ∷ []
@@ -43,28 +43,28 @@ unfolding foundBy
 at-leaf leaf [] o e = refl
 at-leaf leaf (f ∷ fs) o e = absurd (omega arith)
 
--- what the masks of the rejecting rules say of the setting of a mask
+-- what the masks of the rows that reject say of the setting of a mask
 pub setting-rejects : {book rows atoms rejecting rejects : List ℕ} {n : ℕ} → Searchable book rows atoms n → (standing : ℕ) (o : Interpretation) → o ≡ settingOf atoms standing
     → Rejecting book rows atoms rejecting → RejectsAt rejecting standing rejects (length rejecting / 4) → RejectedMasks book rows o rejects (rowCount rows)
-setting-rejects {book} {rows} {overridden} {rejects = rejects} {n = n} w standing o e d r =
+setting-rejects {book} {rows} {rejects = rejects} {n = n} w standing o e d r =
     subst (λ (x : Interpretation). RejectedMasks book rows x rejects (rowCount rows)) (sym e) (rejected-at n (w .formed) (omega (arith, w .size, w .few)) (w .table) (w .listed) standing d r)
 
 -- a setting whose model is known, or that has none
-module _ (n : ℕ) (ms : List Interpretation) (ok : Bool) (m : Interpretation) (is : ms ≡ consIf ok m []) where
-  pub setting-met : ok ≡ true → (v : Visit) (p : List ℕ) (v′ : Visit) (p′ : List ℕ) → Met n m v p v′ p′ → Searched n ms v p v′ p′
-  setting-met y v p v′ p′ a = subst (λ (l : List Interpretation). Searched n l v p v′ p′) (sym (is ∙ kept-yes ok m y)) (searched-one n m v p v′ p′ a)
+module _ (asked : List ℕ) (n : ℕ) (ms : List Interpretation) (ok : Bool) (m : Interpretation) (is : ms ≡ consIf ok m []) where
+  pub setting-met : ok ≡ true → (v : Visit) (p : List ℕ) (v′ : Visit) (p′ : List ℕ) → Met asked n m v p v′ p′ → Searched asked n ms v p v′ p′
+  setting-met y v p v′ p′ a = subst (λ (l : List Interpretation). Searched asked n l v p v′ p′) (sym (is ∙ kept-yes ok m y)) (searched-one asked n m v p v′ p′ a)
 
-  pub setting-empty : ok ≡ false → (v : Visit) (p : List ℕ) → Searched n ms v p v p
-  setting-empty y v p = subst (λ (l : List Interpretation). Searched n l v p v p) (sym (is ∙ kept-no ok m y)) (searched-none n v p)
+  pub setting-empty : ok ≡ false → (v : Visit) (p : List ℕ) → Searched asked n ms v p v p
+  setting-empty y v p = subst (λ (l : List Interpretation). Searched asked n l v p v p) (sym (is ∙ kept-no ok m y)) (searched-none asked n v p)
 
 -- nothing is to be found
-pub none-searched : (n : ℕ) (ms : List Interpretation) → ms ≡ [] → (v : Visit) (p : List ℕ) → Searched n ms v p v p
-none-searched n ms e v p = subst (λ (l : List Interpretation). Searched n l v p v p) (sym e) (searched-none n v p)
+pub none-searched : (asked : List ℕ) (n : ℕ) (ms : List Interpretation) → ms ≡ [] → (v : Visit) (p : List ℕ) → Searched asked n ms v p v p
+none-searched asked n ms e v p = subst (λ (l : List Interpretation). Searched asked n l v p v p) (sym e) (searched-none asked n v p)
 
-module _ (n : ℕ) (leaf : Interpretation → List Interpretation) (undecided : List ℕ) (o : Interpretation) where
+module _ (asked : List ℕ) (n : ℕ) (leaf : Interpretation → List Interpretation) (undecided : List ℕ) (o : Interpretation) where
   -- no fact is left: the setting itself
-  pub leaf-searched : length undecided ≡ 0 → (v : Visit) (p : List ℕ) (v′ : Visit) (p′ : List ℕ) → Searched n (leaf o) v p v′ p′ → Searched n (foundBy leaf undecided o) v p v′ p′
-  leaf-searched empty v p v′ p′ s = subst (λ (l : List Interpretation). Searched n l v p v′ p′) (sym (at-leaf leaf undecided o empty)) s
+  pub leaf-searched : length undecided ≡ 0 → (v : Visit) (p : List ℕ) (v′ : Visit) (p′ : List ℕ) → Searched asked n (leaf o) v p v′ p′ → Searched asked n (foundBy leaf undecided o) v p v′ p′
+  leaf-searched empty v p v′ p′ s = subst (λ (l : List Interpretation). Searched asked n l v p v′ p′) (sym (at-leaf leaf undecided o empty)) s
 
   module _ (some : length undecided ≡ 0 → ⊥) where
     -- the undecided facts after the first, as the code cuts them
@@ -93,18 +93,18 @@ module _ (n : ℕ) (leaf : Interpretation → List Interpretation) (undecided : 
     module _ (o₁ : Interpretation) (e₁ : set o (getD undecided 0 0) false ≡ o₁) where
       pub both-halves : (o₂ : Interpretation) → set (set o (getD undecided 0 0) false) (getD undecided 0 0) true ≡ o₂
           → (v : Visit) (p : List ℕ) (v₁ : Visit) (p₁ : List ℕ) (v₂ : Visit) (p₂ : List ℕ)
-          → Searched n (foundBy leaf later o₁) v p v₁ p₁ → Searched n (foundBy leaf later o₂) v₁ p₁ v₂ p₂ → Searched n (foundBy leaf undecided o) v p v₂ p₂
+          → Searched asked n (foundBy leaf later o₁) v p v₁ p₁ → Searched asked n (foundBy leaf later o₂) v₁ p₁ v₂ p₂ → Searched asked n (foundBy leaf undecided o) v p v₂ p₂
       both-halves o₂ e₂ v p v₁ p₁ v₂ p₂ a b =
-          subst (λ (ms : List Interpretation). Searched n ms v p v₂ p₂)
+          subst (λ (ms : List Interpretation). Searched asked n ms v p v₂ p₂)
           (sym (halves (getD undecided 0 0) refl ∙ ap₂ (λ (x y : Interpretation). foundBy leaf later x ++ foundBy leaf later y) e₁ e₂))
-          (searched-append n (foundBy leaf later o₁) (foundBy leaf later o₂) v p v₁ p₁ v₂ p₂ a b)
+          (searched-append asked n (foundBy leaf later o₁) (foundBy leaf later o₂) v p v₁ p₁ v₂ p₂ a b)
 
     pub first-fits : (c : ℕ) → c + 2 ^ length undecided ≤ limit → c + 2 ^ length later ≤ limit
     first-fits c h = omega (arith, ap (λ (k : ℕ). 2 ^ k) later-length, pow-suc 2 (length later))
 
-    module _ (one : (x : Interpretation) → length (leaf x) ≤ 1) (o₁ : Interpretation) (v : Visit) (p : List ℕ) (v₁ : Visit) (p₁ : List ℕ) (a : Searched n (foundBy leaf later o₁) v p v₁ p₁) where
-      pub second-kept : Kept n v p → Kept n v₁ p₁
-      second-kept k = visits-kept n (a .seen) v p v₁ p₁ (a .visits) k
+    module _ (one : (x : Interpretation) → length (leaf x) ≤ 1) (o₁ : Interpretation) (v : Visit) (p : List ℕ) (v₁ : Visit) (p₁ : List ℕ) (a : Searched asked n (foundBy leaf later o₁) v p v₁ p₁) where
+      pub second-kept : Kept asked n v p → Kept asked n v₁ p₁
+      second-kept k = visits-kept asked n (a .seen) v p v₁ p₁ (a .visits) k
 
       pub second-fits : v .count + 2 ^ length undecided ≤ limit → v₁ .count + 2 ^ length later ≤ limit
       second-fits h =
@@ -112,7 +112,7 @@ module _ (n : ℕ) (leaf : Interpretation → List Interpretation) (undecided : 
             arith,
             ap (λ (k : ℕ). 2 ^ k) later-length,
             pow-suc 2 (length later),
-            visits-count n (a .seen) v p v₁ p₁ (a .visits),
+            visits-count asked n (a .seen) v p v₁ p₁ (a .visits),
             ap length (a .split) ∙ length-append (a .seen) (a .rest),
             found-le leaf one later o₁,
           )

@@ -1,34 +1,36 @@
 // The search through the settings of the branching facts: one recursion, which the listing, the one state and a fact's place share.
 ghost use mathlib.Core.Path.{_≡_};
-ghost use mathlib.Core.Bool.{true, false};
-ghost use mathlib.Core.List.{[]};
+ghost use mathlib.Core.Logic.{_⊎_};
+ghost use mathlib.Core.Bool.{false};
 ghost use Prim.Native.Nat.{_+_, _/_, _^_, _<_, _≤_};
 ghost use lib.ListN.{length, take};
-ghost use Rattle.base.specs.Lists.{consIf};
-ghost use Rattle.search.specs.Found.{agreeOn, atSetting, foundBy};
-ghost use Rattle.search.specs.Visits.{stopped, Kept, Met, Searched};
-ghost use Rattle.table.specs.Rows.{rowCount, overridden};
+ghost use Rattle.base.specs.Bounds.{maxAtoms, maxRules};
 ghost use Rattle.table.specs.Tabled.{tabled};
-ghost use Rattle.tester.specs.Masks.{RejectedMasks};
+ghost use Rattle.filling.specs.Marks.{hintSize};
 ghost use Rattle.setting.specs.Setting.{settingOf};
-ghost use Rattle.setting.specs.RuleMasks.{RuleMasks};
-ghost use Rattle.nogoods.specs.Nogoods.{Nogoods};
-ghost use Rattle.displacing.specs.Displacing.{Displacing};
-ghost use Rattle.search.specs.Searchable.{Searchable, Denied, Undisputed, Covered, reachesDenied, Joined, Begun, Early, Candidate};
-ghost use Rattle.search.specs.Decided.{Decided};
+ghost use Rattle.setting.specs.RuleMasks.{Headed};
+ghost use Rattle.nogoods.specs.Nogoods as nogoods;
+ghost use Rattle.plan.specs.Plan.{planSize, planAtoms, planMasks, planNogoods, Planned};
+ghost use Rattle.leaf.specs.Found.{atSetting, foundBy};
+ghost use Rattle.leaf.specs.Searchable.{Searchable};
+ghost use Rattle.search.specs.Decided.{undecided, Turned};
+ghost use Rattle.search.specs.Visits.{Asks, weightOf, stopped, Kept, Met, Searched};
+use base::MAX_ATOMS;
+use base::MAX_NAMES;
 use base::wide;
-use displacing::reject_at;
-use filling::fill;
-use filling::fill_on;
+use format::be16;
 use insertion::Gap;
+use leaf::model_at;
 use nogoods::has_nogood;
+use plan::MASKS;
+use plan::NOGOODS;
+use plan::REJECTING;
+use plan::Sizes;
 use records::atom_bit;
 use records::insert_state;
+use rejecting::reject_at;
 use setting::headed;
 use setting::setting_of;
-use table::atom_holds;
-use tester::contested;
-use tester::is_stable;
 
 // What the search is for: every model, one model, or whether the asked fact stands in some but not in all.
 pub enum Goal {
@@ -37,14 +39,21 @@ pub enum Goal {
     Settle,
 }
 
-// What the search keeps: the models met, those of them in which the asked fact stands, and the gap of the part.
+// What the search keeps: the models met, what they weigh together, and the gap of the part.
 pub struct Visit {
     pub goal: Goal,
-    pub atom: usize,
     pub count: usize,
-    pub standing: usize,
+    pub weight: usize,
     pub lo: usize,
     pub hi: usize,
+}
+
+// How far the search is: how many branching facts are left to decide, and of the others the bits of those that stand and of those that
+// do not.
+pub struct Turn {
+    pub left: usize,
+    pub standing: u32,
+    pub denied: u32,
 }
 
 // Whether the goal is reached, so that no further model is wanted.
@@ -56,8 +65,8 @@ pub fn stops(v: Visit) -> bool
         Goal::All => false,
         Goal::First => 0 < v.count,
         Goal::Settle => {
-            if 0 < v.standing {
-                v.standing < v.count
+            if 0 < v.weight {
+                v.weight < v.count
             } else {
                 false
             }
@@ -65,19 +74,30 @@ pub fn stops(v: Visit) -> bool
     }
 }
 
-// A stable model is met: it is counted, and the part keeps its record if it is among the least that fit.
-pub fn meet(state: [bool; 256], n: usize, part: &mut [u8], v: Visit) -> Visit
-    requires { ⌜ (n ≤ 256) × Kept n v (now part) × (v .count < 4294967296) × (stopped v ≡ false) ⌝ }
-    ensures { λ r. ⌜ Met n (take n state) v (now (part .entry)) r (now (part .exit)) ⌝ }
+// What a model weighs.
+fn weight(goal: Goal, asked: &[u8], m: &[bool]) -> usize
+    requires { ⌜ Asks goal (now asked) ⌝ }
+    ensures { λ r. ⌜ (r ≡ weightOf goal (now (asked .entry)) (now (m .entry))) × (r ≤ 1) ⌝ }
+{
+    match goal {
+        Goal::All => 0,
+        Goal::First => 0,
+        Goal::Settle => wide(atom_bit(m, be16(asked, 0))),
+    }
+}
+
+// A stable model is met: it is counted and weighed, and the part keeps its record if it is among the least that fit.
+pub fn meet(state: [bool; MAX_ATOMS], n: usize, asked: &[u8], part: &mut [u8], v: Visit) -> Visit
+    requires { ⌜ (n ≤ maxAtoms) × Kept (now asked) n v (now part) × (v .count < 4294967296) × (stopped v ≡ false) ⌝ }
+    ensures { λ r. ⌜ Met (now (asked .entry)) n (take n state) v (now (part .entry)) r (now (part .exit)) ⌝ }
 {
     let goal = v.goal;
-    let standing = v.standing + wide(atom_bit(&state[0..n], v.atom));
+    let more = weight(goal, asked, &state[0..n]);
     let gap = insert_state(state, n, part, Gap { lo: v.lo, hi: v.hi });
     Visit {
         goal,
-        atom: v.atom,
         count: v.count + 1,
-        standing,
+        weight: v.weight + more,
         lo: gap.lo,
         hi: gap.hi,
     }
@@ -87,113 +107,100 @@ pub fn meet(state: [bool; 256], n: usize, part: &mut [u8], v: Visit) -> Visit
 pub fn visit_setting(
     book: &[u8],
     rows: &[u16],
-    overridden: &[u32],
-    displacing: &[u32],
-    atoms: &[u8],
-    n: usize,
+    plan: &[u32],
+    sizes: Sizes,
     standing: u32,
     hints: &mut [u16],
+    asked: &[u8],
     part: &mut [u8],
     v: Visit,
 ) -> Visit
-    requires { ⌜ Searchable (now book) (now rows) (now overridden) (now atoms) n × Kept n v (now part) × (v .count < 4294967296) × (stopped v ≡ false) ⌝ }
-    requires { ⌜ Displacing (now book) (now rows) (now overridden) (now atoms) (now displacing) ⌝ }
-    requires { ⌜ length (now hints) ≡ 2048 ⌝ }
-    ensures { λ r. ⌜ Searched n (atSetting (tabled (now (book .entry)) (now (rows .entry)) (now (overridden .entry)) n) (now (atoms .entry)) (settingOf (now (atoms .entry)) standing)) v (now (part .entry)) r (now (part .exit)) ⌝ }
+    requires { ⌜ Searchable (now book) (now rows) (planAtoms (now plan) (sizes .branching)) (sizes .n) ⌝ }
+    requires { ⌜ Planned (now book) (now rows) (planAtoms (now plan) (sizes .branching)) (now plan) sizes ⌝ }
+    requires { ⌜ Kept (now asked) (sizes .n) v (now part) × (v .count < 4294967296) × (stopped v ≡ false) ⌝ }
+    requires { ⌜ length (now hints) ≡ hintSize ⌝ }
+    ensures { λ r. ⌜ Searched (now (asked .entry)) (sizes .n) (atSetting (tabled (now (book .entry)) (now (rows .entry)) (sizes .n)) (planAtoms (now (plan .entry)) (sizes .branching)) (settingOf (planAtoms (now (plan .entry)) (sizes .branching)) standing)) v (now (part .entry)) r (now (part .exit)) ⌝ }
 {
-    let setting = setting_of(atoms, standing);
-    let mut rejects: [u32; 512] = [0; 512];
-    reject_at(displacing, standing, &mut rejects);
-    let found = model_at(book, rows, overridden, &rejects, atoms, n, setting, hints);
+    let n = sizes.n;
+    let g = sizes.branching;
+    let end = REJECTING + 4 * sizes.rejecting;
+    let setting = setting_of(&plan[0..g], standing);
+    let mut rejects: [u32; MAX_NAMES] = [0; MAX_NAMES];
+    reject_at(&plan[REJECTING..end], standing, &mut rejects);
+    let found = model_at(book, rows, &rejects, &plan[0..g], n, setting, hints);
     let state = found.state;
     if found.ok {
-        return meet(state, n, part, v);
+        return meet(state, n, asked, part, v);
     }
     v
 }
 
-// Goes through the settings of the undecided branching facts, each at most once, and visits the stable model of each setting, if
-// there is one. `atoms` has all branching facts; of those decided so far, `standing` has the bits of those that stand and `denied`
-// the bits of the others; `hints` is what one filling leaves for the next.
-// Where no rule can reach a fact that stands, or a nogood is decided, no setting of the others has a stable model, and none is gone
-// through.
+// Whether the quick tests leave it open that a setting of the facts that are left has a stable model: each fact that stands is the head
+// of a rule that may yet be reached, and no nogood is decided.
+fn promising(plan: &[u32], sizes: Sizes, turn: Turn) -> bool
+    requires { ⌜ (length (now plan) ≡ planSize) × (sizes .heads ≤ maxRules) × (sizes .nogoods ≤ nogoods.maxNogoods) ⌝ }
+    ensures { λ r. ⌜ (r ≡ false → (Headed (planMasks (now (plan .entry)) (sizes .heads)) (length (planMasks (now (plan .entry)) (sizes .heads)) / 3) (turn .standing) (turn .denied) → ⊥) ⊎ nogoods.Met (planNogoods (now (plan .entry)) (sizes .nogoods)) (length (planNogoods (now (plan .entry)) (sizes .nogoods)) / 2) (turn .standing) (turn .denied)) ⌝ }
+{
+    let heads = MASKS + 3 * sizes.heads;
+    if !headed(&plan[MASKS..heads], turn.standing, turn.denied) {
+        return false;
+    }
+    let forbidding = NOGOODS + 2 * sizes.nogoods;
+    !has_nogood(&plan[NOGOODS..forbidding], turn.standing, turn.denied)
+}
+
+// Goes through the settings of the branching facts that are left, each at most once, and visits the stable model of each setting, if
+// there is one. `hints` is what one filling leaves for the next. Where the quick tests say that no setting of the facts that are left
+// has a stable model, none is gone through.
 pub fn search(
     book: &[u8],
     rows: &[u16],
-    overridden: &[u32],
-    masks: &[u32],
-    nogoods: &[u32],
-    displacing: &[u32],
-    atoms: &[u8],
-    undecided: &[u8],
-    n: usize,
-    standing: u32,
-    denied: u32,
+    plan: &[u32],
+    sizes: Sizes,
+    turn: Turn,
     hints: &mut [u16],
+    asked: &[u8],
     part: &mut [u8],
     v: Visit,
 ) -> Visit
-    requires { ⌜ Searchable (now book) (now rows) (now overridden) (now atoms) n × Kept n v (now part) × (v .count + 2 ^ length (now undecided) ≤ 4294967296) × RuleMasks (now book) (now rows) (now atoms) (now masks) × Decided (now atoms) (now undecided) (settingOf (now atoms) standing) standing denied ⌝ }
-    requires { ⌜ Nogoods (now book) (now rows) (now overridden) (now atoms) (now nogoods) (length (now nogoods) / 2) ⌝ }
-    requires { ⌜ Displacing (now book) (now rows) (now overridden) (now atoms) (now displacing) ⌝ }
-    requires { ⌜ length (now hints) ≡ 2048 ⌝ }
-    ensures { λ r. ⌜ Searched n (foundBy (atSetting (tabled (now (book .entry)) (now (rows .entry)) (now (overridden .entry)) n) (now (atoms .entry))) (now (undecided .entry)) (settingOf (now (atoms .entry)) standing)) v (now (part .entry)) r (now (part .exit)) ⌝ }
+    requires { ⌜ Searchable (now book) (now rows) (planAtoms (now plan) (sizes .branching)) (sizes .n) ⌝ }
+    requires { ⌜ Planned (now book) (now rows) (planAtoms (now plan) (sizes .branching)) (now plan) sizes ⌝ }
+    requires { ⌜ Turned (planAtoms (now plan) (sizes .branching)) (turn .left) (turn .standing) (turn .denied) ⌝ }
+    requires { ⌜ Kept (now asked) (sizes .n) v (now part) × (v .count + 2 ^ turn .left ≤ 4294967296) ⌝ }
+    requires { ⌜ length (now hints) ≡ hintSize ⌝ }
+    ensures { λ r. ⌜ Searched (now (asked .entry)) (sizes .n) (foundBy (atSetting (tabled (now (book .entry)) (now (rows .entry)) (sizes .n)) (planAtoms (now (plan .entry)) (sizes .branching))) (undecided (planAtoms (now (plan .entry)) (sizes .branching)) (turn .left)) (settingOf (planAtoms (now (plan .entry)) (sizes .branching)) (turn .standing))) v (now (part .entry)) r (now (part .exit)) ⌝ }
 {
     if stops(v) {
         return v;
     }
-    if !headed(masks, standing, denied) {
+    if !promising(plan, sizes, turn) {
         return v;
     }
-    if has_nogood(nogoods, standing, denied) {
-        return v;
-    }
-    if undecided.len() == 0 {
+    let left = turn.left;
+    if left == 0 {
         return visit_setting(
             book,
             rows,
-            overridden,
-            displacing,
-            atoms,
-            n,
-            standing,
+            plan,
+            sizes,
+            turn.standing,
             hints,
+            asked,
             part,
             v,
         );
     }
-    let rest = undecided.len();
-    let bit = 1 << ((atoms.len() - rest) as u32);
-    let half = search(
-        book,
-        rows,
-        overridden,
-        masks,
-        nogoods,
-        displacing,
-        atoms,
-        &undecided[1..rest],
-        n,
-        standing,
-        denied | bit,
-        hints,
-        part,
-        v,
-    );
-    search(
-        book,
-        rows,
-        overridden,
-        masks,
-        nogoods,
-        displacing,
-        atoms,
-        &undecided[1..rest],
-        n,
-        standing | bit,
-        denied,
-        hints,
-        part,
-        half,
-    )
+    let bit = 1 << ((sizes.branching - left) as u32);
+    let without = Turn {
+        left: left - 1,
+        standing: turn.standing,
+        denied: turn.denied | bit,
+    };
+    let half = search(book, rows, plan, sizes, without, hints, asked, part, v);
+    let with = Turn {
+        left: left - 1,
+        standing: turn.standing | bit,
+        denied: turn.denied,
+    };
+    search(book, rows, plan, sizes, with, hints, asked, part, half)
 }

@@ -1,52 +1,57 @@
--- `meet` meets its contract: one more is counted, and what the part keeps is for `insert_state` to say. Assumes nothing.
-use mathlib.Core.Path.{refl}
-use Rattle.search.proofs.VisitLaws.{standing-is}
+-- One more is counted and weighed; what the part keeps is for `insert_state` to say.
+use mathlib.Core.Path.{refl, ap}
+use Prim.Native.Nat.{ℕ, _+_}
+use Rattle.search.proofs.VisitLaws.{weighed, whole-record, least-key}
+use native.Mathlib.Omega.{arith}
 use borrow.Author.Needs.{needs}
 use Rattle.search.proofs.meet.Statement.{statement}
 use Rattle.search.proofs.meet.Tie as tie
 
-sub-atom-bit : tie.Need-sub-atom-bit
-sub-atom-bit c = search needs
+sub-weight : tie.Need-sub-weight
+sub-weight c = search needs
 
-part-atom-bit-start : tie.Need-part-atom-bit-start
-part-atom-bit-start c = search needs
+part-weight-start : tie.Need-part-weight-start
+part-weight-start c = search needs
 
-part-atom-bit-end : tie.Need-part-atom-bit-end
-part-atom-bit-end c = search needs
+part-weight-end : tie.Need-part-weight-end
+part-weight-end c = search needs
 
-atom-bit-requires : tie.Need-atom-bit-requires
-atom-bit-requires c κs = search needs
-
-wide-requires : tie.Need-wide-requires
-wide-requires c κs = search needs
-
-add-standing : tie.Need-add-standing
-add-standing c = search needs
+weight-requires : tie.Need-weight-requires
+weight-requires c κs = c .before .before .before .before .pre .1 .asks
 
 insert-state-requires : tie.Need-insert-state-requires
-insert-state-requires c κs = let p = c .before .before .before .before .before .before .before .pre in (p .0, p .1 .whole)
+insert-state-requires c κs = let s = c .before .before .before .before .before .before .pre in (s .0, whole-record (c .before .before .before .before .before .before .args .v .goal) (c .before .before .before .before .before .before .args .asked .now) (c .before .before .before .before .before .before .args .n) (s .1 .whole))
 
-add-t9 : tie.Need-add-t9
-add-t9 c = search needs
+add-t12 : tie.Need-add-t12
+add-t12 c = search needs
+
+add-t19 : tie.Need-add-t19
+add-t19 c = omega (arith, c .before .before .before .before .before .before .weight .ensures .1, c .before .before .before .before .before .before .before .before .before .before .before .pre .1 .light, c .before .before .before .before .before .before .before .before .before .before .before .pre .2)
 
 same-length : tie.Need-same-length
 same-length c = search needs
 
 returns : tie.Need-returns
-returns c =
-    let w = c .before .before .before .before .before .before in
-    let s = w .before .before .before .before .before in
-    let a = s .args in
+returns c = 
+    let a = c .before .before .before .before .before .before .before .before .before .before .before .args in
     record {
-      going = s .pre .3;
+      going = c .before .before .before .before .before .before .before .before .before .before .before .pre .3;
       goal = refl;
-      atom = refl;
       count = refl;
-      standing = standing-is (a .t1) (a .n) (a .v .atom) (a .v .standing) (w .wide .result) (w .before .atom-bit .result) (w .wide .ensures .0) (w .before .atom-bit .ensures);
-      least = c .before .before .before .insert-state .ensures;
+      weight = ap (λ (x : ℕ). a .v .weight + x) (weighed (a .v .goal) (a .asked .now) (a .t1) (a .n) (c .before .before .before .before .before .before .weight .result) (c .before .before .before .before .before .before .weight .ensures .0));
+      least = least-key (a .v .goal) (a .asked .now) (a .n) _ (c .before .before .before .before .insert-state .ensures);
     }
 
 pub meet-spec : {M : Type 1} → statement M
 meet-spec =
     tie.close
-    (tie.spec sub-atom-bit part-atom-bit-start part-atom-bit-end atom-bit-requires wide-requires add-standing insert-state-requires add-t9 same-length returns)
+    (tie.spec
+    sub-weight
+    part-weight-start
+    part-weight-end
+    weight-requires
+    insert-state-requires
+    add-t12
+    add-t19
+    same-length
+    returns)

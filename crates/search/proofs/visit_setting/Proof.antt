@@ -3,29 +3,66 @@ use mathlib.Core.Path.{refl, sym, ap, _∙_}
 use Rattle.models.specs.StableModels.{Interpretation}
 use Rattle.table.specs.Tabled.{tabled}
 use Rattle.rejecting.proofs.RejectingLaws.{rejecting-named}
+use Rattle.plan.specs.Plan.{planAtoms}
 use Rattle.leaf.specs.Found.{atSetting}
+use Rattle.leaf.proofs.ModelLaws.{atoms-low}
 use Rattle.search.proofs.StepLaws.{setting-rejects, setting-met, setting-empty}
 use borrow.Author.Needs.{needs}
 use Rattle.search.proofs.visit_setting.Statement.{statement}
 use Rattle.search.proofs.visit_setting.Tie as tie
 
+mul-end : tie.Need-mul-end
+mul-end c = search needs
+
+add-end : tie.Need-add-end
+add-end c = search needs
+
+sub-setting-of : tie.Need-sub-setting-of
+sub-setting-of c = search needs
+
+part-setting-of-start : tie.Need-part-setting-of-start
+part-setting-of-start c = search needs
+
+part-setting-of-end : tie.Need-part-setting-of-end
+part-setting-of-end c = search needs
+
 setting-of-requires : tie.Need-setting-of-requires
-setting-of-requires c κs = search needs
+setting-of-requires c κs = (c .before .before .before .before .before .before .before .before .pre .0 .atoms-few, atoms-low (c .before .before .before .before .before .before .before .before .pre .0))
+
+sub-reject-at : tie.Need-sub-reject-at
+sub-reject-at c = search needs
+
+part-reject-at-start : tie.Need-part-reject-at-start
+part-reject-at-start c = search needs
+
+part-reject-at-end : tie.Need-part-reject-at-end
+part-reject-at-end c = search needs
 
 slice-aggregate-reject-at : tie.Need-slice-aggregate-reject-at
 slice-aggregate-reject-at c = search needs
 
 reject-at-requires : tie.Need-reject-at-requires
-reject-at-requires c κs = (rejecting-named (c .before .before .before .before .before .before .before .before .before .pre .1 .0), refl)
+reject-at-requires c κs = (rejecting-named (c .before .before .before .before .before .before .before .before .before .before .before .pre .1 .0 .rejecting-masks), refl)
 
 slice-aggregate-model-at : tie.Need-slice-aggregate-model-at
 slice-aggregate-model-at c = search needs
 
+sub-model-at : tie.Need-sub-model-at
+sub-model-at c = search needs
+
+part-model-at-start : tie.Need-part-model-at-start
+part-model-at-start c = search needs
+
+part-model-at-end : tie.Need-part-model-at-end
+part-model-at-end c = search needs
+
 model-at-requires : tie.Need-model-at-requires
-model-at-requires c κs = let s = c .before .before .before .before .before .before .before .before .before .before .before .before .before in (s .pre .0 .0, (setting-rejects (s .pre .0 .0) (s .args .standing) _ (c .before .before .before .before .before .setting-of .ensures) (s .pre .1 .0) (c .before .before .before .reject-at .ensures), s .pre .1 .1))
+model-at-requires c κs = 
+    let h = c .before .before .before .before .before .before .before .before .before .before .before .before .before .before .before .before .pre in
+    (h .0, (setting-rejects (h .0) (c .before .before .before .before .before .before .before .before .before .before .before .before .before .before .before .before .args .standing) _ (c .before .before .before .before .before .before .before .setting-of .ensures) (h .1 .0 .rejecting-masks) (c .before .before .before .before .reject-at .ensures), h .1 .1 .1))
 
 meet-requires : tie.Need-meet-requires
-meet-requires c κs = search needs
+meet-requires c κs = let h = c .before .before .before .before .before .before .before .before .before .before .before .before .before .before .before .before .before .before .before .before .before .before .pre in (h .0 .few, h .1 .1 .0 .0, h .1 .1 .0 .1, h .1 .1 .0 .2)
 
 same-length : tie.Need-same-length
 same-length c = search needs
@@ -34,26 +71,37 @@ same-length-2 : tie.Need-same-length-2
 same-length-2 c = search needs
 
 returns : tie.Need-returns
-returns c =
-    let a = c .before .before .before .before .before .before .before .before .before .before .before .before .before .before .before .before .before .before .before .before .before .before .args in
-    setting-met (a .n) _ (c .before .before .before .before .before .before .before .before .model-at .result .ok) _ (ap (λ (o : Interpretation). atSetting (tabled (a .book .now) (a .rows .now) (a .n)) (a .atoms .now) o) (sym (c .before .before .before .before .before .before .before .before .before .before .before .before .before .before .setting-of .ensures)) ∙ c .before .before .before .before .before .before .before .before .model-at .ensures) (c .before .before .before .before .if1 .taken) (a .v) (a .part .now) _ _ (c .before .before .meet .ensures)
+returns c = 
+    let a = c .before .before .before .before .before .before .before .before .before .before .before .before .before .before .before .before .before .before .before .before .before .before .before .before .before .args in
+    setting-met (a .asked .now) (a .sizes .n) _ (c .before .before .before .before .before .before .before .before .model-at .result .ok) _ (ap (λ (o : Interpretation). atSetting (tabled (a .book .now) (a .rows .now) (a .sizes .n)) (planAtoms (a .plan .now) (a .sizes .branching)) o) (sym (c .before .before .before .before .before .before .before .before .before .before .before .before .before .before .before .before .setting-of .ensures)) ∙ c .before .before .before .before .before .before .before .before .model-at .ensures) (c .before .before .before .before .if1 .taken) (a .v) (a .part .now) _ _ (c .before .before .meet .ensures)
 
 same-length-3 : tie.Need-same-length-3
 same-length-3 c = search needs
 
 returns-2 : tie.Need-returns-2
-returns-2 c =
-    let a = c .before .before .before .before .before .before .before .before .before .before .before .before .before .before .before .before .before .before .args in
-    setting-empty (a .n) _ (c .before .before .before .before .model-at .result .ok) _ (ap (λ (o : Interpretation). atSetting (tabled (a .book .now) (a .rows .now) (a .n)) (a .atoms .now) o) (sym (c .before .before .before .before .before .before .before .before .before .before .setting-of .ensures)) ∙ c .before .before .before .before .model-at .ensures) (c .if1 .left) (a .v) (a .part .now)
+returns-2 c = 
+    let a = c .before .before .before .before .before .before .before .before .before .before .before .before .before .before .before .before .before .before .before .before .before .args in
+    setting-empty (a .asked .now) (a .sizes .n) _ (c .before .before .before .before .model-at .result .ok) _ (ap (λ (o : Interpretation). atSetting (tabled (a .book .now) (a .rows .now) (a .sizes .n)) (planAtoms (a .plan .now) (a .sizes .branching)) o) (sym (c .before .before .before .before .before .before .before .before .before .before .before .before .setting-of .ensures)) ∙ c .before .before .before .before .model-at .ensures) (c .if1 .left) (a .v) (a .part .now)
 
 pub visit-setting-spec : {M : Type 1} → statement M
 visit-setting-spec =
     tie.close
     (tie.spec
+    mul-end
+    add-end
+    sub-setting-of
+    part-setting-of-start
+    part-setting-of-end
     setting-of-requires
+    sub-reject-at
+    part-reject-at-start
+    part-reject-at-end
     slice-aggregate-reject-at
     reject-at-requires
     slice-aggregate-model-at
+    sub-model-at
+    part-model-at-start
+    part-model-at-end
     model-at-requires
     meet-requires
     same-length
