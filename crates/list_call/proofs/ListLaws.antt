@@ -21,7 +21,8 @@ use Rattle.models.specs.Program.{Program}
 use Rattle.models.specs.Branching.{branchingCount}
 use Rattle.models.specs.Listing.{stableModels, recordSize, recordOf, be16, be32, listingOf, listing}
 use Rattle.models.proofs.RecordLaws.{listing-length}
-use Rattle.models.proofs.AlikeLaws.{Alike, alike-models, alike-count, alike-listing}
+use Rattle.models.specs.Alike.{Alike}
+use Rattle.models.proofs.AlikeLaws.{alike-models, alike-count, alike-listing}
 use Rattle.table.specs.Table.{programOf, TableMade}
 use Rattle.table.specs.Tabled.{tabled}
 use Rattle.accepted.specs.Accepted.{IsAccepted}

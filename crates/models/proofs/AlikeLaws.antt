@@ -9,6 +9,7 @@ use lib.ListN.{length}
 use Rattle.base.specs.Lists.{consIf, any, filter, upTo}
 use Rattle.format.specs.Book.{Literal, Rule}
 use Rattle.models.specs.Program.{Program}
+use Rattle.models.specs.Alike.{Alike}
 use Rattle.models.specs.StableModels.{Interpretation, positive, sameLiteral, bodyHolds, overrides, rejected, default, stable, Derived, by-default, by-rule, StableModel, WellFormed}
 use Rattle.models.specs.Branching.{canReject, branching, branchingAtoms, branchingCount}
 use Rattle.models.specs.Listing.{interpretations, stableModels, listingOf, listing}
@@ -20,12 +21,6 @@ filter-same : {A : Type 0} (p q : A → Bool) → ((x : A) → p x ≡ q x) → 
 unfolding filter
 filter-same p q h [] = refl
 filter-same {A} p q h (x ∷ xs) = ap₂ (λ (c : Bool) (ys : List A). consIf c x ys) (h x) (filter-same p q h xs)
-
-pub record Alike (P Q : Program) : Type 0 where
-  pub atoms-same : P .atoms ≡ Q .atoms
-  pub to : (r : Rule) → r ∈ P .rules → r ∈ Q .rules
-  pub from : (r : Rule) → r ∈ Q .rules → r ∈ P .rules
-  pub overrides-same : (t r : Rule) → t ∈ P .rules → r ∈ P .rules → overrides P t r ≡ overrides Q t r
 
 pub flip : {P Q : Program} → Alike P Q → Alike Q P
 flip a = record {

@@ -1,5 +1,6 @@
 pub mod Program
 pub mod StableModels
+pub mod Alike
 pub mod Branching
 pub mod Listing
 pub mod Condition3

@@ -20,7 +20,8 @@ use Rattle.models.specs.Program.{Program}
 use Rattle.models.specs.StableModels.{Interpretation}
 use Rattle.models.specs.Branching.{branchingCount}
 use Rattle.models.specs.Listing.{recordSize, recordOf}
-use Rattle.models.proofs.AlikeLaws.{Alike, flip, alike-model, alike-models, alike-count}
+use Rattle.models.specs.Alike.{Alike}
+use Rattle.models.proofs.AlikeLaws.{flip, alike-model, alike-models, alike-count}
 use Rattle.table.specs.Table.{programOf, TableMade}
 use Rattle.table.specs.Tabled.{tabled}
 use Rattle.accepted.specs.Accepted.{IsAccepted}

@@ -21,16 +21,16 @@ use Rattle.records.proofs.OrderLaws.{sorted-length}
 use Rattle.table.specs.Tabled.{tabled}
 use Rattle.search.specs.declared.Goal.{Goal}
 use Rattle.search.specs.declared.Visit.{Visit}
-use Rattle.search.specs.Visits.{Visits, done}
-use Rattle.search.specs.Searchable.{Searchable}
+use Rattle.search.specs.Visits.{Asks, Visits, done}
+use Rattle.leaf.specs.Searchable.{Searchable}
 use Rattle.search.proofs.VisitLaws.{visits-count}
 use Rattle.passes.specs.Tallied.{Passed, searched, Tallied}
 use Rattle.passes.specs.First.{Chosen, FirstWritten}
 use Rattle.passes.proofs.PassLaws.{found-is, tallied, pass-written}
 use Rattle.passes.proofs.StateLaws.{searched-from, tallied-none, tallied-some}
 
-unmoved : (n : ℕ) (v : Visit) (p : List ℕ) (v′ : Visit) (p′ : List ℕ) → Visits n [] v p v′ p′ → p′ ≡ p
-unmoved n v₀ p₀ v₃ p₃ (done v p) = refl
+unmoved : (asked : List ℕ) (n : ℕ) (v : Visit) (p : List ℕ) (v′ : Visit) (p′ : List ℕ) → Visits asked n [] v p v′ p′ → p′ ≡ p
+unmoved asked n v₀ p₀ v₃ p₃ (done v p) = refl
 
 -- a list that is not empty has a first model, and its record
 first-record : (n : ℕ) (ms : List Interpretation) → 0 < length ms → (m : Interpretation) × (take 1 ms ≡ m ∷ []) × (flat (map (recordOf n) (take 1 ms)) ≡ recordOf n m)
@@ -46,35 +46,35 @@ sorted-from n ms m k = go (insertAll-from (before n) ms [] m k)
     go (inl j) = j
     go (inr j) = absurd (List·Memᴰ·not-nil j)
 
-module _ {book rows overridden atoms : List ℕ} {n : ℕ} (w : Searchable book rows overridden atoms n) where
+module _ {book rows atoms : List ℕ} {n : ℕ} (w : Searchable book rows atoms n) where
   abbrev P : Program
-  P = tabled book rows overridden n
+  P = tabled book rows n
 
   few : P .atoms ≤ maxAtoms
   few = subst (λ (k : ℕ). k ≤ maxAtoms) (w .size) (w .few)
 
-  module _ {goal : Goal} {part : List ℕ} {end : Visit} {part′ : List ℕ} (s : Passed P atoms n goal 0 part end part′) where
+  module _ {goal : Goal} {asked part : List ℕ} {end : Visit} {part′ : List ℕ} (a : Asks goal asked) (s : Passed P atoms n goal asked part end part′) where
     abbrev start : Visit
-    start = record { goal = goal; atom = 0; count = 0; standing = 0; lo = 0; hi = length part }
+    start = record { goal = goal; count = 0; weight = 0; lo = 0; hi = length part }
 
-    t : Tallied P goal 0 (end .count) (end .standing)
-    t = tallied w goal 0 (length part) part end part′ s
+    t : Tallied P goal asked (end .count) (end .weight)
+    t = tallied w goal asked a (length part) part end part′ s
 
     counted : end .count ≡ length (s .seen)
-    counted = visits-count n (s .seen) start part end part′ (s .visits) ∙ omega arith
+    counted = visits-count asked n (s .seen) start part end part′ (s .visits) ∙ omega arith
 
     none-met : end .count ≡ 0 → part′ ≡ part
     none-met e = go (s .seen) (s .visits) (sym counted ∙ e)
       where
-        go : (ms : List Interpretation) → Visits n ms start part end part′ → length ms ≡ 0 → part′ ≡ part
-        go [] x z = unmoved n start part end part′ x
+        go : (ms : List Interpretation) → Visits asked n ms start part end part′ → length ms ≡ 0 → part′ ≡ part
+        go [] x z = unmoved asked n start part end part′ x
         go (m ∷ ms) x z = absurd (omega arith)
 
     least-met : length part ≡ recordSize n → 0 < end .count → (m : Interpretation) × (take 1 (sorted n (s .seen)) ≡ m ∷ []) × (part′ ≡ recordOf n m)
     least-met sized h =
         let e : length part ≡ 1 * recordSize n = omega (arith, sized) in
         let f = first-record n (sorted n (s .seen)) (omega (arith, sorted-length n (s .seen), counted)) in
-        (f .0, f .1, pass-written w goal 0 (length part) part end part′ s 1 refl e (omega (arith, counted)) ∙ f .2)
+        (f .0, f .1, pass-written w goal asked a (length part) part end part′ s 1 refl e (omega (arith, counted)) ∙ f .2)
 
     pub first-written : (0 < end .count → (m : Interpretation) × Chosen P m × (part′ ≡ recordOf n m)) → FirstWritten P n part (ltb 0 (end .count)) part′
     first-written one = record {
@@ -83,10 +83,10 @@ module _ {book rows overridden atoms : List ℕ} {n : ℕ} (w : Searchable book 
     }
 
   -- the least model met, as every one that is met, is stable
-  pub one-written : {goal : Goal} {part : List ℕ} {end : Visit} {part′ : List ℕ} → Passed P atoms n goal 0 part end part′ → length part ≡ recordSize n
+  pub one-written : {goal : Goal} {asked part : List ℕ} {end : Visit} {part′ : List ℕ} → Asks goal asked → Passed P atoms n goal asked part end part′ → length part ≡ recordSize n
       → 0 < end .count → (m : Interpretation) × Chosen P m × (part′ ≡ recordOf n m)
-  one-written s sized h =
-      let l = least-met s sized h in
+  one-written a s sized h =
+      let l = least-met a s sized h in
       let k : l .0 ∈ sorted n (s .seen) = take-from 1 (sorted n (s .seen)) (l .0) (subst (λ (ms : List Interpretation). l .0 ∈ ms) (sym (l .1)) (List·Memᴰ·head refl)) in
       let f : l .0 ∈ searched P = subst (λ (ms : List Interpretation). l .0 ∈ ms) (sym (s .split) ∙ found-is w) (Memᴰ·append-left (s .rest) (sorted-from n (s .seen) (l .0) k)) in
       (l .0, searched-from P (w .formed) few (l .0) f, l .2)

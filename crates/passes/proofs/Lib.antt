@@ -1,5 +1,4 @@
-pub mod PlanLaws
 pub mod PassLaws
-pub mod SetUpLaws
 pub mod StateLaws
 pub mod FirstLaws
+pub mod SetUpLaws

@@ -3,23 +3,24 @@
 use mathlib.Core.Path.{_≡_, refl, sym, ap, ap₂, subst, _∙_}
 use mathlib.Core.Bool.{Bool, true, false}
 use mathlib.Core.List.{List, [], _∷_, _++_, List·Memᴰ·head, Memᴰ·append-left, append-nil}
-use Prim.Native.Nat.{ℕ, _<_, _≤_}
+use Prim.Native.Nat.{ℕ, _+_, _<_, _≤_}
 use native.Mathlib.Omega.{arith}
 use borrow.Author.Tests.{ne-eqb}
 use lib.Dec.{eqb}
 use lib.ListN.{length, replicate, length-replicate, length-append}
 use Rattle.base.specs.Bounds.{maxAtoms}
-use Rattle.base.specs.Lists.{filter}
+use Rattle.base.specs.Lists.{consIf, filter}
 use Rattle.base.proofs.Members.{_∈_, filter-from, filter-into}
 use Rattle.models.specs.Program.{Program}
 use Rattle.models.specs.StableModels.{Interpretation, atomHolds, stable, StableModel, WellFormed}
-use Rattle.models.specs.Listing.{interpretations, stableModels}
+use Rattle.format.specs.Book.{u16At}
+use Rattle.models.specs.Listing.{bitValue, interpretations, stableModels}
 use Rattle.models.proofs.InterpretationLaws.{interpretations-length, interpretations-has}
 use Rattle.models.proofs.LeastLaws.{stable-sound, stable-complete}
 use Rattle.search.specs.declared.Goal.{Goal}
 use Rattle.search.specs.declared.Goal.the-variants.{All, First, Settle}
-use Rattle.search.specs.Visits.{reaches}
-use Rattle.search.proofs.FoundLaws.{found-stable, stable-found}
+use Rattle.search.specs.Visits.{weightOf, totalOf, reaches}
+use Rattle.leaf.proofs.FoundLaws.{found-stable, stable-found}
 use Rattle.passes.specs.Limit.{hasNoStableState}
 use Rattle.passes.specs.Tallied.{searched, Tallied}
 use Rattle.passes.proofs.PassLaws.{empty, searched-length}
@@ -62,26 +63,37 @@ none-reaches Settle = refl
 module _ (P : Program) (w : WellFormed P) (few : P .atoms ≤ maxAtoms) where
   pub searched-from : (m : Interpretation) → m ∈ searched P → StableModel P m
   unfolding searched
-  searched-from m k = let f = found-stable P w (replicate 256 false) 256 (length-replicate {A = Bool} 256 false) few m k in stable-sound P m (f .0) (f .1)
+  searched-from m k = let f = found-stable P w (replicate maxAtoms false) maxAtoms (length-replicate {A = Bool} maxAtoms false) few m k in stable-sound P m (f .0) (f .1)
 
   pub searched-into : (m : Interpretation) → StableModel P m → m ∈ searched P
   unfolding searched
-  searched-into m s = stable-found P w (replicate 256 false) 256 (length-replicate {A = Bool} 256 false) few m (s .size) (stable-complete P m s)
+  searched-into m s = stable-found P w (replicate maxAtoms false) maxAtoms (length-replicate {A = Bool} maxAtoms false) few m (s .size) (stable-complete P m s)
 
-  module _ {goal : Goal} {atom count standing : ℕ} (t : Tallied P goal atom count standing) where
+  module _ {goal : Goal} {asked : List ℕ} {count weight : ℕ} (t : Tallied P goal asked count weight) where
     pub seen-from : (m : Interpretation) → m ∈ t .seen → StableModel P m
     seen-from m k = searched-from m (subst (λ (l : List Interpretation). m ∈ l) (sym (t .split)) (Memᴰ·append-left (t .rest) k))
 
-    pub seen-into : reaches goal count standing ≡ false → (m : Interpretation) → StableModel P m → m ∈ t .seen
+    pub seen-into : reaches goal count weight ≡ false → (m : Interpretation) → StableModel P m → m ∈ t .seen
     seen-into e m s = subst (λ (l : List Interpretation). m ∈ l) (t .split ∙ ap (λ (l : List Interpretation). t .seen ++ l) (t .whole e) ∙ append-nil (t .seen)) (searched-into m s)
 
     pub tallied-none : count ≡ 0 → hasNoStableState P ≡ true
-    unfolding filter
+    unfolding totalOf
     tallied-none e =
         let s : t .seen ≡ [] = empty (t .seen) (sym (t .count-is) ∙ e) in
-        let z : standing ≡ 0 = t .standing-is ∙ ap (λ (l : List Interpretation). length (filter (λ m. atomHolds m atom) l)) s in
+        let z : weight ≡ 0 = t .weight-is ∙ ap (totalOf (weightOf goal asked)) s in
         let r : t .rest ≡ [] = t .whole (rw (e, z) (none-reaches goal)) in
         state-none P (sym (searched-length P w few) ∙ ap length (t .split ∙ ap₂ (λ (x y : List Interpretation). x ++ y) s r))
 
     pub tallied-some : 0 < count → hasNoStableState P ≡ false
     tallied-some h = state-some P (omega (arith, t .count-is, ap length (t .split), length-append (t .seen) (t .rest), searched-length P w few))
+
+-- for a fact's place the models weigh as many as those in which it stands
+pub settled-weight : (asked : List ℕ) (ms : List Interpretation) → totalOf (weightOf Settle asked) ms ≡ length (filter (λ m. atomHolds m (u16At asked 0)) ms)
+unfolding totalOf weightOf filter bitValue consIf
+settled-weight asked [] = refl
+settled-weight asked (m ∷ ms) = go (atomHolds m (u16At asked 0)) (settled-weight asked ms)
+  where
+    go : (c : Bool) → totalOf (weightOf Settle asked) ms ≡ length (filter (λ m. atomHolds m (u16At asked 0)) ms)
+        → bitValue c 1 + totalOf (weightOf Settle asked) ms ≡ length (consIf c m (filter (λ m. atomHolds m (u16At asked 0)) ms))
+    go true e = omega (arith, e)
+    go false e = omega (arith, e)

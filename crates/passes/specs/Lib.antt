@@ -1,5 +1,4 @@
-pub mod SetUp
-pub mod Plan
-pub mod Tallied
 pub mod Limit
+pub mod SetUp
+pub mod Tallied
 pub mod First

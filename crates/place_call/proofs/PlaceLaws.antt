@@ -25,7 +25,8 @@ use Rattle.models.specs.Program.{Program}
 use Rattle.models.specs.StableModels.{Interpretation, atomHolds, StableModel}
 use Rattle.models.specs.Branching.{branchingCount}
 use Rattle.models.specs.Listing.{stableModels}
-use Rattle.models.proofs.AlikeLaws.{Alike, alike-models, alike-count}
+use Rattle.models.specs.Alike.{Alike}
+use Rattle.models.proofs.AlikeLaws.{alike-models, alike-count}
 use Rattle.table.specs.Table.{programOf}
 use Rattle.table.specs.Tabled.{tabled}
 use Rattle.accepted.specs.Driven.{layerTests}

@@ -13,7 +13,7 @@ use Rattle.layers.specs.Masks.{bitOf}
 use Rattle.format.specs.Book.{Rule}
 use Rattle.models.specs.Program.{Program}
 use Rattle.models.specs.StableModels.{complement, sameLiteral, overrides}
-use Rattle.models.proofs.AlikeLaws.{Alike}
+use Rattle.models.specs.Alike.{Alike}
 use Rattle.table.specs.Rows.{rowSize, rowCount, rowLayer, overridden, rowAt, rowsOf}
 use Rattle.table.specs.Table.{Tabulates, TableMade}
 use Rattle.table.specs.Tabled.{tabled}

@@ -1,7 +1,11 @@
--- The search from no fact decided, with all of the part as its gap, over the plan that is lent.
-use mathlib.Core.Path.{refl}
-use Rattle.search.proofs.QuickLaws.{decided-start}
-use Rattle.passes.proofs.PassLaws.{start-kept, start-fits}
+-- The search from no fact decided, with all of the part as its gap.
+use mathlib.Core.Path.{refl, sym, subst}
+use Prim.Native.Nat.{ℕ, _+_, _^_, _≤_}
+use Rattle.table.specs.Tabled.{tabled}
+use Rattle.setting.specs.Setting.{settingOf}
+use Rattle.plan.specs.Plan.{planAtoms}
+use Rattle.search.proofs.TurnLaws.{atoms-count, turned-start}
+use Rattle.passes.proofs.PassLaws.{from-all, start-fits, start-kept}
 use borrow.Author.Needs.{needs}
 use Rattle.passes.proofs.pass.Statement.{statement}
 use Rattle.passes.proofs.pass.Tie as tie
@@ -10,19 +14,20 @@ slice-aggregate-search : tie.Need-slice-aggregate-search
 slice-aggregate-search c = search needs
 
 search-requires : tie.Need-search-requires
-search-requires c κs =
-    let s = c .before .before .before .before .before .before .before .before .before .before in
-    let a = s .args in
-    let w = s .pre .0 in
-    let p = s .pre .1 .0 in
-    let m = s .pre .1 .1 in
-    ((w, start-kept w (a .goal) (a .atom) _ (a .part .now) (m .times) refl (m .eq), start-fits w, p .rule-masks, decided-start (a .atoms .now)), (p .nogood-masks, (p .displacing-masks, search needs)))
+search-requires c κs = 
+    let a = c .before .before .before .before .before .before .before .args in
+    let r = c .before .before .before .before .before .before .before .pre .0 in
+    let count = atoms-count (r .planned) in
+    (r .table, (r .planned, (turned-start (planAtoms (a .plan .now) (a .sizes .branching)) (a .sizes .branching) (sym count), ((start-kept (r .table) (a .goal) (a .asked .now) _ (a .part .now) (c .before .before .before .before .before .before .before .pre .1 .1 .times) (c .before .before .before .before .before .before .before .pre .1 .0) refl (c .before .before .before .before .before .before .before .pre .1 .1 .eq), subst (λ (k : ℕ). 0 + 2 ^ k ≤ 4294967296) count (start-fits (r .table))), search needs))))
 
 same-length : tie.Need-same-length
 same-length c = search needs
 
 returns : tie.Need-returns
-returns c = search needs
+returns c =
+    let a = c .before .before .before .before .before .before .before .before .before .before .before .args in
+    let atoms = planAtoms (a .plan .now) (a .sizes .branching) in
+    from-all (tabled (a .book .now) (a .rows .now) (a .sizes .n)) atoms (a .sizes .branching) (sym (atoms-count (c .before .before .before .before .before .before .before .before .before .before .before .pre .0 .planned))) (settingOf atoms 0) (c .before .before .before .search .ensures)
 
 pub pass-spec : {M : Type 1} → statement M
 pass-spec = tie.close (tie.spec slice-aggregate-search search-requires same-length returns)
