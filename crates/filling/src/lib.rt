@@ -10,7 +10,7 @@ ghost use Rattle.base.specs.Lists.{all};
 ghost use Rattle.format.specs.Book.{literalOf, literalsOf};
 ghost use Rattle.table.specs.Names.{literalNamed};
 ghost use Rattle.table.specs.Rows.{rowCount, rowAt, RowsFit};
-ghost use Rattle.filling.specs.Marks.{hintSize, linkSize, literalMarked, alive, adds, Grown, PassEnd, FilledOn, Fills};
+ghost use Rattle.filling.specs.Marks.{hintSize, linkSize, literalMarked, adds, Grown, PassEnd, FilledOn, Fills};
 use base::MAX_ATOMS;
 use base::MAX_BODY;
 use base::MAX_NAMES;
@@ -19,9 +19,9 @@ use base::wide16;
 use format::literal_value;
 use table::ROW_SIZE;
 use table::opposite;
+use table::row_alive;
 use table::row_body;
 use table::row_head;
-use table::row_layer;
 
 // Entries of the hints: the number of the literal that each row watches, then the trail, whose count stands at MAX_RULES.
 pub const HINTS: usize = 2 * MAX_RULES;
@@ -81,18 +81,6 @@ fn body_marked(positive: &[bool], negative: &[bool], body: &[u8], watch: usize) 
         i += 2;
     }
     true
-}
-
-// Whether a row is alive: its layer's bit is not set in the mask at its head's name.
-pub fn row_alive(book: &[u8], rows: &[u16], rejects: &[u32], j: usize) -> bool
-    requires { ⌜ RowsFit (now book) (now rows) ⌝ }
-    requires { ⌜ length (now rejects) ≡ maxNames ⌝ }
-    requires { ⌜ j < rowCount (now rows) ⌝ }
-    ensures { λ r. ⌜ r ≡ alive (now (rejects .entry)) (rowAt (now (book .entry)) (now (rows .entry)) j) ⌝ }
-{
-    let h = row_head(rows, j);
-    let layer = row_layer(rows, j);
-    (rejects[h] >> (layer as u32)) & 1 != 1
 }
 
 // The number of the literal that a row watches: the one that it last waited for. The whole body is tested where it is marked.

@@ -13,8 +13,7 @@ use Rattle.layers.specs.Masks.{bitOf}
 use Rattle.format.specs.Book.{Literal}
 use Rattle.models.specs.StableModels.{complement}
 use Rattle.table.specs.Names.{literalNamed}
-use Rattle.table.specs.Rows.{rowCount, headName, rowAt, overridden}
-use Rattle.filling.specs.Marks.{alive}
+use Rattle.table.specs.Rows.{rowCount, headName, rowAt, overridden, alive}
 use Rattle.setting.specs.RuleMasks.{AtomBits}
 
 -- nogoods that a plan has room for

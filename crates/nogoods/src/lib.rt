@@ -10,11 +10,11 @@ ghost use Rattle.setting.specs.RuleMasks.{BodyMasked};
 ghost use Rattle.nogoods.specs.Nogoods.{maxNogoods, Rejectable, NogoodOf, NogoodPut, Met};
 use base::MAX_ATOMS;
 use base::MAX_NAMES;
-use filling::row_alive;
 use setting::BodyMasks;
 use setting::bits_of;
 use table::ROW_SIZE;
 use table::opposite;
+use table::row_alive;
 use table::row_head;
 use table::row_overridden;
 

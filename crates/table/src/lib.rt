@@ -8,7 +8,7 @@ ghost use Rattle.base.specs.Lists.{all};
 ghost use Rattle.format.specs.Book.{literalOf, literalsOf};
 ghost use Rattle.models.specs.StableModels.{atomHolds, complement, holds, bodyHolds};
 ghost use Rattle.table.specs.Names.{literalNamed};
-ghost use Rattle.table.specs.Rows.{rowSize, rowCount, headName, rowLayer, overridden, withMask, rowBody, rowAt, RowsBounded, RowsFit, SameRules};
+ghost use Rattle.table.specs.Rows.{rowSize, rowCount, headName, rowLayer, overridden, withMask, rowBody, rowAt, alive, RowsBounded, RowsFit, SameRules};
 ghost use Rattle.table.specs.Overriding.{HeadLayers, Overridden};
 ghost use Rattle.table.specs.Table.{programOf, RuleRecords, Prepared, RowsMade, TableMade};
 use base::MAX_ATOMS;
@@ -100,6 +100,18 @@ pub fn row_holds(book: &[u8], rows: &[u16], m: &[bool], j: usize) -> bool
     ensures { λ r. ⌜ r ≡ bodyHolds (now (m .entry)) (rowAt (now (book .entry)) (now (rows .entry)) j) ⌝ }
 {
     body_holds(m, row_body(book, rows, j))
+}
+
+// Whether a row is alive: its layer's bit is not set in the mask at its head's name.
+pub fn row_alive(book: &[u8], rows: &[u16], rejects: &[u32], j: usize) -> bool
+    requires { ⌜ RowsFit (now book) (now rows) ⌝ }
+    requires { ⌜ length (now rejects) ≡ maxNames ⌝ }
+    requires { ⌜ j < rowCount (now rows) ⌝ }
+    ensures { λ r. ⌜ r ≡ alive (now (rejects .entry)) (rowAt (now (book .entry)) (now (rows .entry)) j) ⌝ }
+{
+    let h = row_head(rows, j);
+    let layer = row_layer(rows, j);
+    (rejects[h] >> (layer as u32)) & 1 != 1
 }
 
 // The name of the opposite literal.

@@ -18,10 +18,9 @@ use Rattle.format.specs.Book.{Literal}
 use Rattle.models.specs.StableModels.{Interpretation, atomHolds, positive, complement, signed, holds, bodyHolds}
 use Rattle.layers.proofs.BitLaws.{no-bits, zero-bit, or-cases, or-left, or-right}
 use Rattle.table.specs.Names.{literalNamed}
-use Rattle.table.specs.Rows.{headName, rowAt, overridden}
+use Rattle.table.specs.Rows.{headName, rowAt, overridden, alive}
 use Rattle.table.proofs.NameLaws.{name-low, name-high, one-name}
 use Rattle.tester.specs.Masks.{Rejection, RejectedMasks, Support, Supported, Violation, Others}
-use Rattle.filling.specs.Marks.{alive}
 use Rattle.filling.proofs.MarkLaws.{blank, set-only, set-keeps}
 
 -- the mask of a row, as its body decides
