@@ -16,6 +16,7 @@ use base::MAX_LAYERS;
 use base::MAX_NAMES;
 use base::wide;
 use base::wide16;
+use format::literal_value;
 
 // Numbers of a row.
 pub const ROW_SIZE: usize = 6;
@@ -34,7 +35,7 @@ pub fn atom_holds(m: &[bool], f: usize) -> bool
 pub fn literal_holds(m: &[bool], a: u8, b: u8) -> bool
     ensures { λ r. ⌜ r ≡ holds (now (m .entry)) (literalOf a b) ⌝ }
 {
-    let v = wide(a) * 256 + wide(b);
+    let v = literal_value(a, b);
     let stands = atom_holds(m, v % 32768);
     if 32768 <= v {
         return !stands;
@@ -130,7 +131,7 @@ fn name_of(a: u8, b: u8) -> usize
     requires { ⌜ literalOf a b .atom < maxAtoms ⌝ }
     ensures { λ r. ⌜ (literalNamed r ≡ literalOf a b) × (r < maxNames) ⌝ }
 {
-    let v = wide(a) * 256 + wide(b);
+    let v = literal_value(a, b);
     if v < 32768 {
         return v;
     }
