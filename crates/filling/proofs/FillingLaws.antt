@@ -1,5 +1,5 @@
 -- Two arrays of marks, filled by passes over the rows until nothing is added: what a pass keeps, and that all that follows is
--- marked at the end. Used by pass, fill_on and fill, and by the search, which goes on from marks in hand. Assumes nothing.
+-- marked at the end. Used by pass_over_rows, fill_on and fill, and by the search, which goes on from marks in hand. Assumes nothing.
 use mathlib.Core.Path.{_≡_, refl, sym, subst, _∙_}
 use mathlib.Core.Bool.{Bool, true, false, not, _&&_, cond, true≢false}
 use mathlib.Core.List.{List}

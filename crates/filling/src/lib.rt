@@ -3,7 +3,7 @@
 // `hints` is what one filling leaves for the next: the literal that each row watches, then the trail. Nothing rests on it but speed, so
 // contracts say of it only how long it is.
 ghost use mathlib.Core.Path.{_≡_};
-ghost use Prim.Native.Nat.{_<_, _≤_};
+ghost use Prim.Native.Nat.{_<_};
 ghost use lib.ListN.{length};
 ghost use Rattle.base.specs.Bounds.{maxAtoms, maxNames, maxRules};
 ghost use Rattle.base.specs.Lists.{all};
@@ -392,7 +392,7 @@ pub struct PassResult {
 }
 
 // One pass over the rows: marks the head of each that adds it, until a fact is reached both ways.
-fn pass(
+fn pass_over_rows(
     book: &[u8],
     rows: &[u16],
     rejects: &[u32],
@@ -463,7 +463,7 @@ pub fn fill_on(
     let mut added = true;
     let mut first = true;
     while added {
-        let end = pass(book, rows, rejects, &mut positive, &mut negative, hints);
+        let end = pass_over_rows(book, rows, rejects, &mut positive, &mut negative, hints);
         if end.conflict {
             return Marks {
                 positive,
