@@ -13,7 +13,6 @@ ghost use Rattle.setting.specs.RuleMasks.{Low, AtomBits, BodyMasked, Rul
 use base::MAX_ATOMS;
 use format::literal_value;
 use table::row_body;
-use table::row_head;
 
 // The i-th branching fact, as an index.
 pub fn atom_at(atoms: &[u32], i: usize) -> usize
