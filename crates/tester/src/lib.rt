@@ -150,13 +150,7 @@ fn marks_agree<'a>(positive: &'a [bool], negative: &'a [bool], m: &[bool], n: us
 }
 
 // Whether an interpretation is a stable model of the program that the rows and masks tabulate. `hints` is what an earlier filling left.
-pub fn is_stable(
-    book: &[u8],
-    rows: &[u16],
-    m: &[bool],
-    n: usize,
-    hints: &mut [u16],
-) -> bool
+pub fn is_stable(book: &[u8], rows: &[u16], m: &[bool], n: usize, hints: &mut [u16]) -> bool
     requires { ⌜ WellFormed (tabled (now book) (now rows) n) ⌝ }
     requires { ⌜ Tabulates (tabled (now book) (now rows) n) (now book) (now rows) ⌝ }
     requires { ⌜ n ≡ tabled (now book) (now rows) n .atoms ⌝ }
