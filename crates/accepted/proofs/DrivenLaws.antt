@@ -35,12 +35,12 @@ module _ (s : List ℕ) (layer : ℕ) where
       unfolding layerTests verdict nine
       book-accepted = first-append (tests s) (record { cause = NoSuchLayer; applies = isNoSuchLayer s layer } ∷ []) (sym e ∙ q)
 
-      pub layer-refused : (n : ℕ) → n ≡ bookOf s .layers → n ≤ layer → Refused NoSuchLayer ≡ firstOf (layerTests s layer)
-      unfolding firstOf verdictIf nine isNoSuchLayer bookOf
+      pub layer-refused : (n : ℕ) → n ≡ layerCount s → n ≤ layer → Refused NoSuchLayer ≡ firstOf (layerTests s layer)
+      unfolding firstOf verdictIf nine isNoSuchLayer
       layer-refused n en h = sym (book-accepted ∙ rw (le-ltb layer (layerCount s) (omega arith)) refl)
 
-      pub layer-accepted : (n : ℕ) → n ≡ bookOf s .layers → layer < n → Accepted ≡ firstOf (layerTests s layer)
-      unfolding firstOf verdictIf nine isNoSuchLayer bookOf
+      pub layer-accepted : (n : ℕ) → n ≡ layerCount s → layer < n → Accepted ≡ firstOf (layerTests s layer)
+      unfolding firstOf verdictIf nine isNoSuchLayer
       layer-accepted n en h = sym (book-accepted ∙ rw (lt-ltb layer (layerCount s) (omega arith)) refl)
 
   -- where none of causes 1 to 9 applies

@@ -2,7 +2,7 @@
 -- Assumes nothing.
 use mathlib.Core.Path.{_≡_, ap, subst}
 use mathlib.Core.List.{List, map}
-use Prim.Native.Nat.{ℕ, _≤_}
+use Prim.Native.Nat.{ℕ, _+_, _≤_}
 use native.Mathlib.Omega.{arith}
 use lib.ListN.{length, drop}
 use Rattle.layers.specs.Masks.{LowerMasks}
@@ -10,7 +10,7 @@ use Rattle.format.specs.Book.{records, sectionRecords, ruleOf, ruleSection, rul
 use Rattle.table.specs.Table.{RuleRecords, Prepared}
 use Rattle.book.proofs.RangeLaws.{Ranges, ranges}
 use Rattle.book.proofs.Accepted.{accepted-lawful}
-use Rattle.accepted.specs.Accepted.{IsAccepted, rulesStart}
+use Rattle.accepted.specs.Accepted.{IsAccepted}
 use Rattle.accepted.proofs.RangeFacts.{Sections, sections, rest-is}
 use Rattle.accepted.proofs.RecordFacts.{RuleGood, good-rule, book-short}
 
@@ -31,21 +31,21 @@ module _ (s : List ℕ) (e : IsAccepted s) where
         record { long = g .long; layer-low = omega (arith, g .layer-low, in-ranges .layers-few); atom-low = omega (arith, g .head-low, in-ranges .atoms-few) };
   }
 
-  starts-inside : rulesStart s ≤ length s
-  unfolding rulesStart
+  starts-inside : ruleSection s + 6 ≤ length s
   starts-inside = omega (arith, whole-sections .ends)
 
-  rules-are : bookOf s .rules ≡ map ruleOf (records (drop (rulesStart s) s))
+  rules-are : bookOf s .rules ≡ map ruleOf (records (drop (ruleSection s + 6) s))
   unfolding bookOf rulesOf ruleRecords
   rules-are = ap (λ (t : List ℕ). map ruleOf (records t)) (rest-is s whole-sections)
 
-  pub prepared : (lower : List ℕ) → LowerMasks (arrowsOf s) lower → Prepared s (rulesStart s) lower
+  -- the rule section starts at k, and its records after its two fields
+  pub prepared : (k : ℕ) → k ≡ ruleSection s → (lower : List ℕ) → LowerMasks (arrowsOf s) lower → Prepared s (k + 6) lower
   unfolding bookOf
-  prepared lower w = record {
+  prepared k ek lower w = rw ek (record {
     rule-records = subst RuleRecords (rest-is s whole-sections) section-rules;
     starts = starts-inside;
     short = book-short s e;
     rules-are = rules-are;
     lower-sound = λ i j h z. w .sound i j z;
     lower-full = λ i j g h z. w .full i j z;
-  }
+  })

@@ -1,22 +1,21 @@
--- What acceptance says of the book's numbers and of its two sections. `atom_count`, `layer_count` and `rules_start` cite it, and
--- RecordFacts builds on it. Assumes nothing.
+-- What acceptance says of the book's numbers and of its two sections. `atom_count` and `prepare` cite it, and RecordFacts
+-- builds on it. Assumes nothing.
 use mathlib.Core.Path.{_≡_, refl}
 use mathlib.Core.Bool.{Bool, true, false, not, _&&_, _||_}
 use mathlib.Core.List.{List}
 use Prim.Native.Nat.{ℕ, _+_, _<_, _≤_}
 use native.Mathlib.Omega.{arith}
-use borrow.Author.Tests.{ltb-false, leb-true, eqb-true, not-false}
+use borrow.Author.Tests.{leb-true, eqb-true, not-false}
 use lib.Dec.{leb, eqb}
-use lib.ListN.{length, getD, drop, length-drop, length-take}
+use lib.ListN.{length, drop, length-drop, length-take}
 use lib.Seq.{take-all}
-use Rattle.format.specs.Book.{u16At, u32At, records, meetsEnd, sectionBytes, sectionCount, sectionEnd, sectionRecords, atomCount, layerCount, ruleSection, bookOf}
+use Rattle.format.specs.Book.{records, meetsEnd, sectionBytes, sectionCount, sectionEnd, sectionRecords, atomCount, ruleSection, bookOf}
 use Rattle.format.specs.Sections.{wholeSection, hasBrokenSection}
 use Rattle.format.proofs.SectionLaws.{or-first, or-second}
 use Rattle.layers.proofs.BitLaws.{and-left, and-right}
-use Rattle.book.specs.Causes.{isTooShort}
 use Rattle.book.proofs.Accepted.{accepted-lawful}
 use Rattle.book.proofs.RangeLaws.{Ranges, ranges}
-use Rattle.accepted.specs.Accepted.{IsAccepted, rulesStart}
+use Rattle.accepted.specs.Accepted.{IsAccepted}
 
 -- a whole section: it lies inside the book, its records meet its end, and they are as many as it says
 pub record Whole (s : List ℕ) (at : ℕ) : Type 0 where
@@ -64,27 +63,15 @@ unfolding sectionRecords
 section-length s at w = simp (length-take, length-drop) (omega (arith, w .inside))
 
 -- the second section's bytes are the rest of the book
-pub rest-is : (s : List ℕ) → Sections s → sectionRecords s (ruleSection s) ≡ drop (rulesStart s) s
-unfolding sectionRecords rulesStart
+pub rest-is : (s : List ℕ) → Sections s → sectionRecords s (ruleSection s) ≡ drop (ruleSection s + 6) s
+unfolding sectionRecords
 rest-is s w = take-all (sectionBytes s (ruleSection s)) (drop (ruleSection s + 6) s) (simp length-drop (omega (arith, w .ends)))
 
 module _ (s : List ℕ) (e : IsAccepted s) where
-  pub long : 20 ≤ length s
-  unfolding isTooShort
-  long = ltb-false (length s) 20 (accepted-lawful s e .not1)
-
-  -- the numbers as the code reads them
-  pub atoms-are : (n : ℕ) → n ≡ u16At s 5 → (n ≡ bookOf s .atoms) × (0 < n) × (n ≤ 256)
-  unfolding bookOf atomCount
+  -- the number of facts, as the code reads it
+  pub atoms-are : (n : ℕ) → n ≡ atomCount s → (n ≡ bookOf s .atoms) × (0 < n) × (n ≤ 256)
+  unfolding bookOf
   atoms-are n q = let r : Ranges s = ranges s (accepted-lawful s e .not5) in (q, omega (arith, r .some-atom), omega (arith, r .atoms-few))
-
-  pub layers-are : (n : ℕ) → n ≡ getD s 7 0 → (n ≡ bookOf s .layers) × (n ≤ 32)
-  unfolding bookOf layerCount
-  layers-are n q = let r : Ranges s = ranges s (accepted-lawful s e .not5) in (q, omega (arith, r .layers-few))
-
-  pub start-is : (b : ℕ) → b ≡ u32At s 8 → 20 + b ≡ rulesStart s
-  unfolding rulesStart ruleSection sectionEnd sectionBytes
-  start-is b q = omega arith
 
   pub layer-low : (layer : ℕ) → layer < bookOf s .layers → layer < 32
   unfolding bookOf

@@ -1,15 +1,10 @@
 -- What the calls above ask of a book. Assumes nothing.
 use mathlib.Core.Path.{_≡_}
 use mathlib.Core.List.{List}
-use Prim.Native.Nat.{ℕ, _+_}
-use Rattle.format.specs.Book.{ruleSection}
+use Prim.Native.Nat.{ℕ}
 use Rattle.book.specs.Causes.{verdict}
 use Rattle.book.specs.declared.Verdict.the-variants.{Accepted}
 
 -- none of causes 1 to 8 applies
 abbrev pub IsAccepted : List ℕ → Type 0
 IsAccepted s = verdict s ≡ Accepted
-
--- the rules' records follow the two fields of their section
-unfoldable pub rulesStart : List ℕ → ℕ
-rulesStart s = ruleSection s + 6

@@ -1,25 +1,23 @@
-// What an accepted book gives to the calls above: its numbers, where its rules' records start, and the table of the rules that
-// count at a layer. Its bytes are believed because the check has walked them.
+// What an accepted book gives to the calls above: the number of its facts, and the table of the rules that count at a layer. Its
+// bytes are believed because the check has walked them.
 ghost use mathlib.Core.Path.{_≡_};
 ghost use Prim.Native.Nat.{_*_, _<_, _≤_};
 ghost use lib.ListN.{length};
-ghost use Rattle.base.specs.Bounds.{maxAtoms, maxLayers, maxRules};
+ghost use Rattle.base.specs.Bounds.{maxAtoms, maxRules};
 ghost use Rattle.layers.specs.Masks.{LowerMasks};
 ghost use Rattle.format.specs.Book.{arrowsOf, bookOf};
 ghost use Rattle.table.specs.Rows.{rowSize};
 ghost use Rattle.table.specs.Table.{programOf, TableMade};
 ghost use Rattle.book.specs.Causes.{firstOf};
 ghost use Rattle.book.specs.Checks.{Checks};
-ghost use Rattle.accepted.specs.Accepted.{IsAccepted, rulesStart};
+ghost use Rattle.accepted.specs.Accepted.{IsAccepted};
 ghost use Rattle.accepted.specs.Driven.{layerTests};
 use base::MAX_LAYERS;
-use base::wide;
 use book::Cause;
 use book::Checked;
 use book::Verdict;
 use book::check_book;
-use format::be16;
-use format::be32;
+use book::read_header;
 use table::rule_table;
 
 // The number of facts.
@@ -27,23 +25,8 @@ pub fn atom_count(book: &[u8]) -> usize
     requires { ⌜ IsAccepted (now book) ⌝ }
     ensures { λ r. ⌜ (r ≡ bookOf (now (book .entry)) .atoms) × (0 < r) × (r ≤ maxAtoms) ⌝ }
 {
-    be16(book, 5)
-}
-
-// The number of layers.
-pub fn layer_count(book: &[u8]) -> usize
-    requires { ⌜ IsAccepted (now book) ⌝ }
-    ensures { λ r. ⌜ (r ≡ bookOf (now (book .entry)) .layers) × (r ≤ maxLayers) ⌝ }
-{
-    wide(book[7])
-}
-
-// The offset of the first rule's record.
-pub fn rules_start(book: &[u8]) -> usize
-    requires { ⌜ IsAccepted (now book) ⌝ }
-    ensures { λ r. ⌜ r ≡ rulesStart (now (book .entry)) ⌝ }
-{
-    20 + be32(book, 8)
+    let header = read_header(book);
+    header.atoms
 }
 
 // Writes the table of the rules that count at a layer, from each layer's mask of the layers below it, and says how many there are.
@@ -54,7 +37,8 @@ pub fn prepare(book: &[u8], layer: usize, lower: [u32; MAX_LAYERS], rows: &mut [
     requires { ⌜ length (now rows) ≡ rowSize * maxRules ⌝ }
     ensures { λ r. ⌜ TableMade (programOf (now (book .entry)) layer) (now (book .entry)) (now (rows .exit)) r ⌝ }
 {
-    rule_table(book, rules_start(book), layer, lower, rows)
+    let header = read_header(book);
+    rule_table(book, header.rules + 6, layer, lower, rows)
 }
 
 // Accepted, with the masks, or refused for the first of causes 1 to 9 that applies: what every call that drives a layer asks first.
@@ -70,7 +54,8 @@ pub fn check_layer(book: &[u8], layer: u32) -> Checked
             lower,
         },
         Verdict::Accepted => {
-            if layer_count(book) <= layer as usize {
+            let header = read_header(book);
+            if header.layers <= layer as usize {
                 return Checked {
                     verdict: Verdict::Refused(Cause::NoSuchLayer),
                     lower,

@@ -3,17 +3,18 @@
 use mathlib.Core.Path.{_≡_, refl, sym, ap, subst, _∙_}
 use mathlib.Core.Bool.{Bool, true, false, not, _&&_}
 use mathlib.Core.List.{List, map, Memᴰ·cast, Memᴰ·of-map}
-use Prim.Native.Nat.{ℕ, _+_, _-_, _<_, _≤_}
+use Prim.Native.Nat.{ℕ, _-_, _<_, _≤_}
 use native.Mathlib.Omega.{arith}
 use borrow.Author.Tests.{eq-eqb, eqb-true, ltb-true, lt-ltb, not-false}
 use lib.Dec.{T, eqb, ltb, eqb→eq, eqb-refl}
 use lib.ListN.{length, getD, take, drop}
 use Rattle.base.specs.Bounds.{maxLayers}
 use Rattle.base.specs.Lists.{all, any, upTo}
-use Rattle.format.specs.Book.{u32At, records, arrowOf, arrowRecords, ruleRecords, arrowsOf, atomCount, layerCount}
+use Rattle.format.specs.Book.{records, arrowOf, arrowRecords, ruleRecords, arrowsOf, atomCount, layerCount}
 use Rattle.layers.specs.Layers.{Arrow, link, repeats, sameArrow, Path, single, longer, below}
 use Rattle.layers.specs.Masks.{bitOf, marked, Linked, Way, edge, join, EmptyFrom, LowerMasks}
 use Rattle.book.specs.Causes.{arrowOk, ruleOk, isOutOfRange, hasBadRecord, repeatsArrow, hasCycle}
+use Rattle.book.specs.Checks.{HeaderOf}
 use Rattle.base.proofs.Members.{_∈_, and-left, and-right, and-both, all-at, all-of, any-at, any-of, same-test}
 use Rattle.base.proofs.UpTo.{passed, true-of}
 use Rattle.layers.proofs.BelowLaws.{below-sound, below-complete}
@@ -86,10 +87,6 @@ module _ (links : List Arrow) (n : ℕ) (m : List ℕ) (w : LowerMasks links m) 
   cycle-is : any (λ i. marked m i i) (upTo n) ≡ any (λ i. below links i i) (upTo n)
   cycle-is = same-test (any (λ i. marked m i i) (upTo n)) (any (λ i. below links i i) (upTo n)) to-below to-marked
 
-arrows-are : (s : List ℕ) (b : ℕ) → b ≡ u32At s 8 → map arrowOf (records (take (14 + b - 14) (drop 14 s))) ≡ arrowsOf s
-unfolding arrowsOf
-arrows-are s b eb = ap (map arrowOf) (arrow-part s b eb)
-
 -- what follows where causes 5 and 6 do not apply
 wider : (l : ℕ) (r : List ℕ) → l ≤ maxLayers → T (arrowOk l r) → T (arrowOk maxLayers r)
 unfolding arrowOk arrowOf
@@ -109,7 +106,7 @@ both-low l r t =
       ltb-true (getD r 1 0) l (passed (ltb (getD r 1 0) l) (and-right (eqb (length r) 2 && ltb (getD r 0 0) l) (ltb (getD r 1 0) l) t)),
     )
 
-module _ (s : List ℕ) (five : isOutOfRange s ≡ false) (six : hasBadRecord s ≡ false) where
+module _ {s : List ℕ} {n l k : ℕ} (h : HeaderOf s n l k) (five : isOutOfRange s ≡ false) (six : hasBadRecord s ≡ false) where
   layers-few : layerCount s ≤ maxLayers
   layers-few = ranges s five .layers-few
 
@@ -119,40 +116,34 @@ module _ (s : List ℕ) (five : isOutOfRange s ≡ false) (six : hasBadRecord s 
 
   arrows-low : (a : Arrow) → a ∈ arrowsOf s → (a .earlier < layerCount s) × (a .later < layerCount s)
   unfolding arrowsOf
-  arrows-low a k =
-      let w : (r : List ℕ) × r ∈ arrowRecords s × (arrowOf r ≡ a) = Memᴰ·of-map arrowOf (arrowRecords s) k in
+  arrows-low a i =
+      let w : (r : List ℕ) × r ∈ arrowRecords s × (arrowOf r ≡ a) = Memᴰ·of-map arrowOf (arrowRecords s) i in
       subst (λ (b : Arrow). (b .earlier < layerCount s) × (b .later < layerCount s)) (w .2) (both-low (layerCount s) (w .0) (all-at (arrowOk (layerCount s)) arrows-good (w .1)))
 
-  module _ (b : ℕ) (eb : b ≡ u32At s 8) where
-    pub part-good : all (arrowOk maxLayers) (records (take (14 + b - 14) (drop 14 s))) ≡ true
-    part-good =
-        ap (all (arrowOk maxLayers)) (arrow-part s b eb)
-        ∙ passed (all (arrowOk maxLayers) (arrowRecords s)) (all-of (arrowOk maxLayers) (arrowRecords s) (λ r k. wider (layerCount s) r layers-few (all-at (arrowOk (layerCount s)) arrows-good k)))
+  pub part-good : all (arrowOk maxLayers) (records (take (k - 14) (drop 14 s))) ≡ true
+  part-good =
+      ap (all (arrowOk maxLayers)) (arrow-part s k (h .rules-at))
+      ∙ passed (all (arrowOk maxLayers) (arrowRecords s)) (all-of (arrowOk maxLayers) (arrowRecords s) (λ r i. wider (layerCount s) r layers-few (all-at (arrowOk (layerCount s)) arrows-good i)))
 
-    pub seven-is : (t : Bool) → t ≡ repeats (map arrowOf (records (take (14 + b - 14) (drop 14 s)))) → t ≡ repeatsArrow s
-    unfolding repeatsArrow arrowsOf
-    seven-is t e = e ∙ ap (λ (l : List (List ℕ)). repeats (map arrowOf l)) (arrow-part s b eb)
+  pub seven-is : (t : Bool) → t ≡ repeats (map arrowOf (records (take (k - 14) (drop 14 s)))) → t ≡ repeatsArrow s
+  unfolding repeatsArrow arrowsOf
+  seven-is t e = e ∙ ap (λ (rs : List (List ℕ)). repeats (map arrowOf rs)) (arrow-part s k (h .rules-at))
 
-    -- the masks of the arrows, as the code makes them, and their closure
-    module _ (start : List ℕ) (reads : (x y : ℕ) → marked start y x ≡ linked (map arrowOf (records (take (14 + b - 14) (drop 14 s)))) x y) where
-      reads-arrows : (x y : ℕ) → marked start y x ≡ linked (arrowsOf s) x y
-      reads-arrows x y = reads x y ∙ ap (λ (l : List Arrow). linked l x y) (arrows-are s b eb)
+  -- the masks of the arrows, as the code makes them, and their closure
+  module _ (start : List ℕ) (reads : (x y : ℕ) → marked start y x ≡ linked (map arrowOf (records (take (k - 14) (drop 14 s)))) x y) where
+    reads-arrows : (x y : ℕ) → marked start y x ≡ linked (arrowsOf s) x y
+    unfolding arrowsOf
+    reads-arrows x y = reads x y ∙ ap (λ (rs : List (List ℕ)). linked (map arrowOf rs) x y) (arrow-part s k (h .rules-at))
 
-      pub masks-empty : EmptyFrom (layerCount s) start
-      masks-empty = empty-from (arrowsOf s) start reads-arrows (layerCount s) (λ a k. arrows-low a k .1)
+    pub masks-empty : EmptyFrom l start
+    masks-empty = empty-from (arrowsOf s) start reads-arrows l (λ a i. omega (arith, arrows-low a i .1, h .layers-are))
 
-      pub masks-are : (m : List ℕ) → ((i j : ℕ) → Linked m i j → Way start i j) → ((i j : ℕ) → Way start i j → Linked m i j) → LowerMasks (arrowsOf s) m
-      masks-are m = closed (arrowsOf s) start reads-arrows m (λ a k. let h : a .later < layerCount s = arrows-low a k .1 in omega (arith, layers-few))
+    pub masks-are : (m : List ℕ) → ((i j : ℕ) → Linked m i j → Way start i j) → ((i j : ℕ) → Way start i j → Linked m i j) → LowerMasks (arrowsOf s) m
+    masks-are m = closed (arrowsOf s) start reads-arrows m (λ a i. omega (arith, arrows-low a i .1, layers-few))
 
-  -- the number of layers, as the code reads it
-  module _ (n : ℕ) (en : n ≡ getD s 7 0) where
-    pub count-is : n ≡ layerCount s
-    unfolding layerCount
-    count-is = en
+  pub count-few : l ≤ maxLayers
+  count-few = omega (arith, h .layers-are, layers-few)
 
-    pub count-few : n ≤ maxLayers
-    count-few = omega (arith, count-is, layers-few)
-
-    pub eight-is : (m : List ℕ) → LowerMasks (arrowsOf s) m → (t : Bool) → t ≡ any (λ i. marked m i i) (upTo n) → t ≡ hasCycle s
-    unfolding hasCycle
-    eight-is m w t e = e ∙ cycle-is (arrowsOf s) n m w ∙ ap (λ (k : ℕ). any (λ i. below (arrowsOf s) i i) (upTo k)) count-is
+  pub eight-is : (m : List ℕ) → LowerMasks (arrowsOf s) m → (t : Bool) → t ≡ any (λ i. marked m i i) (upTo l) → t ≡ hasCycle s
+  unfolding hasCycle
+  eight-is m w t e = e ∙ cycle-is (arrowsOf s) l m w ∙ ap (λ (x : ℕ). any (λ i. below (arrowsOf s) i i) (upTo x)) (h .layers-are)

@@ -11,7 +11,7 @@ ghost use Rattle.layers.specs.Masks.{marked, LowerMasks};
 ghost use Rattle.format.specs.Book.{records, literalOf, literalsOf, arrowOf, arrowsOf};
 ghost use Rattle.format.specs.Sections.{hasBrokenSection};
 ghost use Rattle.book.specs.Causes.{within, arrowOk, atomBelow, ruleOk, isOutOfRange, hasBadRecord, repeatsArrow, tests, firstOf, verdict};
-ghost use Rattle.book.specs.Checks.{Checks};
+ghost use Rattle.book.specs.Checks.{HeaderOf, Checks};
 ghost use Rattle.book.specs.declared.Verdict.the-variants.{Refused};
 ghost use Rattle.book.specs.Numbers.{numberOf};
 use base::MAX_ARROWS;
@@ -174,39 +174,54 @@ fn outside(low: usize, high: usize, x: usize) -> bool
     high < x
 }
 
-// Cause 5, once the sections are whole.
-pub fn out_of_range(book: &[u8]) -> bool
+// What the header says: the number of facts, the number of layers, and where the rule section starts.
+pub struct Header {
+    pub atoms: usize,
+    pub layers: usize,
+    pub rules: usize,
+}
+
+// Reads the header, once the sections are whole.
+pub fn read_header(book: &[u8]) -> Header
     requires { ⌜ hasBrokenSection (now book) ≡ false ⌝ }
+    ensures { λ r. ⌜ HeaderOf (now (book .entry)) (r .atoms) (r .layers) (r .rules) ⌝ }
+{
+    Header {
+        atoms: be16(book, 5),
+        layers: wide(book[7]),
+        rules: 14 + be32(book, 8),
+    }
+}
+
+// Cause 5.
+pub fn out_of_range(book: &[u8], header: Header) -> bool
+    requires { ⌜ HeaderOf (now book) (header .atoms) (header .layers) (header .rules) ⌝ }
     ensures { λ r. ⌜ r ≡ isOutOfRange (now (book .entry)) ⌝ }
 {
-    let layers = wide(book[7]);
-    let second = 14 + be32(book, 8);
-    if outside(1, MAX_ATOMS, be16(book, 5)) {
+    if outside(1, MAX_ATOMS, header.atoms) {
         return true;
     }
-    if outside(1, MAX_LAYERS, layers) {
+    if outside(1, MAX_LAYERS, header.layers) {
         return true;
     }
     if outside(0, MAX_ARROWS, be16(book, 12)) {
         return true;
     }
-    outside(0, MAX_RULES, be16(book, second + 4))
+    outside(0, MAX_RULES, be16(book, header.rules + 4))
 }
 
-// Cause 6, once the sections are whole.
-pub fn bad_record(book: &[u8]) -> bool
-    requires { ⌜ hasBrokenSection (now book) ≡ false ⌝ }
+// Cause 6.
+pub fn bad_record(book: &[u8], header: Header) -> bool
+    requires { ⌜ HeaderOf (now book) (header .atoms) (header .layers) (header .rules) ⌝ }
     ensures { λ r. ⌜ r ≡ hasBadRecord (now (book .entry)) ⌝ }
 {
-    let layers = wide(book[7]);
-    let atoms = be16(book, 5);
-    let second = 14 + be32(book, 8);
-    if !arrows_ok(&book[14..second], layers) {
+    let second = header.rules;
+    if !arrows_ok(&book[14..second], header.layers) {
         return true;
     }
     let from = second + 6;
     let to = book.len();
-    !rules_ok(&book[from..to], layers, atoms)
+    !rules_ok(&book[from..to], header.layers, header.atoms)
 }
 
 // Whether two arrow records are equal: each arrow is looked up in the masks of those before it.
@@ -244,23 +259,22 @@ fn arrow_masks(part: &[u8]) -> [u32; MAX_LAYERS]
     m
 }
 
-// Cause 7, once causes 4 to 6 are ruled out.
-pub fn repeated_arrow(book: &[u8]) -> bool
-    requires { ⌜ (hasBrokenSection (now book) ≡ false) × (isOutOfRange (now book) ≡ false) × (hasBadRecord (now book) ≡ false) ⌝ }
+// Cause 7, once causes 5 and 6 are ruled out.
+pub fn repeated_arrow(book: &[u8], header: Header) -> bool
+    requires { ⌜ HeaderOf (now book) (header .atoms) (header .layers) (header .rules) × (isOutOfRange (now book) ≡ false) × (hasBadRecord (now book) ≡ false) ⌝ }
     ensures { λ r. ⌜ r ≡ repeatsArrow (now (book .entry)) ⌝ }
 {
-    let second = 14 + be32(book, 8);
+    let second = header.rules;
     repeated(&book[14..second])
 }
 
-// Each layer's mask of the layers below it, once causes 4 to 6 are ruled out: the closure of the arrows.
-fn lower_masks(book: &[u8]) -> [u32; MAX_LAYERS]
-    requires { ⌜ (hasBrokenSection (now book) ≡ false) × (isOutOfRange (now book) ≡ false) × (hasBadRecord (now book) ≡ false) ⌝ }
+// Each layer's mask of the layers below it, once causes 5 and 6 are ruled out: the closure of the arrows.
+fn lower_masks(book: &[u8], header: Header) -> [u32; MAX_LAYERS]
+    requires { ⌜ HeaderOf (now book) (header .atoms) (header .layers) (header .rules) × (isOutOfRange (now book) ≡ false) × (hasBadRecord (now book) ≡ false) ⌝ }
     ensures { λ r. ⌜ LowerMasks (arrowsOf (now (book .entry))) r ⌝ }
 {
-    let layers = wide(book[7]);
-    let second = 14 + be32(book, 8);
-    layers::transitive_closure(arrow_masks(&book[14..second]), layers)
+    let second = header.rules;
+    layers::transitive_closure(arrow_masks(&book[14..second]), header.layers)
 }
 
 // The verdict on a book and, where it is accepted, each layer's mask of the layers below it: the test of cause 8 needs these
@@ -281,16 +295,15 @@ fn refused(cause: Cause) -> Checked
 }
 
 // The tests from cause 7 on.
-fn check_arrows(book: &[u8]) -> Checked
-    requires { ⌜ (hasBrokenSection (now book) ≡ false) × (isOutOfRange (now book) ≡ false) × (hasBadRecord (now book) ≡ false) ⌝ }
+fn check_arrows(book: &[u8], header: Header) -> Checked
+    requires { ⌜ HeaderOf (now book) (header .atoms) (header .layers) (header .rules) × (isOutOfRange (now book) ≡ false) × (hasBadRecord (now book) ≡ false) ⌝ }
     ensures { λ r. ⌜ Checks (firstOf (drop 6 (tests (now (book .entry))))) (now (book .entry)) (r .verdict) (r .lower) ⌝ }
 {
-    if repeated_arrow(book) {
+    if repeated_arrow(book, header) {
         return refused(Cause::RepeatedArrow);
     }
-    let layers = wide(book[7]);
-    let lower = lower_masks(book);
-    if layers::has_cycle(&lower, layers) {
+    let lower = lower_masks(book, header);
+    if layers::has_cycle(&lower, header.layers) {
         return refused(Cause::Cycle);
     }
     Checked {
@@ -306,13 +319,14 @@ fn check_sections(book: &[u8]) -> Checked
     if broken_section(book) {
         return refused(Cause::BrokenSection);
     }
-    if out_of_range(book) {
+    let header = read_header(book);
+    if out_of_range(book, header) {
         return refused(Cause::OutOfRange);
     }
-    if bad_record(book) {
+    if bad_record(book, header) {
         return refused(Cause::BadRecord);
     }
-    check_arrows(book)
+    check_arrows(book, header)
 }
 
 // Accepted, with the masks, or refused for the first of causes 1 to 8 that applies.

@@ -9,7 +9,7 @@ ghost use Rattle.table.specs.Table.{Tabulates};
 ghost use Rattle.table.specs.Tabled.{tabled};
 ghost use Rattle.branching.specs.Marks.{BodyMarked, BranchingMarks, Listed};
 use base::MAX_ATOMS;
-use base::wide;
+use format::literal_value;
 use table::ROW_SIZE;
 use table::row_body;
 use table::row_overridden;
@@ -34,7 +34,7 @@ fn mark_body(body: &[u8], rejecting: bool, marks: &mut [bool])
 {
     let mut i: usize = 0;
     while 2 <= body.len() - i {
-        let v = wide(body[i]) * 256 + wide(body[i + 1]);
+        let v = literal_value(body[i], body[i + 1]);
         if branches(v, rejecting) {
             marks[v % 32768] = true;
         }

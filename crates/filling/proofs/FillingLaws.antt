@@ -1,5 +1,5 @@
 -- Two arrays of marks, filled by passes over the rows until nothing is added: what a pass keeps, and that all that follows is
--- marked at the end. Used by pass, fill_on and fill, and by the search, which goes on from marks in hand. Assumes nothing.
+-- marked at the end. Used by pass_over_rows, fill_on and fill, and by the search, which goes on from marks in hand. Assumes nothing.
 use mathlib.Core.Path.{_≡_, refl, sym, subst, _∙_}
 use mathlib.Core.Bool.{Bool, true, false, not, _&&_, cond, true≢false}
 use mathlib.Core.List.{List}
@@ -14,12 +14,12 @@ use Rattle.format.specs.Book.{Literal, Rule}
 use Rattle.models.specs.StableModels.{atomHolds, complement}
 use Rattle.base.proofs.Members.{and-both, all-of}
 use Rattle.table.specs.Names.{literalNamed}
-use Rattle.table.specs.Rows.{rowCount, headName, rowAt}
+use Rattle.table.specs.Rows.{rowCount, headName, rowAt, alive}
 use Rattle.table.proofs.NameLaws.{name-low, name-high}
 use Rattle.table.proofs.RowLaws.{row-of}
 use Rattle.filling.proofs.MarkLaws.{blank}
 use Rattle.filling.proofs.GrowingLaws.{OneMore, one-low, one-high, opposite-free, grown-none, grown-both, grown-one, SoundMarks, grown-sound, head-follows}
-use Rattle.filling.specs.Marks.{literalMarked, alive, adds, FollowsFrom, from-start, by-row, Apart, Conflict, Grown, falses, Closed, PassEnd, FilledOn, Fills}
+use Rattle.filling.specs.Marks.{literalMarked, adds, FollowsFrom, from-start, by-row, Apart, Conflict, Grown, falses, Closed, PassEnd, FilledOn, Fills}
 
 module _ (book rows rejects : List ℕ) where
   -- a pass that began with p₀ and q₀ has come to row j

@@ -14,11 +14,11 @@ use Rattle.format.specs.Book.{Literal}
 use Rattle.models.specs.StableModels.{atomHolds, positive, negative, complement}
 use Rattle.base.proofs.Members.{and-left, and-right, all-at}
 use Rattle.table.specs.Names.{literalNamed}
-use Rattle.table.specs.Rows.{rowCount, headName, rowAt}
+use Rattle.table.specs.Rows.{rowCount, headName, rowAt, alive}
 use Rattle.table.proofs.NameLaws.{name-low, name-high, complement-twice}
 use Rattle.table.proofs.RowLaws.{row-in}
 use Rattle.filling.proofs.MarkLaws.{set-only, set-keeps}
-use Rattle.filling.specs.Marks.{literalMarked, alive, adds, FollowsFrom, by-row, Apart, Grown, falses}
+use Rattle.filling.specs.Marks.{literalMarked, adds, FollowsFrom, by-row, Apart, Grown, falses}
 
 falses-set : (l : List Bool) (i : ℕ) → i < length l → getD l i false ≡ false → falses (set l i true) + 1 ≡ falses l
 unfolding falses

@@ -1,29 +1,26 @@
 -- Marks of names, of literals of two bytes and of rows, as the code reads them: a row adds its head where its three tests say so, and a
 -- literal of its body that is not marked, the watched one or another, keeps it from it. Used by name_marked, literal_marked,
--- body_marked, row_alive and row_adds. Assumes nothing.
+-- body_marked and row_adds. Assumes nothing.
 use mathlib.Core.Path.{_≡_, refl, sym, ap, subst, _∙_}
 use mathlib.Core.Bool.{Bool, true, false, not, _&&_, cond}
 use mathlib.Core.Logic.{_⊎_, inl, inr}
 use mathlib.Core.List.{List, [], _∷_}
-use Prim.Native.Nat.{ℕ, zero, suc, _+_, _*_, _-_, _%_, _/_, _^_, _<_, _≤_}
+use Prim.Native.Nat.{ℕ, zero, suc, _+_, _*_, _-_, _%_, _/_, _<_, _≤_}
 use native.Mathlib.Decide.{ℕ-discrete}
 use native.Mathlib.Omega.{arith}
 use borrow.Author.Tests.{le-leb, lt-leb, not-true, not-false}
-use lib.Bits.{bitAnd}
-use lib.Dec.{T, eqb, leb}
+use lib.Dec.{T, leb}
 use lib.ListN.{length, getD, set, replicate, List·getD-eq-default}
 use lib.Seq.{getD-set-same, getD-set-other}
 use Rattle.base.specs.Bounds.{maxAtoms}
 use Rattle.base.specs.Lists.{all}
 use Rattle.base.proofs.MapLaws.{constant-at}
-use Rattle.layers.specs.Masks.{bitOf}
 use Rattle.format.specs.Book.{Literal, literalOf, literalsOf}
 use Rattle.models.specs.StableModels.{atomHolds}
-use Rattle.layers.proofs.WarshallLaws.{test-bit}
 use Rattle.table.specs.Names.{literalNamed}
-use Rattle.table.specs.Rows.{headName, rowLayer, rowAt}
-use Rattle.table.proofs.NameLaws.{name-low, name-high, name-back}
-use Rattle.filling.specs.Marks.{literalMarked, alive, adds}
+use Rattle.table.specs.Rows.{headName, rowAt, alive}
+use Rattle.table.proofs.NameLaws.{name-low, name-high}
+use Rattle.filling.specs.Marks.{literalMarked, adds}
 
 -- no mark is set yet
 pub blank : (n i : ℕ) → getD {A = Bool} (replicate n false) i false ≡ false
@@ -73,14 +70,6 @@ module _ (p q : List Bool) where
     pub plain-marked : v < 32768 → getD p (v % 32768) false ≡ literalMarked p q (literalOf a b)
     unfolding literalMarked literalOf atomHolds
     plain-marked h = rw (← e, lt-leb 32768 v h) refl
-
-module _ (book rows rejects : List ℕ) (j h i : ℕ) (p : h ≡ headName rows j) (q : i ≡ rowLayer rows j) where
-  pub alive-bit : alive rejects (rowAt book rows j) ≡ not (eqb (bitAnd (getD rejects h 0 / 2 ^ i) 1) 1)
-  unfolding alive rowAt
-  alive-bit =
-      ap (λ (x : ℕ). not (eqb (bitOf (getD rejects x 0) (rowLayer rows j)) 1)) (name-back (headName rows j) ∙ sym p)
-      ∙ ap (λ (y : ℕ). not (eqb (bitOf (getD rejects h 0) y) 1)) (sym q)
-      ∙ ap (λ (z : ℕ). not (eqb z 1)) (sym (test-bit (getD rejects h 0) i))
 
 -- the tests of a row, one after the other: its head, whether it is alive, its body
 module _ (p q : List Bool) (book rows rejects : List ℕ) (j h : ℕ) (e : h ≡ headName rows j) (r : Bool) (er : r ≡ literalMarked p q (literalNamed h)) where

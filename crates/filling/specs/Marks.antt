@@ -4,15 +4,12 @@ use mathlib.Core.Path.{_≡_}
 use mathlib.Core.Bool.{Bool, true, false, not, _&&_, cond}
 use mathlib.Core.List.{List, [], _∷_, List·Memᴰ}
 use Prim.Native.Nat.{ℕ, _+_, _*_, _<_, _≤_}
-use lib.Dec.{T, eqb}
-use lib.ListN.{getD}
+use lib.Dec.{T}
 use Rattle.base.specs.Bounds.{maxAtoms, maxNames, maxRules}
 use Rattle.base.specs.Lists.{all}
-use Rattle.layers.specs.Masks.{bitOf}
 use Rattle.format.specs.Book.{Literal, Rule}
 use Rattle.models.specs.StableModels.{atomHolds, positive, negative, complement}
-use Rattle.table.specs.Names.{nameOf}
-use Rattle.table.specs.Rows.{rowCount, rowAt, rowsOf}
+use Rattle.table.specs.Rows.{rowCount, rowAt, rowsOf, alive}
 
 -- entries of the hints, which one filling leaves for the next: the literal that each row watches, then the trail
 abbrev pub hintSize : ℕ
@@ -25,10 +22,6 @@ linkSize = maxNames + maxRules
 -- the mark of a literal: the first array is for facts, the second for negations
 unfoldable pub literalMarked : List Bool → List Bool → Literal → Bool
 literalMarked p q l = atomHolds (cond (l .negated) q p) (l .atom)
-
--- a rule is alive unless its layer's bit is set in the mask at its head's name
-unfoldable pub alive : List ℕ → Rule → Bool
-alive rejects r = not (eqb (bitOf (getD rejects (nameOf (r .head)) 0) (r .layer)) 1)
 
 -- a rule adds its head: it is not marked, the rule is alive and its body is marked
 unfoldable pub adds : List Bool → List Bool → List ℕ → Rule → Bool

@@ -3,14 +3,14 @@
 // `hints` is what one filling leaves for the next: the literal that each row watches, then the trail. Nothing rests on it but speed, so
 // contracts say of it only how long it is.
 ghost use mathlib.Core.Path.{_≡_};
-ghost use Prim.Native.Nat.{_<_, _≤_};
+ghost use Prim.Native.Nat.{_<_};
 ghost use lib.ListN.{length};
 ghost use Rattle.base.specs.Bounds.{maxAtoms, maxNames, maxRules};
 ghost use Rattle.base.specs.Lists.{all};
 ghost use Rattle.format.specs.Book.{literalOf, literalsOf};
 ghost use Rattle.table.specs.Names.{literalNamed};
 ghost use Rattle.table.specs.Rows.{rowCount, rowAt, RowsFit};
-ghost use Rattle.filling.specs.Marks.{hintSize, linkSize, literalMarked, alive, adds, Grown, PassEnd, FilledOn, Fills};
+ghost use Rattle.filling.specs.Marks.{hintSize, linkSize, literalMarked, adds, Grown, PassEnd, FilledOn, Fills};
 use base::MAX_ATOMS;
 use base::MAX_BODY;
 use base::MAX_NAMES;
@@ -19,9 +19,9 @@ use base::wide16;
 use format::literal_value;
 use table::ROW_SIZE;
 use table::opposite;
+use table::row_alive;
 use table::row_body;
 use table::row_head;
-use table::row_layer;
 
 // Entries of the hints: the number of the literal that each row watches, then the trail, whose count stands at MAX_RULES.
 pub const HINTS: usize = 2 * MAX_RULES;
@@ -81,18 +81,6 @@ fn body_marked(positive: &[bool], negative: &[bool], body: &[u8], watch: usize) 
         i += 2;
     }
     true
-}
-
-// Whether a row is alive: its layer's bit is not set in the mask at its head's name.
-pub fn row_alive(book: &[u8], rows: &[u16], rejects: &[u32], j: usize) -> bool
-    requires { ⌜ RowsFit (now book) (now rows) ⌝ }
-    requires { ⌜ length (now rejects) ≡ maxNames ⌝ }
-    requires { ⌜ j < rowCount (now rows) ⌝ }
-    ensures { λ r. ⌜ r ≡ alive (now (rejects .entry)) (rowAt (now (book .entry)) (now (rows .entry)) j) ⌝ }
-{
-    let h = row_head(rows, j);
-    let layer = row_layer(rows, j);
-    (rejects[h] >> (layer as u32)) & 1 != 1
 }
 
 // The number of the literal that a row watches: the one that it last waited for. The whole body is tested where it is marked.
@@ -404,7 +392,7 @@ pub struct PassResult {
 }
 
 // One pass over the rows: marks the head of each that adds it, until a fact is reached both ways.
-fn pass(
+fn pass_over_rows(
     book: &[u8],
     rows: &[u16],
     rejects: &[u32],
@@ -475,7 +463,7 @@ pub fn fill_on(
     let mut added = true;
     let mut first = true;
     while added {
-        let end = pass(book, rows, rejects, &mut positive, &mut negative, hints);
+        let end = pass_over_rows(book, rows, rejects, &mut positive, &mut negative, hints);
         if end.conflict {
             return Marks {
                 positive,

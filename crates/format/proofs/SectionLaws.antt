@@ -61,31 +61,25 @@ module _ (s : List ℕ) where
     unfolding hasBrokenSection sectionEnd sectionBytes
     four-end f d g = sym (rw (t, ← second-is, f, ← g) refl)
 
--- what follows where cause 4 does not apply
+-- what follows where cause 4 does not apply: the fields are there, and the rule section ends the book
 pub record Laid (s : List ℕ) : Type 0 where
-  pub first-in : 14 + u32At s 8 ≤ length s
-  pub second-in : 14 + u32At s 8 + 6 + u32At s (14 + u32At s 8) ≡ length s
+  pub first-in : 14 ≤ ruleSection s
+  pub second-in : ruleSection s + 6 + sectionBytes s (ruleSection s) ≡ length s
 
-module _ (s : List ℕ) (e : hasBrokenSection s ≡ false) where
-  first-whole : wholeSection s 8 ≡ true
-  unfolding hasBrokenSection
-  first-whole = not-false (wholeSection s 8) (or-first (not (wholeSection s 8)) (not (wholeSection s (ruleSection s))) (or-first (not (wholeSection s 8) || not (wholeSection s (ruleSection s))) (not (eqb (sectionEnd s (ruleSection s)) (length s))) e))
-
-  end-meets : sectionEnd s (ruleSection s) ≡ length s
-  unfolding hasBrokenSection
-  end-meets = eqb-true (sectionEnd s (ruleSection s)) (length s) (not-false (eqb (sectionEnd s (ruleSection s)) (length s)) (or-second (not (wholeSection s 8) || not (wholeSection s (ruleSection s))) (not (eqb (sectionEnd s (ruleSection s)) (length s))) e))
-
-  pub laid : Laid s
-  unfolding sectionEnd sectionBytes ruleSection
-  laid = record { first-in = section-inside s 8 first-whole; second-in = end-meets }
+pub laid : (s : List ℕ) → hasBrokenSection s ≡ false → Laid s
+unfolding hasBrokenSection ruleSection sectionEnd
+laid s e = record {
+  first-in = omega arith;
+  second-in = eqb-true (sectionEnd s (ruleSection s)) (length s) (not-false (eqb (sectionEnd s (ruleSection s)) (length s)) (or-second (not (wholeSection s 8) || not (wholeSection s (ruleSection s))) (not (eqb (sectionEnd s (ruleSection s)) (length s))) e));
+}
 
 -- the two parts, as the code cuts them
-module _ (s : List ℕ) (b : ℕ) (eb : b ≡ u32At s 8) where
-  pub arrow-part : records (take (14 + b - 14) (drop 14 s)) ≡ arrowRecords s
-  unfolding arrowRecords sectionRecords sectionBytes
-  arrow-part = ap (λ (k : ℕ). records (take k (drop 14 s))) {x = 14 + b - 14} {y = u32At s 8} (omega arith)
+module _ (s : List ℕ) (k : ℕ) (ek : k ≡ ruleSection s) where
+  pub arrow-part : records (take (k - 14) (drop 14 s)) ≡ arrowRecords s
+  unfolding arrowRecords sectionRecords ruleSection sectionEnd
+  arrow-part = ap (λ (i : ℕ). records (take i (drop 14 s))) {x = k - 14} {y = sectionBytes s 8} (omega arith)
 
-  pub rule-part : Laid s → records (take (length s - (14 + b + 6)) (drop (14 + b + 6) s)) ≡ ruleRecords s
-  unfolding ruleRecords sectionRecords sectionBytes ruleSection sectionEnd
+  pub rule-part : Laid s → records (take (length s - (k + 6)) (drop (k + 6) s)) ≡ ruleRecords s
+  unfolding ruleRecords sectionRecords
   rule-part w =
-      rw eb (ap (λ (k : ℕ). records (take k (drop (14 + u32At s 8 + 6) s))) {x = length s - (14 + u32At s 8 + 6)} {y = u32At s (14 + u32At s 8)} (omega (arith, w .second-in)))
+      rw ek (ap (λ (i : ℕ). records (take i (drop (ruleSection s + 6) s))) {x = length s - (ruleSection s + 6)} {y = sectionBytes s (ruleSection s)} (omega (arith, w .second-in)))

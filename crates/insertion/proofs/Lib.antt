@@ -3,4 +3,4 @@ pub mod SortedLaws
 pub mod Once
 pub mod MoveLaws
 pub mod RunLaws
-pub mod LeastLaws
+pub mod KeptLaws

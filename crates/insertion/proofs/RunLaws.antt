@@ -1,5 +1,5 @@
 -- The two runs as a list of records of one width, and what a record written at the gap makes of it: the proof of `insert`
--- cites `inserted`; LeastLaws and the crates above start from `held-none`. Assumes nothing.
+-- cites `inserted`; KeptLaws and the crates above start from `held-none`. Assumes nothing.
 use mathlib.Core.Path.{_≡_, refl, sym, ap, ap₂, subst, _∙_}
 use mathlib.Core.Logic.{_⊎_, inl, inr}
 use mathlib.Core.Bool.{true, false}

@@ -16,9 +16,8 @@ use Rattle.layers.proofs.BitLaws.{or-left, or-right, some-bit}
 use Rattle.format.specs.Book.{Literal}
 use Rattle.models.specs.StableModels.{positive, negative, complement}
 use Rattle.table.specs.Names.{literalNamed}
-use Rattle.table.specs.Rows.{rowCount, headName, rowAt, overridden}
+use Rattle.table.specs.Rows.{rowCount, headName, rowAt, overridden, alive}
 use Rattle.table.proofs.NameLaws.{name-low, name-high, one-name}
-use Rattle.filling.specs.Marks.{alive}
 use Rattle.setting.specs.RuleMasks.{AtomBits, BodyMasked}
 use Rattle.setting.proofs.BitMaskLaws.{joined-keeps, joined-has}
 use Rattle.nogoods.specs.Nogoods.{maxNogoods, Rejectable, Within, AllWithin, NogoodOf, NogoodsTo, Nogoods, withNogood, NogoodPut, no-nogood, one-nogood}

@@ -13,8 +13,7 @@ use Rattle.layers.specs.Masks.{bitOf}
 use Rattle.format.specs.Book.{Literal}
 use Rattle.models.specs.StableModels.{complement}
 use Rattle.table.specs.Names.{literalNamed}
-use Rattle.table.specs.Rows.{rowCount, headName, rowAt, overridden}
-use Rattle.filling.specs.Marks.{alive}
+use Rattle.table.specs.Rows.{rowCount, headName, rowAt, overridden, alive}
 use Rattle.setting.specs.RuleMasks.{AtomBits}
 
 -- nogoods that a plan has room for
@@ -66,8 +65,8 @@ pub data NogoodPut (masks : List ℕ) (made standing denied : ℕ) (whole : Bool
   no-nogood : NogoodPut masks made standing denied whole masks made
   one-nogood : whole ≡ true → made < maxNogoods → NogoodPut masks made standing denied whole (withNogood masks made standing denied) (made + 1)
 
--- all that an entry has is decided so
-pub record Met (masks : List ℕ) (n standing denied : ℕ) : Type 0 where
+-- a nogood is violated: all that it has is decided so
+pub record Violated (masks : List ℕ) (n standing denied : ℕ) : Type 0 where
   pub place : ℕ
   pub before : place < n
   pub stand : bitAnd (getD masks (2 * place) 0) standing ≡ getD masks (2 * place) 0

@@ -7,14 +7,14 @@ ghost use lib.ListN.{length};
 ghost use Rattle.base.specs.Bounds.{maxNames};
 ghost use Rattle.table.specs.Rows.{rowCount, rowAt, RowsBounded, RowsFit};
 ghost use Rattle.setting.specs.RuleMasks.{BodyMasked};
-ghost use Rattle.nogoods.specs.Nogoods.{maxNogoods, Rejectable, NogoodOf, NogoodPut, Met};
+ghost use Rattle.nogoods.specs.Nogoods.{maxNogoods, Rejectable, NogoodOf, NogoodPut, Violated};
 use base::MAX_ATOMS;
 use base::MAX_NAMES;
-use filling::row_alive;
 use setting::BodyMasks;
 use setting::bits_of;
 use table::ROW_SIZE;
 use table::opposite;
+use table::row_alive;
 use table::row_head;
 use table::row_overridden;
 
@@ -110,7 +110,7 @@ pub fn put_nogood(masks: &mut [u32], made: usize, nogood: Nogood) -> usize
 
 // Whether all that some nogood has is decided so.
 pub fn has_nogood(masks: &[u32], standing: u32, denied: u32) -> bool
-    ensures { λ r. ⌜ (r ≡ true → Met (now (masks .entry)) (length (now (masks .entry)) / 2) standing denied) ⌝ }
+    ensures { λ r. ⌜ (r ≡ true → Violated (now (masks .entry)) (length (now (masks .entry)) / 2) standing denied) ⌝ }
 {
     let count = masks.len() / 2;
     let mut k = 0;

@@ -14,7 +14,7 @@ use Rattle.insertion.specs.Runs.{bytesBefore, Held}
 use Rattle.insertion.specs.Sorted.{insertAll}
 use Rattle.insertion.proofs.SortedLaws.{insertAll-length, insertAll-map}
 use Rattle.insertion.proofs.RunLaws.{held-none}
-use Rattle.insertion.proofs.LeastLaws.{held-length}
+use Rattle.insertion.proofs.KeptLaws.{held-length}
 use Rattle.models.specs.StableModels.{Interpretation}
 use Rattle.models.specs.Listing.{recordSize, recordOf, be16, be32, listingOf}
 use Rattle.records.specs.Written.{LeastFor, before, sorted}

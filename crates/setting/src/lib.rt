@@ -11,9 +11,8 @@ ghost use Rattle.table.specs.Rows.{rowCount, rowAt, RowsFit};
 ghost use Rattle.setting.specs.Setting.{settingOf};
 ghost use Rattle.setting.specs.RuleMasks.{Low, AtomBits, BodyMasked, RulePut, Headed};
 use base::MAX_ATOMS;
-use base::wide;
+use format::literal_value;
 use table::row_body;
-use table::row_head;
 
 // The i-th branching fact, as an index.
 pub fn atom_at(atoms: &[u32], i: usize) -> usize
@@ -65,7 +64,7 @@ fn body_masks(bits: &[u32], body: &[u8]) -> BodyMasks
     let mut whole = true;
     let mut i: usize = 0;
     while 2 <= body.len() - i {
-        let v = wide(body[i]) * 256 + wide(body[i + 1]);
+        let v = literal_value(body[i], body[i + 1]);
         let bit = bits_of(bits, v % 32768);
         if bit == 0 {
             whole = false;

@@ -51,19 +51,15 @@ pub one-name : (h o : ℕ) → literalNamed h ≡ literalNamed o → h ≡ o
 one-name h o e = sym (name-back h) ∙ ap nameOf e ∙ name-back o
 
 -- the name of two bytes: their value, or what it is above 32,768 and the bound on facts
-pub name-plain : (a b : ℕ) → a * 256 + b < 32768 → literalOf a b .atom < maxAtoms → (literalNamed (a * 256 + b) ≡ literalOf a b) × (a * 256 + b < maxNames)
-unfolding literalOf
-name-plain a b h f =
-    let e : a * 256 + b ≡ (a * 256 + b) % 32768 = omega arith in
-    (name-low (a * 256 + b) (omega arith)
-    ∙ ap positive e
-    ∙ ap (λ (c : Bool). record { atom = (a * 256 + b) % 32768; negated = c }) (sym (lt-leb 32768 (a * 256 + b) h)), omega arith)
+module _ (a b v : ℕ) (e : v ≡ a * 256 + b) (f : literalOf a b .atom < maxAtoms) where
+  pub name-plain : v < 32768 → (literalNamed v ≡ literalOf a b) × (v < maxNames)
+  unfolding literalOf
+  name-plain h =
+      let u : v ≡ v % 32768 = omega arith in
+      (rw (← e, lt-leb 32768 v h) (name-low v (omega (arith, f, e)) ∙ ap positive u), omega (arith, f, e))
 
-pub name-negated : (a b : ℕ) → 32768 ≤ a * 256 + b → a * 256 + b < 65536 → literalOf a b .atom < maxAtoms
-    → (literalNamed (a * 256 + b - 32768 + maxAtoms) ≡ literalOf a b) × (a * 256 + b - 32768 + maxAtoms < maxNames)
-unfolding literalOf
-name-negated a b h k f =
-    let e : a * 256 + b - 32768 + maxAtoms - maxAtoms ≡ (a * 256 + b) % 32768 = omega arith in
-    (name-high (a * 256 + b - 32768 + maxAtoms) (omega arith)
-    ∙ ap negative e
-    ∙ ap (λ (c : Bool). record { atom = (a * 256 + b) % 32768; negated = c }) (sym (le-leb 32768 (a * 256 + b) h)), omega arith)
+  pub name-negated : 32768 ≤ v → v < 65536 → (literalNamed (v - 32768 + maxAtoms) ≡ literalOf a b) × (v - 32768 + maxAtoms < maxNames)
+  unfolding literalOf
+  name-negated h k =
+      let u : v - 32768 + maxAtoms - maxAtoms ≡ v % 32768 = omega arith in
+      (rw (← e, le-leb 32768 v h) (name-high (v - 32768 + maxAtoms) (omega arith) ∙ ap negative u), omega (arith, f, e))

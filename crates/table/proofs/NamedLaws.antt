@@ -51,6 +51,7 @@ module _ {P : Program} {book rows : List ℕ} (w : Tabulates P book rows) where
 
     pub overrides-named : T (overrides P (rowAt book rows j) r) → (bitOf (overridden rows j) (r .layer) ≡ 1) × (rowAt book rows j .head ≡ complement (r .head))
     overrides-named o =
-        let t : T (eqb (bitOf (overridden rows j) (r .layer)) 1 && sameLiteral (rowAt book rows j .head) (complement (r .head))) = subst T (sym exactly) o in
-        (eqb→eq (bitOf (overridden rows j) (r .layer)) 1 (and-left (eqb (bitOf (overridden rows j) (r .layer)) 1) (sameLiteral (rowAt book rows j .head) (complement (r .head))) t),
-        literal-same (rowAt book rows j .head) (complement (r .head)) (and-right (eqb (bitOf (overridden rows j) (r .layer)) 1) (sameLiteral (rowAt book rows j .head) (complement (r .head))) t))
+        let t : T (eqb (bitOf (overridden rows j) (r .layer)) 1 && sameLiteral (rowAt book rows j .head) (complement (r .head))) = subst T (sym exactly) o in (
+          eqb→eq (bitOf (overridden rows j) (r .layer)) 1 (and-left (eqb (bitOf (overridden rows j) (r .layer)) 1) (sameLiteral (rowAt book rows j .head) (complement (r .head))) t),
+          literal-same (rowAt book rows j .head) (complement (r .head)) (and-right (eqb (bitOf (overridden rows j) (r .layer)) 1) (sameLiteral (rowAt book rows j .head) (complement (r .head))) t),
+        )

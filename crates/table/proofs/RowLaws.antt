@@ -1,17 +1,23 @@
--- Rows and the rules that they stand for: which rules are there, a row's body as the code cuts it, and when two rows are the same.
+-- Rows and the rules that they stand for: which rules are there, a row's body as the code cuts it, whether it is alive, and when two rows are the same.
 -- Used by every loop over rows. Assumes nothing.
-use mathlib.Core.Path.{_≡_, ap, subst, _∙_}
+use mathlib.Core.Path.{_≡_, sym, ap, subst, _∙_}
+use mathlib.Core.Bool.{not}
 use mathlib.Core.List.{List, map, Memᴰ·map, Memᴰ·of-map}
-use Prim.Native.Nat.{ℕ, _+_, _*_, _-_, _/_, _<_}
+use Prim.Native.Nat.{ℕ, _+_, _*_, _-_, _/_, _^_, _<_}
 use native.Mathlib.Omega.{arith}
+use lib.Bits.{bitAnd}
+use lib.Dec.{eqb}
 use lib.ListN.{getD, take, drop}
 use Rattle.base.specs.Lists.{upTo}
+use Rattle.layers.specs.Masks.{bitOf}
 use Rattle.format.specs.Book.{Rule, literalsOf}
 use Rattle.base.proofs.Members.{_∈_}
 use Rattle.base.proofs.MapLaws.{map-same}
 use Rattle.base.proofs.UpTo.{upTo-lt, upTo-has}
+use Rattle.layers.proofs.WarshallLaws.{test-bit}
 use Rattle.table.specs.Names.{literalNamed}
-use Rattle.table.specs.Rows.{rowSize, rowCount, rowAt, rowsOf, RowsBounded, RowsFit, SameRules}
+use Rattle.table.specs.Rows.{rowSize, rowCount, headName, rowLayer, rowAt, alive, rowsOf, RowsBounded, RowsFit, SameRules}
+use Rattle.table.proofs.NameLaws.{name-back}
 
 module _ (book rows : List ℕ) where
   pub row-in : (j : ℕ) → j < rowCount rows → rowAt book rows j ∈ rowsOf book rows
@@ -30,6 +36,15 @@ module _ (book rows : List ℕ) where
   body-part j a e p q =
       ap (λ (k : ℕ). take k (drop a book)) {x = a + e - a} {y = getD rows (rowSize * j + 1) 0} (omega (arith, q))
       ∙ ap (λ (k : ℕ). take (getD rows (rowSize * j + 1) 0) (drop k book)) p
+
+-- the bit that the code tests says whether a row is alive: a row's head has one name
+module _ (book rows rejects : List ℕ) (j h i : ℕ) (p : h ≡ headName rows j) (q : i ≡ rowLayer rows j) where
+  pub alive-bit : alive rejects (rowAt book rows j) ≡ not (eqb (bitAnd (getD rejects h 0 / 2 ^ i) 1) 1)
+  unfolding alive rowAt
+  alive-bit =
+      ap (λ (x : ℕ). not (eqb (bitOf (getD rejects x 0) (rowLayer rows j)) 1)) (name-back (headName rows j) ∙ sym p)
+      ∙ ap (λ (y : ℕ). not (eqb (bitOf (getD rejects h 0) y) 1)) (sym q)
+      ∙ ap (λ (z : ℕ). not (eqb z 1)) (sym (test-bit (getD rejects h 0) i))
 
 -- rows stand for the same rule where the first four of their numbers are the same
 pub row-same : (book rows other : List ℕ) (j : ℕ) → ((c : ℕ) → c < 4 → getD rows (rowSize * j + c) 0 ≡ getD other (rowSize * j + c) 0) → rowAt book rows j ≡ rowAt book other j

@@ -1,6 +1,6 @@
 -- The rows of the table: six numbers a rule, one rule after the other. Assumes nothing.
 use mathlib.Core.Path.{_≡_}
-use mathlib.Core.Bool.{Bool}
+use mathlib.Core.Bool.{Bool, not}
 use mathlib.Core.List.{List, map}
 use Prim.Native.Nat.{ℕ, _+_, _*_, _/_, _%_, _<_, _≤_}
 use lib.Dec.{eqb}
@@ -9,7 +9,7 @@ use Rattle.base.specs.Bounds.{maxNames, maxLayers}
 use Rattle.base.specs.Lists.{upTo}
 use Rattle.layers.specs.Masks.{bitOf}
 use Rattle.format.specs.Book.{Rule, literalsOf}
-use Rattle.table.specs.Names.{literalNamed}
+use Rattle.table.specs.Names.{literalNamed, nameOf}
 
 -- numbers of a row
 abbrev pub rowSize : ℕ
@@ -72,3 +72,7 @@ pub record SameRules (rows other : List ℕ) : Type 0 where
 -- a rule whose layer is in the mask
 unfoldable pub inMask : ℕ → Rule → Bool
 inMask mask r = eqb (bitOf mask (r .layer)) 1
+
+-- a rule is alive unless its layer's bit is set in the mask at its head's name
+unfoldable pub alive : List ℕ → Rule → Bool
+alive rejects r = not (eqb (bitOf (getD rejects (nameOf (r .head)) 0) (r .layer)) 1)

@@ -8,7 +8,7 @@ ghost use Rattle.base.specs.Lists.{all};
 ghost use Rattle.format.specs.Book.{literalOf, literalsOf};
 ghost use Rattle.models.specs.StableModels.{atomHolds, complement, holds, bodyHolds};
 ghost use Rattle.table.specs.Names.{literalNamed};
-ghost use Rattle.table.specs.Rows.{rowSize, rowCount, headName, rowLayer, overridden, withMask, rowBody, rowAt, RowsBounded, RowsFit, SameRules};
+ghost use Rattle.table.specs.Rows.{rowSize, rowCount, headName, rowLayer, overridden, withMask, rowBody, rowAt, alive, RowsBounded, RowsFit, SameRules};
 ghost use Rattle.table.specs.Overriding.{HeadLayers, Overridden};
 ghost use Rattle.table.specs.Table.{programOf, RuleRecords, Prepared, RowsMade, TableMade};
 use base::MAX_ATOMS;
@@ -16,6 +16,7 @@ use base::MAX_LAYERS;
 use base::MAX_NAMES;
 use base::wide;
 use base::wide16;
+use format::literal_value;
 
 // Numbers of a row.
 pub const ROW_SIZE: usize = 6;
@@ -34,7 +35,7 @@ pub fn atom_holds(m: &[bool], f: usize) -> bool
 pub fn literal_holds(m: &[bool], a: u8, b: u8) -> bool
     ensures { λ r. ⌜ r ≡ holds (now (m .entry)) (literalOf a b) ⌝ }
 {
-    let v = wide(a) * 256 + wide(b);
+    let v = literal_value(a, b);
     let stands = atom_holds(m, v % 32768);
     if 32768 <= v {
         return !stands;
@@ -102,6 +103,18 @@ pub fn row_holds(book: &[u8], rows: &[u16], m: &[bool], j: usize) -> bool
     body_holds(m, row_body(book, rows, j))
 }
 
+// Whether a row is alive: its layer's bit is not set in the mask at its head's name.
+pub fn row_alive(book: &[u8], rows: &[u16], rejects: &[u32], j: usize) -> bool
+    requires { ⌜ RowsFit (now book) (now rows) ⌝ }
+    requires { ⌜ length (now rejects) ≡ maxNames ⌝ }
+    requires { ⌜ j < rowCount (now rows) ⌝ }
+    ensures { λ r. ⌜ r ≡ alive (now (rejects .entry)) (rowAt (now (book .entry)) (now (rows .entry)) j) ⌝ }
+{
+    let h = row_head(rows, j);
+    let layer = row_layer(rows, j);
+    (rejects[h] >> (layer as u32)) & 1 != 1
+}
+
 // The name of the opposite literal.
 pub fn opposite(h: usize) -> usize
     requires { ⌜ h < maxNames ⌝ }
@@ -118,7 +131,7 @@ fn name_of(a: u8, b: u8) -> usize
     requires { ⌜ literalOf a b .atom < maxAtoms ⌝ }
     ensures { λ r. ⌜ (literalNamed r ≡ literalOf a b) × (r < maxNames) ⌝ }
 {
-    let v = wide(a) * 256 + wide(b);
+    let v = literal_value(a, b);
     if v < 32768 {
         return v;
     }

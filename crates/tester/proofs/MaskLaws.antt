@@ -1,5 +1,5 @@
--- Rejection by masks, supported atoms, violated and contested rows, and the other atoms: what the loops keep, row by row and atom by
--- atom. Used by row_mask, reject, name_holds, supported, undecided, contested and defaults_of. Assumes nothing.
+-- Rejection by masks, supported atoms, violated rows, and the other atoms: what the loops keep, row by row and atom by atom. Used by
+-- row_mask, reject, name_holds, supported and defaults_of. Assumes nothing.
 use mathlib.Core.Path.{_≡_, refl, sym, ap, subst, _∙_}
 use mathlib.Core.Logic.{⊎-elim}
 use mathlib.Core.Bool.{Bool, true, false, not, cond, true≢false}
@@ -7,7 +7,6 @@ use mathlib.Core.List.{List}
 use Prim.Native.Nat.{ℕ, _+_, _-_, _<_, _≤_}
 use native.Mathlib.Decide.{decLt, ℕ-discrete}
 use native.Mathlib.Omega.{arith}
-use borrow.Author.Tests.{not-false}
 use lib.Bits.{bitOr}
 use lib.Dec.{T}
 use lib.ListN.{getD, set, length-set, replicate, length-replicate}
@@ -18,10 +17,9 @@ use Rattle.format.specs.Book.{Literal}
 use Rattle.models.specs.StableModels.{Interpretation, atomHolds, positive, complement, signed, holds, bodyHolds}
 use Rattle.layers.proofs.BitLaws.{no-bits, zero-bit, or-cases, or-left, or-right}
 use Rattle.table.specs.Names.{literalNamed}
-use Rattle.table.specs.Rows.{headName, rowAt, overridden}
+use Rattle.table.specs.Rows.{headName, rowAt, overridden, alive}
 use Rattle.table.proofs.NameLaws.{name-low, name-high, one-name}
 use Rattle.tester.specs.Masks.{Rejection, RejectedMasks, Support, Supported, Violation, Others}
-use Rattle.filling.specs.Marks.{alive}
 use Rattle.filling.proofs.MarkLaws.{blank, set-only, set-keeps}
 
 -- the mask of a row, as its body decides
@@ -192,7 +190,7 @@ module _ (m : Interpretation) (h : ℕ) where
   unfolding holds signed
   negated-holds b = ap (holds m) (sym (name-high h b))
 
--- violated rows, and contested ones
+-- violated rows
 head-holds : (book rows : List ℕ) (m : Interpretation) (j h : ℕ) → h ≡ headName rows j → (x : Bool) → x ≡ holds m (literalNamed h) → x ≡ holds m (rowAt book rows j .head)
 unfolding rowAt
 head-holds book rows m j h e x ex = ex ∙ ap (λ (z : ℕ). holds m (literalNamed z)) e

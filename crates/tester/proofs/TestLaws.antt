@@ -18,12 +18,12 @@ use Rattle.base.proofs.Members.{_∈_, and-left, and-right, and-both, all-at, a
 use Rattle.base.proofs.UpTo.{failed, upTo-lt, upTo-has}
 use Rattle.models.proofs.LeastLaws.{beq-refl, literal-same, literal-refl, stable-sound, stable-complete, beq-same}
 use Rattle.table.specs.Names.{literalNamed, nameOf}
-use Rattle.table.specs.Rows.{rowCount, headName, rowAt, rowsOf}
+use Rattle.table.specs.Rows.{rowCount, headName, rowAt, rowsOf, alive}
 use Rattle.table.specs.Table.{Tabulates}
 use Rattle.table.proofs.NameLaws.{name-back, complement-twice}
 use Rattle.table.proofs.RowLaws.{row-in, row-of}
 use Rattle.table.proofs.NamedLaws.{named-overrides, overrides-named}
-use Rattle.filling.specs.Marks.{literalMarked, alive, FollowsFrom, from-start, by-row, Conflict, Fills}
+use Rattle.filling.specs.Marks.{literalMarked, FollowsFrom, from-start, by-row, Conflict, Fills}
 use Rattle.tester.specs.Agreement.{marksAgree}
 use Rattle.tester.specs.Masks.{Rejection, RejectedMasks, Support, Supported, Violation, Others}
 

@@ -10,8 +10,7 @@ use Rattle.base.specs.Bounds.{maxAtoms, maxNames}
 use Rattle.layers.specs.Masks.{bitOf}
 use Rattle.models.specs.StableModels.{Interpretation, atomHolds, positive, complement, holds, bodyHolds}
 use Rattle.table.specs.Names.{literalNamed}
-use Rattle.table.specs.Rows.{rowAt, overridden}
-use Rattle.filling.specs.Marks.{alive}
+use Rattle.table.specs.Rows.{rowAt, overridden, alive}
 
 -- a row before n whose body holds, whose head is opposite to name h, and which overrides rules of layer i
 pub record Rejection (book rows : List ℕ) (m : Interpretation) (n h i : ℕ) : Type 0 where

@@ -4,7 +4,7 @@
 ghost use mathlib.Core.Path.{_≡_};
 ghost use mathlib.Core.Bool.{false, cond};
 ghost use Prim.Native.Nat.{_<_, _≤_};
-ghost use lib.ListN.{length, getD, replicate};
+ghost use lib.ListN.{length, replicate};
 ghost use Rattle.filling.specs.Marks.{hintSize};
 ghost use Rattle.base.specs.Bounds.{maxAtoms, maxNames};
 ghost use Rattle.base.specs.Lists.{all, upTo};
@@ -18,10 +18,10 @@ ghost use Rattle.tester.specs.Masks.{RejectedMasks, Supports, Others};
 use base::MAX_ATOMS;
 use base::MAX_NAMES;
 use filling::fill;
-use filling::row_alive;
 use table::ROW_SIZE;
 use table::atom_holds;
 use table::opposite;
+use table::row_alive;
 use table::row_head;
 use table::row_holds;
 use table::row_overridden;
@@ -71,14 +71,14 @@ fn name_holds(m: &[bool], h: usize) -> bool
 }
 
 // What the rows whose bodies hold say: the atoms that they support, or that one of them is violated.
-pub struct Support {
+pub struct SupportPass {
     pub atoms: [bool; MAX_ATOMS],
     pub violated: bool,
 }
 
 // The plain heads of the rows whose bodies hold, rejected or not. A row that is alive and whose head does not hold ends it: no
 // stable model violates such a row, and nothing need be filled.
-fn supported(book: &[u8], rows: &[u16], rejects: &[u32], m: &[bool]) -> Support
+fn supported(book: &[u8], rows: &[u16], rejects: &[u32], m: &[bool]) -> SupportPass
     requires { ⌜ RowsFit (now book) (now rows) ⌝ }
     requires { ⌜ length (now rejects) ≡ maxNames ⌝ }
     ensures { λ r. ⌜ Supports (now (book .entry)) (now (rows .entry)) (now (rejects .entry)) (now (m .entry)) (r .atoms) (r .violated) (rowCount (now (rows .entry))) ⌝ }
@@ -92,7 +92,7 @@ fn supported(book: &[u8], rows: &[u16], rejects: &[u32], m: &[bool]) -> Support
             let lives = row_alive(book, rows, rejects, j);
             if lives {
                 if !name_holds(m, h) {
-                    return Support {
+                    return SupportPass {
                         atoms,
                         violated: true,
                     };
@@ -104,7 +104,7 @@ fn supported(book: &[u8], rows: &[u16], rejects: &[u32], m: &[bool]) -> Support
         }
         j += 1;
     }
-    Support {
+    SupportPass {
         atoms,
         violated: false,
     }
@@ -150,13 +150,7 @@ fn marks_agree<'a>(positive: &'a [bool], negative: &'a [bool], m: &[bool], n: us
 }
 
 // Whether an interpretation is a stable model of the program that the rows and masks tabulate. `hints` is what an earlier filling left.
-pub fn is_stable(
-    book: &[u8],
-    rows: &[u16],
-    m: &[bool],
-    n: usize,
-    hints: &mut [u16],
-) -> bool
+pub fn is_stable(book: &[u8], rows: &[u16], m: &[bool], n: usize, hints: &mut [u16]) -> bool
     requires { ⌜ WellFormed (tabled (now book) (now rows) n) ⌝ }
     requires { ⌜ Tabulates (tabled (now book) (now rows) n) (now book) (now rows) ⌝ }
     requires { ⌜ n ≡ tabled (now book) (now rows) n .atoms ⌝ }

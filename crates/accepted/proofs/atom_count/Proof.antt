@@ -1,15 +1,16 @@
--- The two bytes are there, since an accepted book has 20; their range is cause 5's.
-use Rattle.accepted.proofs.RangeFacts.{long, atoms-are}
-use native.Mathlib.Omega.{arith}
+-- The header is there, since the sections of an accepted book are whole; the range is cause 5's.
+use Rattle.book.proofs.Accepted.{accepted-lawful}
+use Rattle.accepted.proofs.RangeFacts.{atoms-are}
 use Rattle.accepted.proofs.atom_count.Statement.{statement}
 use Rattle.accepted.proofs.atom_count.Tie as tie
 
-be16-requires : tie.Need-be16-requires
-be16-requires c κs = omega (arith, long (c .before .args .book .now) (c .before .pre))
+read-header-requires : tie.Need-read-header-requires
+read-header-requires c κs = accepted-lawful (c .before .args .book .now) (c .before .pre) .not4
 
 returns : tie.Need-returns
 returns c =
-    atoms-are (c .before .before .args .book .now) (c .before .before .pre) (c .be16 .result) (c .be16 .ensures .0)
+    let s = c .before .before in
+    atoms-are (s .args .book .now) (s .pre) (c .read-header .result .atoms) (c .read-header .ensures .atoms-are)
 
 pub atom-count-spec : {M : Type 1} → statement M
-atom-count-spec = tie.close (tie.spec be16-requires returns)
+atom-count-spec = tie.close (tie.spec read-header-requires returns)

@@ -1,5 +1,6 @@
 -- `check_layer` meets its contract: the verdict on the book decides where it refuses; else cause 9 does. Assumes nothing.
 use mathlib.Core.Path.{refl, sym, _∙_}
+use Rattle.book.proofs.Accepted.{accepted-lawful}
 use Rattle.book.proofs.VerdictLaws.{checks-refused, checks-accepted}
 use Rattle.accepted.proofs.DrivenLaws.{book-refused, layer-refused, layer-accepted}
 use borrow.Author.Needs.{needs}
@@ -15,13 +16,16 @@ enum-known-v c = search needs
 enum-told : tie.Need-enum-told
 enum-told c = search needs
 
-layer-count-requires : tie.Need-layer-count-requires
-layer-count-requires c κs = sym (c .before .before .before .check-book .ensures .verdict-is) ∙ c .enum-told .given .1
+read-header-requires : tie.Need-read-header-requires
+read-header-requires c κs = accepted-lawful (c .before .before .before .before .before .args .book .now) (sym (c .before .before .before .check-book .ensures .verdict-is) ∙ c .enum-told .given .1) .not4
 
 returns : tie.Need-returns
 returns c =
-    let s = c .before .before .before .before .before .before .before .args in
-    checks-refused (s .book .now) _ refl (layer-refused (s .book .now) (s .layer) (c .before .before .before .before .before .check-book .result .verdict) (c .before .before .before .before .before .check-book .ensures .verdict-is) (c .before .before .enum-told .given .1) (c .before .layer-count .result) (c .before .layer-count .ensures .0) (c .if1 .taken))
+    let s = c .before .before .before .before .before .before .before .before .args in
+    let b = c .before .before .before .before .before .before .check-book in
+    let t = c .before .before .before .enum-told .given .1 in
+    let h = c .before .before .read-header in
+    checks-refused (s .book .now) _ refl (layer-refused (s .book .now) (s .layer) (b .result .verdict) (b .ensures .verdict-is) t (h .result .layers) (h .ensures .layers-are) (c .if1 .taken))
 
 returns-2 : tie.Need-returns-2
 returns-2 c =
@@ -30,8 +34,11 @@ returns-2 c =
 
 returns-3 : tie.Need-returns-3
 returns-3 c =
-    let s = c .before .before .before .before .before .before .before .args in
-    checks-accepted (s .book .now) (layer-accepted (s .book .now) (s .layer) (c .before .before .before .before .before .check-book .result .verdict) (c .before .before .before .before .before .check-book .ensures .verdict-is) (c .before .before .enum-told .given .1) (c .before .layer-count .result) (c .before .layer-count .ensures .0) (c .if1 .left)) (c .before .before .before .before .before .check-book .ensures .masks (c .before .before .enum-told .given .1))
+    let s = c .before .before .before .before .before .before .before .before .args in
+    let b = c .before .before .before .before .before .before .check-book in
+    let t = c .before .before .before .enum-told .given .1 in
+    let h = c .before .before .read-header in
+    checks-accepted (s .book .now) (layer-accepted (s .book .now) (s .layer) (b .result .verdict) (b .ensures .verdict-is) t (h .result .layers) (h .ensures .layers-are) (c .if1 .left)) (b .ensures .masks t)
 
 pub check-layer-spec : {M : Type 1} → statement M
 check-layer-spec =
@@ -40,7 +47,7 @@ check-layer-spec =
     check-book-requires
     enum-known-v
     enum-told
-    layer-count-requires
+    read-header-requires
     returns
     returns-2
     returns-3)

@@ -1,6 +1,5 @@
 -- `check_arrows` meets its contract: each test's answer is its cause's predicate, and the masks are those of `lower_masks`.
 -- Assumes nothing.
-use Rattle.format.proofs.SectionLaws.{laid}
 use Rattle.book.proofs.CycleLaws.{count-few, eight-is}
 use Rattle.book.proofs.VerdictLaws.{seven-applies, eight-applies, none-applies, checks-refused, checks-accepted}
 use native.Mathlib.Omega.{arith}
@@ -20,23 +19,15 @@ returns c =
     let t = c .before .before .repeated-arrow in
     checks-refused (s .args .book .now) _ (c .refused .ensures) (seven-applies (s .args .book .now) (t .result) (t .ensures) (c .before .if1 .taken))
 
-shared-slice-read-wide : tie.Need-shared-slice-read-wide
-shared-slice-read-wide c = omega (arith, laid (c .before .before .before .before .args .book .now) (c .before .before .before .before .pre .0) .first-in)
-
-wide-requires : tie.Need-wide-requires
-wide-requires c κs = search needs
-
 lower-masks-requires : tie.Need-lower-masks-requires
-lower-masks-requires c κs = c .before .before .before .before .before .pre
+lower-masks-requires c κs = c .before .before .before .pre
 
 slice-aggregate-has-cycle : tie.Need-slice-aggregate-has-cycle
 slice-aggregate-has-cycle c = search needs
 
 has-cycle-requires : tie.Need-has-cycle-requires
 has-cycle-requires c κs =
-    let s = c .before .before .before .before .before .before .before in
-    let n = c .before .before .wide in
-    let few = count-few (s .args .book .now) (s .pre .1) (s .pre .2) (n .result) (n .ensures .0) in
+    let few = count-few (c .before .before .before .before .before .pre .0) (c .before .before .before .before .before .pre .1) (c .before .before .before .before .before .pre .2) in
     (omega (arith, few), omega (arith, few))
 
 refused-requires-2 : tie.Need-refused-requires-2
@@ -44,23 +35,21 @@ refused-requires-2 c κs = search needs
 
 returns-2 : tie.Need-returns-2
 returns-2 c =
-    let s = c .before .before .before .before .before .before .before .before .before .before in
-    let t = c .before .before .before .before .before .before .before .before .repeated-arrow in
-    let n = c .before .before .before .before .before .wide in
+    let s = c .before .before .before .before .before .before .before .before in
+    let t = c .before .before .before .before .before .before .repeated-arrow in
     let m = c .before .before .before .before .lower-masks in
     let d = c .before .before .has-cycle in
     checks-refused (s .args .book .now) _ (c .refused2 .ensures)
-    (eight-applies (s .args .book .now) (t .result) (t .ensures) (c .before .before .before .before .before .before .before .if1 .left) (d .result) (eight-is (s .args .book .now) (s .pre .1) (s .pre .2) (n .result) (n .ensures .0) (m .result) (m .ensures) (d .result) (d .ensures)) (c .before .if2 .taken))
+    (eight-applies (s .args .book .now) (t .result) (t .ensures) (c .before .before .before .before .before .if1 .left) (d .result) (eight-is (s .pre .0) (s .pre .1) (s .pre .2) (m .result) (m .ensures) (d .result) (d .ensures)) (c .before .if2 .taken))
 
 returns-3 : tie.Need-returns-3
 returns-3 c =
-    let s = c .before .before .before .before .before .before .before .before .before in
-    let t = c .before .before .before .before .before .before .before .repeated-arrow in
-    let n = c .before .before .before .before .wide in
+    let s = c .before .before .before .before .before .before .before in
+    let t = c .before .before .before .before .before .repeated-arrow in
     let m = c .before .before .before .lower-masks in
     let d = c .before .has-cycle in
     checks-accepted (s .args .book .now)
-    (none-applies (s .args .book .now) (t .result) (t .ensures) (c .before .before .before .before .before .before .if1 .left) (d .result) (eight-is (s .args .book .now) (s .pre .1) (s .pre .2) (n .result) (n .ensures .0) (m .result) (m .ensures) (d .result) (d .ensures)) (c .if2 .left))
+    (none-applies (s .args .book .now) (t .result) (t .ensures) (c .before .before .before .before .if1 .left) (d .result) (eight-is (s .pre .0) (s .pre .1) (s .pre .2) (m .result) (m .ensures) (d .result) (d .ensures)) (c .if2 .left))
     (m .ensures)
 
 pub check-arrows-spec : {M : Type 1} → statement M
@@ -70,8 +59,6 @@ check-arrows-spec =
     repeated-arrow-requires
     refused-requires
     returns
-    shared-slice-read-wide
-    wide-requires
     lower-masks-requires
     slice-aggregate-has-cycle
     has-cycle-requires

@@ -38,7 +38,7 @@ loop-less : tie.Need-loop-less Inv-loop μ-loop
 loop-less c = search needs
 
 loop-again : tie.Need-loop-again Inv-loop μ-loop
-loop-again c = 
+loop-again c =
     let s = c .before .before .before .before .before .before .before .before .before .before .before in
     let a = s .args in
     let l = c .before .before .before .before .before .before .before .loop in
@@ -49,7 +49,7 @@ same-length : tie.Need-same-length Inv-loop μ-loop
 same-length c = search needs
 
 returns : tie.Need-returns Inv-loop μ-loop
-returns c = 
+returns c =
     let s = c .before .before .before .before .before in
     let a = s .args in
     rows-end (tabled (a .book .now) (a .rows .now) 0) (a .book .now) (a .rows .now) (s .pre .0) (c .before .loop .j) (c .before .loop .marks) (omega (arith, c .loop-test .left, c .before .loop .inv .0)) (c .before .loop .inv .1)

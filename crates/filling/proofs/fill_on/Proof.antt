@@ -34,26 +34,26 @@ replay-requires c κs = let s = c .before .before .before .before .before .befor
 loop-holds : tie.Need-loop-holds Inv-loop μ-loop
 loop-holds c = (search needs, search needs, search needs, filling-start _ _)
 
-slice-aggregate-pass : tie.Need-slice-aggregate-pass Inv-loop μ-loop
-slice-aggregate-pass c = search needs
+slice-aggregate-pass-over-rows : tie.Need-slice-aggregate-pass-over-rows Inv-loop μ-loop
+slice-aggregate-pass-over-rows c = search needs
 
-slice-aggregate-pass-2 : tie.Need-slice-aggregate-pass-2 Inv-loop μ-loop
-slice-aggregate-pass-2 c = search needs
+slice-aggregate-pass-over-rows-2 : tie.Need-slice-aggregate-pass-over-rows-2 Inv-loop μ-loop
+slice-aggregate-pass-over-rows-2 c = search needs
 
-pass-requires : tie.Need-pass-requires Inv-loop μ-loop
-pass-requires c κs = let s = c .before .before .before .before .before .before .before .before .before .before .before .before .before .before .before in let l = c .before .before .before .before .loop in (s .pre .0, (s .pre .1 .0, ((l .inv .1, l .inv .2), l .inv .0)))
+pass-over-rows-requires : tie.Need-pass-over-rows-requires Inv-loop μ-loop
+pass-over-rows-requires c κs = let s = c .before .before .before .before .before .before .before .before .before .before .before .before .before .before .before in let l = c .before .before .before .before .loop in (s .pre .0, (s .pre .1 .0, ((l .inv .1, l .inv .2), l .inv .0)))
 
 same-length : tie.Need-same-length Inv-loop μ-loop
 same-length c = search needs
 
 returns : tie.Need-returns Inv-loop μ-loop
-returns c = clashed (filling-since (c .before .before .before .before .before .before .before .before .before .before .before .before .before .replay .ensures) (c .before .before .before .before .before .before .before .before .before .before .loop .inv .3)) (c .before .before .before .before .before .pass .ensures) (c .if1 .taken)
+returns c = clashed (filling-since (c .before .before .before .before .before .before .before .before .before .before .before .before .before .replay .ensures) (c .before .before .before .before .before .before .before .before .before .before .loop .inv .3)) (c .before .before .before .before .before .pass-over-rows .ensures) (c .if1 .taken)
 
 loop-less : tie.Need-loop-less Inv-loop μ-loop
-loop-less c = rw (c .before .before .before .before .before .before .before .before .before .before .loop-test .taken) (omega (arith, c .before .before .before .before .before .before .pass .ensures .fewer))
+loop-less c = rw (c .before .before .before .before .before .before .before .before .before .before .loop-test .taken) (omega (arith, c .before .before .before .before .before .before .pass-over-rows .ensures .fewer))
 
 loop-again : tie.Need-loop-again Inv-loop μ-loop
-loop-again c = (search needs, search needs, search needs, filling-more (c .before .before .before .before .before .before .before .before .before .before .before .loop .inv .3) (c .before .before .before .before .before .before .pass .ensures) (c .before .if1 .left))
+loop-again c = (search needs, search needs, search needs, filling-more (c .before .before .before .before .before .before .before .before .before .before .before .loop .inv .3) (c .before .before .before .before .before .before .pass-over-rows .ensures) (c .before .if1 .left))
 
 slice-aggregate-propagate : tie.Need-slice-aggregate-propagate Inv-loop μ-loop
 slice-aggregate-propagate c = search needs
@@ -65,16 +65,16 @@ propagate-requires : tie.Need-propagate-requires Inv-loop μ-loop
 propagate-requires c κs = let s = c .before .before .before .before .before .before .before .before .before .before .before .before .before .before .before .before .before .before .before .before .before .before .before .before .before .before in (s .pre .0, (s .pre .1 .0, ((search needs, search needs), search needs)))
 
 loop-less-2 : tie.Need-loop-less-2 Inv-loop μ-loop
-loop-less-2 c = rw (c .before .before .before .before .before .before .before .before .before .before .before .before .before .before .before .before .before .before .before .loop-test .taken) (omega (arith, c .before .before .before .before .before .before .before .before .before .before .before .before .before .before .before .pass .ensures .fewer, grown-fewer (c .before .before .before .before .propagate .ensures) (search needs) (search needs)))
+loop-less-2 c = rw (c .before .before .before .before .before .before .before .before .before .before .before .before .before .before .before .before .before .before .before .loop-test .taken) (omega (arith, c .before .before .before .before .before .before .before .before .before .before .before .before .before .before .before .pass-over-rows .ensures .fewer, grown-fewer (c .before .before .before .before .propagate .ensures) (search needs) (search needs)))
 
 loop-again-2 : tie.Need-loop-again-2 Inv-loop μ-loop
-loop-again-2 c = (search needs, search needs, search needs, filling-grown (filling-more (c .before .before .before .before .before .before .before .before .before .before .before .before .before .before .before .before .before .before .before .before .loop .inv .3) (c .before .before .before .before .before .before .before .before .before .before .before .before .before .before .before .pass .ensures) (c .before .before .before .before .before .before .before .before .before .before .if1 .left)) (c .before .before .before .before .before .before .before .before .if3 .taken) (c .before .before .before .before .propagate .ensures))
+loop-again-2 c = (search needs, search needs, search needs, filling-grown (filling-more (c .before .before .before .before .before .before .before .before .before .before .before .before .before .before .before .before .before .before .before .before .loop .inv .3) (c .before .before .before .before .before .before .before .before .before .before .before .before .before .before .before .pass-over-rows .ensures) (c .before .before .before .before .before .before .before .before .before .before .if1 .left)) (c .before .before .before .before .before .before .before .before .if3 .taken) (c .before .before .before .before .propagate .ensures))
 
 loop-less-3 : tie.Need-loop-less-3 Inv-loop μ-loop
-loop-less-3 c = rw (c .before .before .before .before .before .before .before .before .before .before .before .loop-test .taken) (omega (arith, c .before .before .before .before .before .before .before .pass .ensures .fewer))
+loop-less-3 c = rw (c .before .before .before .before .before .before .before .before .before .before .before .loop-test .taken) (omega (arith, c .before .before .before .before .before .before .before .pass-over-rows .ensures .fewer))
 
 loop-again-3 : tie.Need-loop-again-3 Inv-loop μ-loop
-loop-again-3 c = (search needs, search needs, search needs, filling-more (c .before .before .before .before .before .before .before .before .before .before .before .before .loop .inv .3) (c .before .before .before .before .before .before .before .pass .ensures) (c .before .before .if1 .left))
+loop-again-3 c = (search needs, search needs, search needs, filling-more (c .before .before .before .before .before .before .before .before .before .before .before .before .loop .inv .3) (c .before .before .before .before .before .before .before .pass-over-rows .ensures) (c .before .before .if1 .left))
 
 same-length-2 : tie.Need-same-length-2 Inv-loop μ-loop
 same-length-2 c = search needs
@@ -96,9 +96,9 @@ fill-on-spec =
     slice-aggregate-replay-2
     replay-requires
     loop-holds
-    slice-aggregate-pass
-    slice-aggregate-pass-2
-    pass-requires
+    slice-aggregate-pass-over-rows
+    slice-aggregate-pass-over-rows-2
+    pass-over-rows-requires
     same-length
     returns
     loop-less

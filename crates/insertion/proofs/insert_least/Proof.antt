@@ -1,7 +1,7 @@
 -- `insert_least` meets its contract: where the gap has room the record is added; where it has none the gap is empty, and the last
 -- record either comes before rec, which is left out, or makes room for it. Assumes nothing.
 use mathlib.Core.Path.{sym, _∙_}
-use Rattle.insertion.proofs.LeastLaws.{mult-some, whole-room, last-room, least-added, least-behind, least-in-front}
+use Rattle.insertion.proofs.KeptLaws.{mult-some, whole-room, last-room, least-added, least-behind, least-in-front}
 use native.Mathlib.Omega.{arith}
 use borrow.Author.Needs.{needs}
 use Rattle.insertion.proofs.insert_least.Statement.{statement}

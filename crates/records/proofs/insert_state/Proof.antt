@@ -1,7 +1,7 @@
 -- `insert_state` meets its contract: the bytes that it inserts are the state's record (`state-record`), and a part without room holds
 -- none before and after (`least-empty`). Assumes nothing.
 use lib.ListN.{take}
-use Rattle.insertion.proofs.LeastLaws.{least-empty}
+use Rattle.insertion.proofs.KeptLaws.{least-empty}
 use Rattle.records.proofs.RoomLaws.{state-record, whole-one, least-one}
 use native.Mathlib.Omega.{arith}
 use borrow.Author.Needs.{needs}

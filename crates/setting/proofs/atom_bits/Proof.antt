@@ -47,13 +47,13 @@ loop-less : tie.Need-loop-less Inv-loop μ-loop
 loop-less c = search needs
 
 loop-again : tie.Need-loop-again Inv-loop μ-loop
-loop-again c = 
+loop-again c =
     let l = c .before .before .loop in
     let f = c .atom-at in
     (l .inv .0, l .inv .1, omega arith, bits-more (c .before .before .before .before .args .atoms .now) (l .bits) (l .i) (f .result) (l .inv .3) (f .ensures .0) (f .ensures .1) (omega (arith, l .inv .0, c .before .loop-test .taken)))
 
 returns : tie.Need-returns Inv-loop μ-loop
-returns c = 
+returns c =
     let l = c .before .loop in
     let a = c .before .before .before .args .atoms .now in
     subst (AtomBits a (l .bits)) {x = l .i} {y = length a} (omega (arith, l .inv .2, c .loop-test .left)) (l .inv .3)

@@ -1,7 +1,6 @@
 -- The invariant: the masks are those of the literals read so far. Two bytes a turn, so the unread bytes fall.
-use mathlib.Core.Path.{ap₂}
 use mathlib.Core.Logic.{⊎-elim}
-use Prim.Native.Nat.{ℕ, _+_, _*_, _-_}
+use Prim.Native.Nat.{_-_}
 use lib.ListN.{length}
 use Rattle.setting.proofs.RuleMaskLaws.{MaskedTo, masked-start, masked-none, masked-negated, masked-plain, masked-end}
 use borrow.Author.Needs.{needs}
@@ -20,26 +19,17 @@ loop-holds c = masked-start (c .before .before .args .bits .now) (c .before .bef
 sub-loop : tie.Need-sub-loop Inv-loop μ-loop
 sub-loop c = search needs
 
-shared-slice-read-wide : tie.Need-shared-slice-read-wide Inv-loop μ-loop
-shared-slice-read-wide c = search needs
+shared-slice-read-literal-value : tie.Need-shared-slice-read-literal-value Inv-loop μ-loop
+shared-slice-read-literal-value c = search needs
 
-wide-requires : tie.Need-wide-requires Inv-loop μ-loop
-wide-requires c κs = search needs
+add-literal-value : tie.Need-add-literal-value Inv-loop μ-loop
+add-literal-value c = search needs
 
-mul-v : tie.Need-mul-v Inv-loop μ-loop
-mul-v c = search needs
+shared-slice-read-literal-value-2 : tie.Need-shared-slice-read-literal-value-2 Inv-loop μ-loop
+shared-slice-read-literal-value-2 c = search needs
 
-add-wide : tie.Need-add-wide Inv-loop μ-loop
-add-wide c = search needs
-
-shared-slice-read-wide-2 : tie.Need-shared-slice-read-wide-2 Inv-loop μ-loop
-shared-slice-read-wide-2 c = search needs
-
-wide-requires-2 : tie.Need-wide-requires-2 Inv-loop μ-loop
-wide-requires-2 c κs = search needs
-
-add-v : tie.Need-add-v Inv-loop μ-loop
-add-v c = search needs
+literal-value-requires : tie.Need-literal-value-requires Inv-loop μ-loop
+literal-value-requires c κs = search needs
 
 bits-of-requires : tie.Need-bits-of-requires Inv-loop μ-loop
 bits-of-requires c κs = search needs
@@ -52,17 +42,15 @@ loop-less c = search needs
 
 loop-again : tie.Need-loop-again Inv-loop μ-loop
 loop-again c =
-    let l = c .before .before .before .before .before .before .before .loop in
-    let t = c .before .before .before .before .before .before .loop-test .taken in
-    let x = c .before .before .before .before .wide in
-    let y = c .before .before .wide2 in
+    let l = c .before .before .before .before .before .before .loop in
+    let t = c .before .before .before .before .before .loop-test .taken in
+    let v = c .before .before .literal-value in
     let b = c .before .bits-of in
-    let v = ap₂ (λ (m n : ℕ). m * 256 + n) (x .ensures .0) (y .ensures .0) in
     ⊎-elim
-    (λ w. rw (w .1, w .2, w .3) (masked-none (l .inv) t (x .result * 256 + y .result) v (b .result) (b .ensures) (w .0 .taken)))
+    (λ w. rw (w .1, w .2, w .3) (masked-none (l .inv) t (v .result) (v .ensures .0) (b .result) (b .ensures) (w .0 .taken)))
     (λ u. ⊎-elim
-    (λ w. rw (w .2, w .3, w .4) (masked-negated (l .inv) t (x .result * 256 + y .result) v (b .result) (b .ensures) (w .0 .left) (w .1 .taken)))
-    (λ w. rw (w .2, w .3, w .4) (masked-plain (l .inv) t (x .result * 256 + y .result) v (b .result) (b .ensures) (w .0 .left) (w .1 .left)))
+    (λ w. rw (w .2, w .3, w .4) (masked-negated (l .inv) t (v .result) (v .ensures .0) (b .result) (b .ensures) (w .0 .left) (w .1 .taken)))
+    (λ w. rw (w .2, w .3, w .4) (masked-plain (l .inv) t (v .result) (v .ensures .0) (b .result) (b .ensures) (w .0 .left) (w .1 .left)))
     u)
     (c .if1 .came)
 
@@ -77,13 +65,10 @@ body-masks-spec =
     μ-loop
     loop-holds
     sub-loop
-    shared-slice-read-wide
-    wide-requires
-    mul-v
-    add-wide
-    shared-slice-read-wide-2
-    wide-requires-2
-    add-v
+    shared-slice-read-literal-value
+    add-literal-value
+    shared-slice-read-literal-value-2
+    literal-value-requires
     bits-of-requires
     add-i
     loop-less

@@ -23,7 +23,7 @@ head-layers-requires : tie.Need-head-layers-requires Inv-loop μ-loop
 head-layers-requires c κs = search needs
 
 loop-holds : tie.Need-loop-holds Inv-loop μ-loop
-loop-holds c = 
+loop-holds c =
     let e = c .before .before .before in
     (refl, omega arith, rules-start (e .args .rows .now), overridden-start (e .args .rows .now) (e .args .t2) (e .args .rows .now), e .pre)
 
@@ -49,7 +49,7 @@ array-read-put-overridden-2 : tie.Need-array-read-put-overridden-2 Inv-loop μ-l
 array-read-put-overridden-2 c = search needs
 
 put-overridden-requires : tie.Need-put-overridden-requires Inv-loop μ-loop
-put-overridden-requires c κs = 
+put-overridden-requires c κs =
     let l = c .before .before .before .before .before .before .before .loop in
     omega (arith, l .inv .0, l .inv .2 .size, c .before .before .before .before .before .before .loop-test .taken)
 
@@ -60,7 +60,7 @@ loop-less : tie.Need-loop-less Inv-loop μ-loop
 loop-less c = search needs
 
 loop-again : tie.Need-loop-again Inv-loop μ-loop
-loop-again c = 
+loop-again c =
     let l = c .before .before .before .before .before .before .before .before .before .before .loop in
     let e = c .before .before .before .before .before .before .before .before .before .before .before .before .before .before in
     let heads = c .before .before .before .before .before .before .before .before .before .before .before .head-layers in
@@ -74,7 +74,7 @@ same-length : tie.Need-same-length Inv-loop μ-loop
 same-length c = search needs
 
 returns : tie.Need-returns Inv-loop μ-loop
-returns c = 
+returns c =
     let l = c .before .loop in
     let e = c .before .before .before .before .before .args in
     (l .inv .2, subst (Overridden (e .rows .now) (e .t2) (l .rows)) {x = l .j} {y = length (e .rows .now) / rowSize} (omega (arith, c .loop-test .left, l .inv .1)) (l .inv .3))

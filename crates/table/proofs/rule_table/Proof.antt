@@ -40,7 +40,7 @@ same-length : tie.Need-same-length
 same-length c = search needs
 
 returns : tie.Need-returns
-returns c = 
+returns c =
     let s = c .before .before .before .before .before .before .before .before .before .before in
     let w = c .before .before .before .before .before .before .make-rows in
     let o = c .before .before .overridden-layers in

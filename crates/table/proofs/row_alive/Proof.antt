@@ -1,9 +1,9 @@
 -- The bit that the code tests is the one that the definition names: a row's head has one name.
 use mathlib.Core.Path.{sym}
-use Rattle.filling.proofs.MarkLaws.{alive-bit}
+use Rattle.table.proofs.RowLaws.{alive-bit}
 use borrow.Author.Needs.{needs}
-use Rattle.filling.proofs.row_alive.Statement.{statement}
-use Rattle.filling.proofs.row_alive.Tie as tie
+use Rattle.table.proofs.row_alive.Statement.{statement}
+use Rattle.table.proofs.row_alive.Tie as tie
 
 row-head-requires : tie.Need-row-head-requires
 row-head-requires c κs = search needs

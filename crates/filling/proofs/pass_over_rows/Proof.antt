@@ -8,8 +8,8 @@ use Rattle.table.specs.Rows.{rowSize}
 use Rattle.filling.specs.Marks.{hintSize}
 use Rattle.filling.proofs.FillingLaws.{Passing, pass-start, pass-skip, pass-low, pass-high, pass-clash, pass-done}
 use borrow.Author.Needs.{needs}
-use Rattle.filling.proofs.pass.Statement.{statement}
-use Rattle.filling.proofs.pass.Tie as tie
+use Rattle.filling.proofs.pass_over_rows.Statement.{statement}
+use Rattle.filling.proofs.pass_over_rows.Tie as tie
 
 abbrev Inv-loop : tie.InvT-loop
 Inv-loop book rows rejects positive₀ negative₀ hints₀ count added₀ j₀ positive negative hints added j =
@@ -92,8 +92,8 @@ same-length-6 c = search needs
 returns-2 : tie.Need-returns-2 Inv-loop μ-loop
 returns-2 c = pass-done (c .before .loop .inv .2) (search needs)
 
-pub pass-spec : {M : Type 1} → statement M
-pass-spec =
+pub pass-over-rows-spec : {M : Type 1} → statement M
+pass-over-rows-spec =
     tie.close
     (tie.spec
     Inv-loop
