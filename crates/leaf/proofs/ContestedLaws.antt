@@ -11,9 +11,8 @@ use Rattle.base.specs.Bounds.{maxAtoms}
 use Rattle.format.specs.Book.{Literal}
 use Rattle.models.specs.StableModels.{Interpretation, atomHolds, positive, bodyHolds}
 use Rattle.table.specs.Names.{literalNamed}
-use Rattle.table.specs.Rows.{headName, rowAt}
+use Rattle.table.specs.Rows.{headName, rowAt, alive}
 use Rattle.table.proofs.NameLaws.{name-low, name-high}
-use Rattle.filling.specs.Marks.{alive}
 use Rattle.leaf.specs.Contested.{Answered, Uncontested}
 
 module _ {book rows rejects : List ℕ} {m : Interpretation} where

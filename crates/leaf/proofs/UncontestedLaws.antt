@@ -19,10 +19,10 @@ use Rattle.models.proofs.LeastLaws.{literal-same, literal-refl, stable-complete
 use Rattle.layers.specs.Masks.{bitOf}
 use Rattle.layers.proofs.BitLaws.{zero-bit}
 use Rattle.table.specs.Names.{nameOf}
-use Rattle.table.specs.Rows.{rowCount, rowAt}
+use Rattle.table.specs.Rows.{rowCount, rowAt, alive}
 use Rattle.table.specs.Table.{Tabulates}
 use Rattle.table.proofs.RowLaws.{row-of}
-use Rattle.filling.specs.Marks.{literalMarked, alive, FollowsFrom, from-start, by-row, Fills}
+use Rattle.filling.specs.Marks.{literalMarked, FollowsFrom, from-start, by-row, Fills}
 use Rattle.tester.specs.Masks.{RejectedMasks}
 use Rattle.leaf.specs.Contested.{Uncontested}
 use Rattle.tester.proofs.TestLaws.{rule-in, in-rule, unrejected-alive, alive-unrejected}

@@ -7,8 +7,7 @@ use Prim.Native.Nat.{ℕ, _<_}
 use lib.Dec.{T}
 use Rattle.format.specs.Book.{Literal}
 use Rattle.models.specs.StableModels.{Interpretation, atomHolds, positive, bodyHolds}
-use Rattle.table.specs.Rows.{rowAt}
-use Rattle.filling.specs.Marks.{alive}
+use Rattle.table.specs.Rows.{rowAt, alive}
 
 -- a plain literal holds, or its negation is marked
 abbrev pub Answered : Interpretation → List Bool → Literal → Type 0

@@ -16,7 +16,7 @@ use Rattle.base.specs.Bounds.{maxAtoms, maxBranching}
 use Rattle.base.specs.Lists.{flat}
 use Rattle.base.proofs.Members.{_∈_, filter-from, filter-into}
 use Rattle.base.proofs.Rising.{Rising, filter-rising}
-use Rattle.format.specs.Book.{u16At, u32At}
+use Rattle.format.specs.Book.{u16At, u32At, atomCount}
 use Rattle.insertion.specs.Runs.{bytesBefore, Wide}
 use Rattle.insertion.proofs.ByteOrder.{bytes-asym}
 use Rattle.insertion.proofs.RunLaws.{flat-at}
@@ -165,7 +165,7 @@ module _ (c : Call) (k g : ℕ) (w : Told c k g) where
 
   ranges : (0 < facts c) × (facts c ≤ maxAtoms)
   ranges =
-      let r = atoms-are (c .book) (w .accepted) (u16At (c .book) 5) refl in
+      let r = atoms-are (c .book) (w .accepted) (atomCount (c .book)) refl in
       (subst (λ (n : ℕ). 0 < n) (r .0) (r .1), subst (λ (n : ℕ). n ≤ maxAtoms) (r .0) (r .2))
 
   atoms-few : P .atoms ≤ maxAtoms
@@ -287,5 +287,5 @@ equal-exactly c d k g j h a b =
     (λ e. both .0 (sym (listed-is c k g v) ∙ e ∙ listed-is d j h w), λ x. listed-is c k g v ∙ both .1 x ∙ sym (listed-is d j h w))
 
 -- the numbers of a granted answer are small
-pub granted-small : (c : Call) (k g : ℕ) → Granted c k g → (k ≤ 1048576) × (g ≤ 20)
+pub granted-small : (c : Call) (k g : ℕ) → Granted c k g → (k ≤ 1048576) × (g ≤ maxBranching)
 granted-small c k g e = let w : Told c k g = told c k g e in (k-small c k g w, w .few)

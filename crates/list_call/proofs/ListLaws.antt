@@ -9,7 +9,7 @@ use borrow.Rule.Slice.PartMut.{putMid}
 use lib.Dec.{ltb}
 use lib.ListN.{length, take, drop, length-drop}
 use lib.Seq.{length-take-le}
-use Rattle.base.specs.Bounds.{maxAtoms, maxBranching}
+use Rattle.base.specs.Bounds.{maxAtoms, maxRecord, maxBranching}
 use Rattle.base.specs.Lists.{flat}
 use Rattle.book.specs.Causes.{verdictIf, firstOf}
 use Rattle.book.specs.declared.Cause.{Cause}
@@ -30,7 +30,11 @@ use Rattle.accepted.specs.Driven.{layerTests}
 use Rattle.accepted.proofs.FirstLaws.{first-append, first-refused}
 use Rattle.branching.specs.Marks.{Listed}
 use Rattle.records.proofs.WrittenLaws.{records-fit, head-written}
-use Rattle.search.specs.Searchable.{Searchable}
+use Rattle.leaf.specs.Searchable.{Searchable}
+use Rattle.plan.specs.Plan.{planAtoms}
+use Rattle.plan.specs.declared.Sizes.{Sizes}
+use Rattle.search.proofs.TurnLaws.{atoms-count}
+use Rattle.passes.specs.SetUp.{Ready}
 use Rattle.passes.proofs.PassLaws.{models-le}
 use Rattle.passes.proofs.SetUpLaws.{set-up-alike, too-many, not-too-many}
 use Rattle.list_call.specs.declared.ListReply.{ListReply}
@@ -38,23 +42,29 @@ use Rattle.list_call.specs.declared.ListReply.the-variants as reply
 use Rattle.list_call.specs.Reply.{roomTests, searchTests, listTests, replyOf, bufferOf, listReply, listBuffer, Answers}
 
 -- ---- counting and writing
-module _ {book rows overridden atoms : List ℕ} {n : ℕ} (w : Searchable book rows overridden atoms n) where
+module _ {book rows plan : List ℕ} {sizes : Sizes} (ready : Ready book rows plan sizes) where
+  abbrev n : ℕ
+  n = sizes .n
+
+  abbrev w : Searchable book rows (planAtoms plan (sizes .branching)) n
+  w = ready .table
+
   abbrev P : Program
-  P = tabled book rows overridden n
+  P = tabled book rows n
 
   atoms-few : P .atoms ≤ maxAtoms
   atoms-few = subst (λ (k : ℕ). k ≤ maxAtoms) (w .size) (w .few)
 
-  g-is : length atoms ≡ branchingCount P
+  g-is : sizes .branching ≡ branchingCount P
   unfolding branchingCount
-  g-is = ap length (w .listed)
+  g-is = sym (atoms-count (ready .planned)) ∙ ap length (w .listed)
 
   module _ {k : ℕ} (k-is : k ≡ length (stableModels P)) where
     k-le : k ≤ 2 ^ maxBranching
     k-le = omega (arith, k-is, models-le P (w .formed) atoms-few, pow-le-pow-right {n = 2} (omega arith) (subst (λ (x : ℕ). x ≤ maxBranching) g-is (w .atoms-few)))
 
     module _ (width : ℕ) (e : width ≡ recordSize n) where
-      pub bytes-fit : k * width ≤ 33554432
+      pub bytes-fit : k * width ≤ 2 ^ maxBranching * maxRecord
       bytes-fit = records-fit n k width (w .few) k-le e
 
       bytes-are : k * width ≡ length (stableModels P) * recordSize n
@@ -79,7 +89,7 @@ module _ {book rows overridden atoms : List ℕ} {n : ℕ} (w : Searchable book 
 
           pub room-listed : (part buf : List ℕ) → part ≡ flat (map (recordOf n) (stableModels P))
               → buf ≡ 1 ∷ (be32 (11 + k * width) ++ (be16 n ++ (be32 k ++ drop 11 (putMid 11 (11 + k * width - 11) old part))))
-              → Answers (firstOf (roomTests P (length old))) P old (reply.Listed k (length atoms)) buf
+              → Answers (firstOf (roomTests P (length old))) P old (reply.Listed k (sizes .branching)) buf
           unfolding firstOf verdictIf roomTests replyOf bufferOf listing
           room-listed part buf f q =
               let v : firstOf (roomTests P (length old)) ≡ Accepted = rw (le-ltb (length old) (length (listing P)) (omega (arith, size-is))) refl in
@@ -115,24 +125,20 @@ module _ {P Q : Program} (a : Alike P Q) where
       }
 
 -- ---- cause 12
-module _ (book : List ℕ) (layer : ℕ) (ok : IsAccepted book) {rows overridden : List ℕ} {count : ℕ} (made : TableMade (programOf book layer) book rows overridden count)
-    {atoms : List ℕ} {g : ℕ} (l : Listed (programOf book layer) atoms g) where
-  module _ (old : List ℕ) where
-    pub branching-refused : 20 < g → Answers (firstOf (searchTests (programOf book layer) (length old))) (programOf book layer) old (reply.Refused TooManyBranching) old
-    unfolding firstOf verdictIf searchTests replyOf bufferOf
-    branching-refused h =
-        let e : firstOf (searchTests (programOf book layer) (length old)) ≡ Refused TooManyBranching = rw (too-many book layer ok made l h) refl in
-        record { reply-is = rw e refl; buffer-is = rw e refl }
+module _ {P : Program} (old : List ℕ) where
+  pub branching-refused : hasTooManyBranching P ≡ true → Answers (firstOf (searchTests P (length old))) P old (reply.Refused TooManyBranching) old
+  unfolding firstOf verdictIf searchTests replyOf bufferOf
+  branching-refused h =
+      let e : firstOf (searchTests P (length old)) ≡ Refused TooManyBranching = rw h refl in
+      record { reply-is = rw e refl; buffer-is = rw e refl }
 
-    passes-over : g ≤ 20 → (r : ListReply) (new : List ℕ) → Answers (firstOf (roomTests (programOf book layer) (length old))) (programOf book layer) old r new
-        → Answers (firstOf (searchTests (programOf book layer) (length old))) (programOf book layer) old r new
-    unfolding firstOf verdictIf searchTests
-    passes-over h r new a = rw (not-too-many book layer ok made l h) a
+  passes-over : hasTooManyBranching P ≡ false → (r : ListReply) (new : List ℕ) → Answers (firstOf (roomTests P (length old))) P old r new → Answers (firstOf (searchTests P (length old))) P old r new
+  unfolding firstOf verdictIf searchTests
+  passes-over h r new a = rw h a
 
-    pub branching-passes : g ≤ 20 → {n : ℕ} → n ≡ bookOf book .atoms → (r : ListReply) (new : List ℕ)
-        → Answers (firstOf (roomTests (tabled book (take (4 * count - 0) rows) (take (count - 0) overridden) n) (length old))) (tabled book (take (4 * count - 0) rows) (take (count - 0) overridden) n) old r new
-        → Answers (firstOf (searchTests (programOf book layer) (length old))) (programOf book layer) old r new
-    branching-passes h e r new a = passes-over h r new (answers-over (set-up-alike book layer ok made l e) a)
+  pub branching-passes : hasTooManyBranching P ≡ false → {Q : Program} → Alike P Q → (r : ListReply) (new : List ℕ) → Answers (firstOf (roomTests Q (length old))) Q old r new
+      → Answers (firstOf (searchTests P (length old))) P old r new
+  branching-passes h a r new x = passes-over h r new (answers-over a x)
 
 -- ---- the call
 module _ (book : List ℕ) (layer : ℕ) (old : List ℕ) (v : Verdict) (e : v ≡ firstOf (layerTests book layer)) where

@@ -28,7 +28,11 @@ use Rattle.accepted.specs.Accepted.{IsAccepted}
 use Rattle.accepted.specs.Driven.{layerTests}
 use Rattle.accepted.proofs.FirstLaws.{accepted-none, first-append, first-refused}
 use Rattle.branching.specs.Marks.{Listed}
-use Rattle.search.specs.Searchable.{Searchable}
+use Rattle.leaf.specs.Searchable.{Searchable}
+use Rattle.plan.specs.Plan.{planAtoms}
+use Rattle.plan.specs.declared.Sizes.{Sizes}
+use Rattle.search.proofs.TurnLaws.{atoms-count}
+use Rattle.passes.specs.SetUp.{Ready}
 use Rattle.passes.specs.Limit.{hasTooManyBranching, hasNoStableState}
 use Rattle.passes.specs.First.{FirstWritten}
 use Rattle.passes.proofs.SetUpLaws.{set-up-alike, too-many, not-too-many}
@@ -37,13 +41,19 @@ use Rattle.one_call.specs.declared.OneReply.the-variants as reply
 use Rattle.one_call.specs.Reply.{roomTests, searchTests, oneTests, replyOf, BufferOf, oneReply, OneBuffer, Answers}
 
 -- ---- room and search
-module _ {book rows overridden atoms : List ℕ} {n : ℕ} (w : Searchable book rows overridden atoms n) (size : ℕ) (e : size ≡ recordSize n) (old : List ℕ) where
-  abbrev P : Program
-  P = tabled book rows overridden n
+module _ {book rows plan : List ℕ} {sizes : Sizes} (ready : Ready book rows plan sizes) (size : ℕ) (e : size ≡ recordSize (sizes .n)) (old : List ℕ) where
+  abbrev n : ℕ
+  n = sizes .n
 
-  g-is : length atoms ≡ branchingCount P
+  abbrev w : Searchable book rows (planAtoms plan (sizes .branching)) n
+  w = ready .table
+
+  abbrev P : Program
+  P = tabled book rows n
+
+  g-is : sizes .branching ≡ branchingCount P
   unfolding branchingCount
-  g-is = ap length (w .listed)
+  g-is = sym (atoms-count (ready .planned)) ∙ ap length (w .listed)
 
   size-is : size ≡ recordSize (P .atoms)
   size-is = e ∙ ap recordSize (w .size)
@@ -71,7 +81,7 @@ module _ {book rows overridden atoms : List ℕ} {n : ℕ} (w : Searchable book 
           let z : size - 0 ≡ size = omega arith in
           rw q (record { reply-is = refl; buffer-is = back part ∙ ap (λ (x : List ℕ). x ++ drop size old) (s .1 ∙ ap (λ (x : ℕ). take x old) z) ∙ take-append-drop size old })
 
-      pub state-written : found ≡ true → Answers (firstOf (roomTests P (length old))) P old (reply.Written (length atoms)) (putMid 0 (size - 0) old part)
+      pub state-written : found ≡ true → Answers (firstOf (roomTests P (length old))) P old (reply.Written (sizes .branching)) (putMid 0 (size - 0) old part)
       unfolding firstOf verdictIf roomTests replyOf
       state-written b =
           let s = f .some b in
@@ -116,24 +126,20 @@ module _ {P Q : Program} (a : Alike P Q) where
       }
 
 -- ---- cause 12
-module _ (book : List ℕ) (layer : ℕ) (ok : IsAccepted book) {rows overridden : List ℕ} {count : ℕ} (made : TableMade (programOf book layer) book rows overridden count)
-    {atoms : List ℕ} {g : ℕ} (l : Listed (programOf book layer) atoms g) where
-  module _ (old : List ℕ) where
-    pub branching-refused : 20 < g → Answers (firstOf (searchTests (programOf book layer) (length old))) (programOf book layer) old (reply.Refused TooManyBranching) old
-    unfolding firstOf verdictIf searchTests replyOf
-    branching-refused h =
-        let e : firstOf (searchTests (programOf book layer) (length old)) ≡ Refused TooManyBranching = rw (too-many book layer ok made l h) refl in
-        rw e (record { reply-is = refl; buffer-is = refl })
+module _ {P : Program} (old : List ℕ) where
+  pub branching-refused : hasTooManyBranching P ≡ true → Answers (firstOf (searchTests P (length old))) P old (reply.Refused TooManyBranching) old
+  unfolding firstOf verdictIf searchTests replyOf
+  branching-refused h =
+      let e : firstOf (searchTests P (length old)) ≡ Refused TooManyBranching = rw h refl in
+      rw e (record { reply-is = refl; buffer-is = refl })
 
-    passes-over : g ≤ 20 → (r : OneReply) (new : List ℕ) → Answers (firstOf (roomTests (programOf book layer) (length old))) (programOf book layer) old r new
-        → Answers (firstOf (searchTests (programOf book layer) (length old))) (programOf book layer) old r new
-    unfolding firstOf verdictIf searchTests
-    passes-over h r new a = rw (not-too-many book layer ok made l h) a
+  passes-over : hasTooManyBranching P ≡ false → (r : OneReply) (new : List ℕ) → Answers (firstOf (roomTests P (length old))) P old r new → Answers (firstOf (searchTests P (length old))) P old r new
+  unfolding firstOf verdictIf searchTests
+  passes-over h r new a = rw h a
 
-    pub branching-passes : g ≤ 20 → {n : ℕ} → n ≡ bookOf book .atoms → (r : OneReply) (new : List ℕ)
-        → Answers (firstOf (roomTests (tabled book (take (4 * count - 0) rows) (take (count - 0) overridden) n) (length old))) (tabled book (take (4 * count - 0) rows) (take (count - 0) overridden) n) old r new
-        → Answers (firstOf (searchTests (programOf book layer) (length old))) (programOf book layer) old r new
-    branching-passes h e r new a = passes-over h r new (answers-over (set-up-alike book layer ok made l e) a)
+  pub branching-passes : hasTooManyBranching P ≡ false → {Q : Program} → Alike P Q → (r : OneReply) (new : List ℕ) → Answers (firstOf (roomTests Q (length old))) Q old r new
+      → Answers (firstOf (searchTests P (length old))) P old r new
+  branching-passes h a r new x = passes-over h r new (answers-over a x)
 
 -- ---- the call
 module _ (book : List ℕ) (layer : ℕ) (old : List ℕ) (v : Verdict) (e : v ≡ firstOf (layerTests book layer)) where
@@ -151,11 +157,11 @@ module _ (book : List ℕ) (layer : ℕ) (old : List ℕ) (v : Verdict) (e : v �
       (rw z (a .reply-is), rw z (a .buffer-is))
 
 -- a granted answer carries a g of at most 20
-pub granted-small : (book : List ℕ) (layer : ℕ) (old : List ℕ) (g : ℕ) → oneReply book layer old ≡ reply.Written g → g ≤ 20
+pub granted-small : (book : List ℕ) (layer : ℕ) (old : List ℕ) (g : ℕ) → oneReply book layer old ≡ reply.Written g → g ≤ maxBranching
 unfolding oneReply replyOf oneTests searchTests hasTooManyBranching
 granted-small book layer old g e = go (firstOf (oneTests book layer (length old))) refl e
   where
-    go : (v : Verdict) → firstOf (oneTests book layer (length old)) ≡ v → replyOf v (programOf book layer) ≡ reply.Written g → g ≤ 20
+    go : (v : Verdict) → firstOf (oneTests book layer (length old)) ≡ v → replyOf v (programOf book layer) ≡ reply.Written g → g ≤ maxBranching
     go (Refused c) q f = let z : _≡_ {A = ℕ} 0 1 = cc in absurd (omega arith)
     go Accepted q f =
         let b : g ≡ branchingCount (programOf book layer) = cc in

@@ -33,8 +33,12 @@ use Rattle.accepted.specs.Driven.{layerTests}
 use Rattle.accepted.proofs.FirstLaws.{first-append, first-refused, accepted-none}
 use Rattle.accepted.proofs.RecordFacts.{program-atoms}
 use Rattle.search.specs.declared.Goal.the-variants.{Settle}
-use Rattle.search.specs.Searchable.{Searchable}
+use Rattle.leaf.specs.Searchable.{Searchable}
 use Rattle.search.specs.Visits.{reaches}
+use Rattle.plan.specs.Plan.{planAtoms}
+use Rattle.plan.specs.declared.Sizes.{Sizes}
+use Rattle.search.proofs.TurnLaws.{atoms-count}
+use Rattle.passes.specs.SetUp.{Ready}
 use Rattle.passes.specs.Limit.{hasTooManyBranching, hasNoStableState}
 use Rattle.passes.specs.Tallied.{Tallied}
 use Rattle.passes.proofs.StateLaws.{models-from, models-into, some-state, seen-from, seen-into, tallied-none, tallied-some}
@@ -108,16 +112,25 @@ and-false : (b : Bool) → (b && false) ≡ false
 and-false true = refl
 and-false false = refl
 
-module _ {book rows overridden atoms : List ℕ} {n : ℕ} (w : Searchable book rows overridden atoms n) {fact count standing : ℕ} (t : Tallied (tabled book rows overridden n) Settle fact count standing) where
+module _ {book rows plan : List ℕ} {sizes : Sizes} (ready : Ready book rows plan sizes) {asked : List ℕ} {count standing : ℕ} (t : Tallied (tabled book rows (sizes .n)) Settle asked count standing) (fact : ℕ) (asks : u16At asked 0 ≡ fact) where
+  abbrev n : ℕ
+  n = sizes .n
+
+  abbrev w : Searchable book rows (planAtoms plan (sizes .branching)) n
+  w = ready .table
+
   abbrev P : Program
-  P = tabled book rows overridden n
+  P = tabled book rows n
 
   few : P .atoms ≤ maxAtoms
   few = subst (λ (k : ℕ). k ≤ maxAtoms) (w .size) (w .few)
 
-  g-is : length atoms ≡ branchingCount P
+  g-is : sizes .branching ≡ branchingCount P
   unfolding branchingCount
-  g-is = ap length (w .listed)
+  g-is = sym (atoms-count (ready .planned)) ∙ ap length (w .listed)
+
+  standing-is : standing ≡ length (filter (λ m. atomHolds m fact) (t .seen))
+  standing-is = t .weight-is ∙ settled-weight asked (t .seen) ∙ ap (λ (f : ℕ). length (filter (λ m. atomHolds m f) (t .seen))) asks
 
   unsettled : (standing ≡ 0) ⊎ (count ≤ standing) → reaches Settle count standing ≡ false
   unfolding reaches
@@ -132,25 +145,25 @@ module _ {book rows overridden atoms : List ℕ} {n : ℕ} (w : Searchable book 
   refused-state e = rw (tallied-none P (w .formed) few t e) refl
 
   module _ (some : 0 < count) where
-    placed : (p : Place) → placeIn P fact ≡ p → reply.Placed p (length atoms) ≡ replyOf (firstOf (stateTests P)) P fact
+    placed : (p : Place) → placeIn P fact ≡ p → reply.Placed p (sizes .branching) ≡ replyOf (firstOf (stateTests P)) P fact
     unfolding firstOf verdictIf stateTests replyOf
     placed p e = rw (tallied-some P (w .formed) few t some) (ap₂ reply.Placed (sym e) g-is)
 
-    pub placed-nowhere : standing ≡ 0 → reply.Placed Nowhere (length atoms) ≡ replyOf (firstOf (stateTests P)) P fact
+    pub placed-nowhere : standing ≡ 0 → reply.Placed Nowhere (sizes .branching) ≡ replyOf (firstOf (stateTests P)) P fact
     placed-nowhere e =
         let s = some-state P (tallied-some P (w .formed) few t some) in
         placed Nowhere (place-nowhere P fact (s .0) (s .1)
-        (λ m k. fails m (none-pass (λ m. atomHolds m fact) (t .seen) (sym (t .standing-is) ∙ e) m (seen-into P (w .formed) few t (unsettled (inl e)) m k))))
+        (λ m k. fails m (none-pass (λ m. atomHolds m fact) (t .seen) (sym (standing-is) ∙ e) m (seen-into P (w .formed) few t (unsettled (inl e)) m k))))
 
-    pub placed-in-some : 0 < standing → standing < count → reply.Placed InSome (length atoms) ≡ replyOf (firstOf (stateTests P)) P fact
+    pub placed-in-some : 0 < standing → standing < count → reply.Placed InSome (sizes .branching) ≡ replyOf (firstOf (stateTests P)) P fact
     placed-in-some a b =
-        let y = one-passes (λ m. atomHolds m fact) (t .seen) (omega (arith, t .standing-is)) in
-        let z = one-fails (λ m. atomHolds m fact) (t .seen) (omega (arith, t .standing-is, t .count-is)) in
+        let y = one-passes (λ m. atomHolds m fact) (t .seen) (omega (arith, standing-is)) in
+        let z = one-fails (λ m. atomHolds m fact) (t .seen) (omega (arith, standing-is, t .count-is)) in
         placed InSome (place-in-some P fact (y .0) (seen-from P (w .formed) few t (y .0) (y .1)) (y .2) (z .0) (seen-from P (w .formed) few t (z .0) (z .1)) (z .2))
 
-    pub placed-every : count ≤ standing → reply.Placed Every (length atoms) ≡ replyOf (firstOf (stateTests P)) P fact
+    pub placed-every : count ≤ standing → reply.Placed Every (sizes .branching) ≡ replyOf (firstOf (stateTests P)) P fact
     placed-every h =
-        placed Every (place-every P fact (λ m k. pass-all (λ m. atomHolds m fact) (t .seen) (omega (arith, t .standing-is, t .count-is)) m (seen-into P (w .formed) few t (unsettled (inr h)) m k)))
+        placed Every (place-every P fact (λ m k. pass-all (λ m. atomHolds m fact) (t .seen) (omega (arith, standing-is, t .count-is)) m (seen-into P (w .formed) few t (unsettled (inr h)) m k)))
 
 -- ---- the program that the table stands for, and the driven layer's
 module _ {P Q : Program} (a : Alike P Q) (fact : ℕ) where
@@ -170,7 +183,17 @@ module _ {P Q : Program} (a : Alike P Q) (fact : ℕ) where
   pub reply-over : (r : PlaceReply) → r ≡ replyOf (firstOf (stateTests Q)) Q fact → r ≡ replyOf (firstOf (stateTests P)) P fact
   reply-over r e = e ∙ sym (reply-same (firstOf (stateTests Q))) ∙ sym (ap (λ (ts : List Test). replyOf (firstOf ts) P fact) state-same)
 
--- ---- causes 11 and 12
+-- ---- cause 12
+module _ {P : Program} (fact : ℕ) where
+  pub branching-refused : hasTooManyBranching P ≡ true → reply.Refused TooManyBranching ≡ replyOf (firstOf (searchTests P)) P fact
+  unfolding firstOf verdictIf searchTests replyOf
+  branching-refused q = rw q refl
+
+  pub branching-passes : hasTooManyBranching P ≡ false → {Q : Program} → Alike P Q → (r : PlaceReply) → r ≡ replyOf (firstOf (stateTests Q)) Q fact → r ≡ replyOf (firstOf (searchTests P)) P fact
+  unfolding firstOf verdictIf searchTests
+  branching-passes q a r e = rw q (reply-over a fact r e)
+
+-- ---- cause 11
 module _ (book : List ℕ) (layer fact n : ℕ) (e : n ≡ bookOf book .atoms) where
   abbrev R : Program
   R = programOf book layer
@@ -182,25 +205,9 @@ module _ (book : List ℕ) (layer fact n : ℕ) (e : n ≡ bookOf book .atoms) w
   unfolding firstOf verdictIf factTests isNoSuchFact replyOf
   fact-refused h = rw (le-ltb fact (programOf book layer .atoms) (omega (arith, atoms-is))) refl
 
-  module _ (h : fact < n) where
-    fact-passes : firstOf (factTests R fact) ≡ firstOf (searchTests R)
-    unfolding firstOf verdictIf factTests isNoSuchFact
-    fact-passes = rw (lt-ltb fact (programOf book layer .atoms) (omega (arith, atoms-is))) refl
-
-    search-refused : hasTooManyBranching R ≡ true → firstOf (searchTests R) ≡ Refused TooManyBranching
-    unfolding firstOf verdictIf searchTests
-    search-refused q = rw q refl
-
-    search-passes : hasTooManyBranching R ≡ false → firstOf (searchTests R) ≡ firstOf (stateTests R)
-    unfolding firstOf verdictIf searchTests
-    search-passes q = rw q refl
-
-    pub branching-refused : hasTooManyBranching R ≡ true → reply.Refused TooManyBranching ≡ replyOf (firstOf (factTests R fact)) R fact
-    unfolding replyOf
-    branching-refused q = sym (ap (λ (v : Verdict). replyOf v R fact) (fact-passes ∙ search-refused q))
-
-    pub branching-passes : hasTooManyBranching R ≡ false → (r : PlaceReply) → r ≡ replyOf (firstOf (stateTests R)) R fact → r ≡ replyOf (firstOf (factTests R fact)) R fact
-    branching-passes q r a = a ∙ sym (ap (λ (v : Verdict). replyOf v R fact) (fact-passes ∙ search-passes q))
+  pub fact-passes : fact < n → (r : PlaceReply) → r ≡ replyOf (firstOf (searchTests R)) R fact → r ≡ replyOf (firstOf (factTests R fact)) R fact
+  unfolding firstOf verdictIf factTests isNoSuchFact
+  fact-passes h r q = rw (lt-ltb fact (programOf book layer .atoms) (omega (arith, atoms-is))) q
 
 -- ---- the call
 module _ (book : List ℕ) (layer fact : ℕ) (v : Verdict) (e : v ≡ firstOf (layerTests book layer)) where
@@ -298,11 +305,11 @@ module _ (book : List ℕ) (layer fact : ℕ) where
   )
 
   -- a granted answer carries a g of at most 20
-  pub granted-small : (p : Place) (g : ℕ) → placeReply book layer fact ≡ reply.Placed p g → g ≤ 20
+  pub granted-small : (p : Place) (g : ℕ) → placeReply book layer fact ≡ reply.Placed p g → g ≤ maxBranching
   unfolding placeReply replyOf placeTests factTests searchTests hasTooManyBranching
   granted-small p g e = go (firstOf (placeTests book layer fact)) refl e
     where
-      go : (v : Verdict) → firstOf (placeTests book layer fact) ≡ v → replyOf v Q fact ≡ reply.Placed p g → g ≤ 20
+      go : (v : Verdict) → firstOf (placeTests book layer fact) ≡ v → replyOf v Q fact ≡ reply.Placed p g → g ≤ maxBranching
       go (Refused c) q f = let z : _≡_ {A = ℕ} 0 1 = cc in absurd (omega arith)
       go Accepted q f =
           let b : g ≡ branchingCount Q = cc in

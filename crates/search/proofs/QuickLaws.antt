@@ -20,17 +20,16 @@ use Rattle.models.specs.Program.{Program}
 use Rattle.models.specs.StableModels.{Interpretation, atomHolds, positive, negative, complement, signed, holds, bodyHolds, overrides, rejected, Derived, by-default, by-rule, StableModel}
 use Rattle.models.specs.Branching.{branchingAtoms}
 use Rattle.table.specs.Names.{literalNamed, nameOf}
-use Rattle.table.specs.Rows.{rowCount, headName, rowAt}
+use Rattle.table.specs.Rows.{rowCount, headName, rowAt, alive}
 use Rattle.table.specs.Tabled.{tabled}
 use Rattle.table.proofs.NameLaws.{name-back, complement-twice}
 use Rattle.table.proofs.RowLaws.{row-in, row-of}
 use Rattle.table.proofs.NamedLaws.{overrides-named}
-use Rattle.filling.specs.Marks.{alive}
 use Rattle.setting.specs.Setting.{settingOf}
 use Rattle.setting.specs.RuleMasks.{AtomBits, RuleMask, plainMask, negatedMask, headMask, MaskOf, RuleMasks, Open, Headed}
 use Rattle.setting.proofs.BitMaskLaws.{single, single-only}
 use Rattle.setting.proofs.SettingLaws.{setting-size, setting-false, setting-true}
-use Rattle.nogoods.specs.Nogoods.{Rejectable, Within, NogoodOf, Nogoods, Met}
+use Rattle.nogoods.specs.Nogoods.{Rejectable, Within, NogoodOf, Nogoods, Violated}
 use Rattle.insertion.proofs.Once.{Once}
 use Rattle.insertion.proofs.SortedLaws.{getD-member}
 use Rattle.leaf.specs.Found.{atSetting, foundBy}
@@ -149,7 +148,7 @@ module _ {book rows atoms : List ℕ} {n : ℕ} (w : Searchable book rows atoms 
         facing t j et eh = sym (complement-twice (r .head)) ∙ ap complement (sym eh ∙ ap (λ (x : Rule). x .head) et ∙ row-head-is j)
 
     -- so no nogood is decided
-    no-nogood : {nogoods : List ℕ} {n : ℕ} → Nogoods book rows atoms nogoods n → Met nogoods n standing denied → ⊥
+    no-nogood : {nogoods : List ℕ} {n : ℕ} → Nogoods book rows atoms nogoods n → Violated nogoods n standing denied → ⊥
     unfolding rowAt holds signed complement
     no-nogood {nogoods} g x =
         let v = g .each (x .place) (x .before) in
@@ -186,7 +185,7 @@ module _ {book rows atoms : List ℕ} {n : ℕ} (w : Searchable book rows atoms 
   pub none-headed : (r : Bool) → (Headed masks (length masks / 3) standing denied → r ≡ true) → not r ≡ true → foundBy (atSetting P atoms) undecided o ≡ []
   none-headed r told e = nothing-found (λ m sm same. false≢true (subst (λ (c : Bool). not c ≡ true) (told (all-headed m sm same)) e))
 
-  pub none-allowed : {nogoods : List ℕ} → Nogoods book rows atoms nogoods (length nogoods / 2) → (r : Bool) → (r ≡ true → Met nogoods (length nogoods / 2) standing denied) → r ≡ true → foundBy (atSetting P atoms) undecided o ≡ []
+  pub none-allowed : {nogoods : List ℕ} → Nogoods book rows atoms nogoods (length nogoods / 2) → (r : Bool) → (r ≡ true → Violated nogoods (length nogoods / 2) standing denied) → r ≡ true → foundBy (atSetting P atoms) undecided o ≡ []
   none-allowed g r told e = nothing-found (λ m sm same. no-nogood m sm same g (told e))
 
 -- ---- what is decided, from call to call

@@ -13,7 +13,7 @@ use Rattle.table.specs.Tabled.{tabled}
 use Rattle.setting.specs.Setting.{settingOf}
 use Rattle.setting.specs.RuleMasks.{Headed}
 use Rattle.setting.proofs.BitMaskLaws.{single}
-use Rattle.nogoods.specs.Nogoods as nogoods
+use Rattle.nogoods.specs.Nogoods.{Violated}
 use Rattle.plan.specs.Plan.{planAtoms, planMasks, planNogoods, Planned}
 use Rattle.plan.specs.declared.Sizes.{Sizes}
 use Rattle.plan.proofs.PartLaws.{part-length}
@@ -51,11 +51,11 @@ module _ {book rows atoms : List ℕ} {n : ℕ} (w : Searchable book rows atoms 
 
   -- the quick tests failed: there is nothing to find
   pub none-promised : {plan : List ℕ} {s : Sizes} → Planned book rows atoms plan s → (r : Bool)
-      → (r ≡ false → (Headed (planMasks plan (s .heads)) (length (planMasks plan (s .heads)) / 3) standing denied → ⊥) ⊎ nogoods.Met (planNogoods plan (s .nogoods)) (length (planNogoods plan (s .nogoods)) / 2) standing denied)
+      → (r ≡ false → (Headed (planMasks plan (s .heads)) (length (planMasks plan (s .heads)) / 3) standing denied → ⊥) ⊎ Violated (planNogoods plan (s .nogoods)) (length (planNogoods plan (s .nogoods)) / 2) standing denied)
       → r ≡ false → foundBy leaf U (settingOf atoms standing) ≡ []
   none-promised {plan} {s} p r told e = go (told e)
     where
-      go : (Headed (planMasks plan (s .heads)) (length (planMasks plan (s .heads)) / 3) standing denied → ⊥) ⊎ nogoods.Met (planNogoods plan (s .nogoods)) (length (planNogoods plan (s .nogoods)) / 2) standing denied
+      go : (Headed (planMasks plan (s .heads)) (length (planMasks plan (s .heads)) / 3) standing denied → ⊥) ⊎ Violated (planNogoods plan (s .nogoods)) (length (planNogoods plan (s .nogoods)) / 2) standing denied
           → foundBy leaf U (settingOf atoms standing) ≡ []
       go (inl f) = quick.none-headed w (p .rule-masks) (settingOf atoms standing) (t .decided) false (λ h. absurd (f h)) refl
       go (inr m) = quick.none-allowed w (p .rule-masks) (settingOf atoms standing) (t .decided) (p .nogood-masks) true (λ h. m) refl

@@ -9,7 +9,7 @@ use lib.Dec.{ltb}
 use lib.ListN.{length, take, drop}
 use Rattle.format.specs.Book.{u16At}
 use Rattle.insertion.specs.Runs.{Whole, Least}
-use Rattle.insertion.proofs.LeastLaws.{least-none, least-append}
+use Rattle.insertion.proofs.KeptLaws.{least-none, least-append}
 use Rattle.records.specs.Written.{LeastFor}
 use Rattle.models.specs.StableModels.{Interpretation, atomHolds}
 use Rattle.models.specs.Listing.{bitValue, recordSize, recordOf}

@@ -9,7 +9,7 @@ ghost use Rattle.table.specs.Tabled.{tabled};
 ghost use Rattle.filling.specs.Marks.{hintSize};
 ghost use Rattle.setting.specs.Setting.{settingOf};
 ghost use Rattle.setting.specs.RuleMasks.{Headed};
-ghost use Rattle.nogoods.specs.Nogoods as nogoods;
+ghost use Rattle.nogoods.specs.Nogoods.{maxNogoods, Violated};
 ghost use Rattle.plan.specs.Plan.{planSize, planAtoms, planMasks, planNogoods, Planned};
 ghost use Rattle.leaf.specs.Found.{atSetting, foundBy};
 ghost use Rattle.leaf.specs.Searchable.{Searchable};
@@ -138,8 +138,8 @@ pub fn visit_setting(
 // Whether the quick tests leave it open that a setting of the facts that are left has a stable model: each fact that stands is the head
 // of a rule that may yet be reached, and no nogood is decided.
 fn promising(plan: &[u32], sizes: Sizes, turn: Turn) -> bool
-    requires { ⌜ (length (now plan) ≡ planSize) × (sizes .heads ≤ maxRules) × (sizes .nogoods ≤ nogoods.maxNogoods) ⌝ }
-    ensures { λ r. ⌜ (r ≡ false → (Headed (planMasks (now (plan .entry)) (sizes .heads)) (length (planMasks (now (plan .entry)) (sizes .heads)) / 3) (turn .standing) (turn .denied) → ⊥) ⊎ nogoods.Met (planNogoods (now (plan .entry)) (sizes .nogoods)) (length (planNogoods (now (plan .entry)) (sizes .nogoods)) / 2) (turn .standing) (turn .denied)) ⌝ }
+    requires { ⌜ (length (now plan) ≡ planSize) × (sizes .heads ≤ maxRules) × (sizes .nogoods ≤ maxNogoods) ⌝ }
+    ensures { λ r. ⌜ (r ≡ false → (Headed (planMasks (now (plan .entry)) (sizes .heads)) (length (planMasks (now (plan .entry)) (sizes .heads)) / 3) (turn .standing) (turn .denied) → ⊥) ⊎ Violated (planNogoods (now (plan .entry)) (sizes .nogoods)) (length (planNogoods (now (plan .entry)) (sizes .nogoods)) / 2) (turn .standing) (turn .denied)) ⌝ }
 {
     let heads = MASKS + 3 * sizes.heads;
     if !headed(&plan[MASKS..heads], turn.standing, turn.denied) {
