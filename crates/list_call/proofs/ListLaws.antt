@@ -1,5 +1,6 @@
 -- The listing call, step by step: the size of the listing, each refusal, and the buffer once all is written. Assumes nothing.
 use mathlib.Core.Path.{_≡_, refl, sym, ap, ap₂, subst, _∙_}
+use mathlib.Core.Bool.{true, false}
 use mathlib.Core.List.{List, [], _∷_, _++_, map}
 use Prim.Native.Nat.{ℕ, _+_, _-_, _*_, _^_, _<_, _≤_}
 use native.Mathlib.Nat.{pow-le-pow-right}
@@ -34,6 +35,7 @@ use Rattle.leaf.specs.Searchable.{Searchable}
 use Rattle.plan.specs.Plan.{planAtoms}
 use Rattle.plan.specs.declared.Sizes.{Sizes}
 use Rattle.search.proofs.TurnLaws.{atoms-count}
+use Rattle.passes.specs.Limit.{hasTooManyBranching}
 use Rattle.passes.specs.SetUp.{Ready}
 use Rattle.passes.proofs.PassLaws.{models-le}
 use Rattle.passes.proofs.SetUpLaws.{set-up-alike, too-many, not-too-many}
@@ -61,7 +63,7 @@ module _ {book rows plan : List ℕ} {sizes : Sizes} (ready : Ready book rows pl
 
   module _ {k : ℕ} (k-is : k ≡ length (stableModels P)) where
     k-le : k ≤ 2 ^ maxBranching
-    k-le = omega (arith, k-is, models-le P (w .formed) atoms-few, pow-le-pow-right {n = 2} (omega arith) (subst (λ (x : ℕ). x ≤ maxBranching) g-is (w .atoms-few)))
+    k-le = omega (arith, k-is, models-le P (w .formed) atoms-few, pow-le-pow-right {n = 2} (omega arith) (subst (λ (x : ℕ). x ≤ maxBranching) (atoms-count (ready .planned) ∙ g-is) (w .atoms-few)))
 
     module _ (width : ℕ) (e : width ≡ recordSize n) where
       pub bytes-fit : k * width ≤ 2 ^ maxBranching * maxRecord
@@ -116,41 +118,10 @@ module _ {P Q : Program} (a : Alike P Q) where
   buffer-same (Refused c) old = refl
   buffer-same Accepted old = ap (λ (s : List ℕ). s ++ drop (length s) old) (alike-listing a)
 
-  answers-over : {old new : List ℕ} {r : ListReply} → Answers (firstOf (roomTests Q (length old))) Q old r new → Answers (firstOf (roomTests P (length old))) P old r new
+  pub answers-over : {old new : List ℕ} {r : ListReply} → Answers (firstOf (roomTests Q (length old))) Q old r new → Answers (firstOf (roomTests P (length old))) P old r new
   answers-over {old} x =
       let e : firstOf (roomTests Q (length old)) ≡ firstOf (roomTests P (length old)) = sym (ap firstOf (room-same (length old))) in
       record {
         reply-is = x .reply-is ∙ ap (λ (v : Verdict). replyOf v Q) e ∙ sym (reply-same (firstOf (roomTests P (length old))));
         buffer-is = x .buffer-is ∙ ap (λ (v : Verdict). bufferOf v Q old) e ∙ sym (buffer-same (firstOf (roomTests P (length old))) old);
       }
-
--- ---- cause 12
-module _ {P : Program} (old : List ℕ) where
-  pub branching-refused : hasTooManyBranching P ≡ true → Answers (firstOf (searchTests P (length old))) P old (reply.Refused TooManyBranching) old
-  unfolding firstOf verdictIf searchTests replyOf bufferOf
-  branching-refused h =
-      let e : firstOf (searchTests P (length old)) ≡ Refused TooManyBranching = rw h refl in
-      record { reply-is = rw e refl; buffer-is = rw e refl }
-
-  passes-over : hasTooManyBranching P ≡ false → (r : ListReply) (new : List ℕ) → Answers (firstOf (roomTests P (length old))) P old r new → Answers (firstOf (searchTests P (length old))) P old r new
-  unfolding firstOf verdictIf searchTests
-  passes-over h r new a = rw h a
-
-  pub branching-passes : hasTooManyBranching P ≡ false → {Q : Program} → Alike P Q → (r : ListReply) (new : List ℕ) → Answers (firstOf (roomTests Q (length old))) Q old r new
-      → Answers (firstOf (searchTests P (length old))) P old r new
-  branching-passes h a r new x = passes-over h r new (answers-over a x)
-
--- ---- the call
-module _ (book : List ℕ) (layer : ℕ) (old : List ℕ) (v : Verdict) (e : v ≡ firstOf (layerTests book layer)) where
-  pub call-refused : (c : Cause) → v ≡ Refused c → (reply.Refused c ≡ listReply book layer old) × (old ≡ listBuffer book layer old)
-  unfolding listReply listBuffer listTests replyOf bufferOf
-  call-refused c q =
-      let z : firstOf (layerTests book layer ++ searchTests (programOf book layer) (length old)) ≡ Refused c = first-refused (layerTests book layer) (searchTests (programOf book layer) (length old)) c (sym e ∙ q) in
-      (rw z refl, rw z refl)
-
-  pub call-answered : v ≡ Accepted → (r : ListReply) (new : List ℕ) → Answers (firstOf (searchTests (programOf book layer) (length old))) (programOf book layer) old r new
-      → (r ≡ listReply book layer old) × (new ≡ listBuffer book layer old)
-  unfolding listReply listBuffer listTests
-  call-answered q r new a =
-      let z : firstOf (layerTests book layer ++ searchTests (programOf book layer) (length old)) ≡ firstOf (searchTests (programOf book layer) (length old)) = first-append (layerTests book layer) (searchTests (programOf book layer) (length old)) (sym e ∙ q) in
-      (rw z (a .reply-is), rw z (a .buffer-is))

@@ -117,44 +117,13 @@ module _ {P Q : Program} (a : Alike P Q) where
     bytes = h .bytes ∙ sym (ap (λ (n : ℕ). recordOf n (h .state) ++ drop (recordSize n) old) (a .atoms-same));
   }
 
-  answers-over : {old new : List ℕ} {r : OneReply} → Answers (firstOf (roomTests Q (length old))) Q old r new → Answers (firstOf (roomTests P (length old))) P old r new
+  pub answers-over : {old new : List ℕ} {r : OneReply} → Answers (firstOf (roomTests Q (length old))) Q old r new → Answers (firstOf (roomTests P (length old))) P old r new
   answers-over {old} {new} x =
       let e : firstOf (roomTests Q (length old)) ≡ firstOf (roomTests P (length old)) = sym (ap firstOf (room-same (length old))) in
       record {
         reply-is = x .reply-is ∙ ap (λ (v : Verdict). replyOf v Q) e ∙ sym (reply-same (firstOf (roomTests P (length old))));
         buffer-is = buffer-from (firstOf (roomTests P (length old))) old new (subst (λ (v : Verdict). BufferOf v Q old new) e (x .buffer-is));
       }
-
--- ---- cause 12
-module _ {P : Program} (old : List ℕ) where
-  pub branching-refused : hasTooManyBranching P ≡ true → Answers (firstOf (searchTests P (length old))) P old (reply.Refused TooManyBranching) old
-  unfolding firstOf verdictIf searchTests replyOf
-  branching-refused h =
-      let e : firstOf (searchTests P (length old)) ≡ Refused TooManyBranching = rw h refl in
-      rw e (record { reply-is = refl; buffer-is = refl })
-
-  passes-over : hasTooManyBranching P ≡ false → (r : OneReply) (new : List ℕ) → Answers (firstOf (roomTests P (length old))) P old r new → Answers (firstOf (searchTests P (length old))) P old r new
-  unfolding firstOf verdictIf searchTests
-  passes-over h r new a = rw h a
-
-  pub branching-passes : hasTooManyBranching P ≡ false → {Q : Program} → Alike P Q → (r : OneReply) (new : List ℕ) → Answers (firstOf (roomTests Q (length old))) Q old r new
-      → Answers (firstOf (searchTests P (length old))) P old r new
-  branching-passes h a r new x = passes-over h r new (answers-over a x)
-
--- ---- the call
-module _ (book : List ℕ) (layer : ℕ) (old : List ℕ) (v : Verdict) (e : v ≡ firstOf (layerTests book layer)) where
-  pub call-refused : (c : Cause) → v ≡ Refused c → (reply.Refused c ≡ oneReply book layer old) × OneBuffer book layer old old
-  unfolding oneReply oneTests replyOf
-  call-refused c q =
-      let z : firstOf (layerTests book layer ++ searchTests (programOf book layer) (length old)) ≡ Refused c = first-refused (layerTests book layer) (searchTests (programOf book layer) (length old)) c (sym e ∙ q) in
-      (rw z refl, rw z refl)
-
-  pub call-answered : v ≡ Accepted → (r : OneReply) (new : List ℕ) → Answers (firstOf (searchTests (programOf book layer) (length old))) (programOf book layer) old r new
-      → (r ≡ oneReply book layer old) × OneBuffer book layer old new
-  unfolding oneReply oneTests
-  call-answered q r new a =
-      let z : firstOf (layerTests book layer ++ searchTests (programOf book layer) (length old)) ≡ firstOf (searchTests (programOf book layer) (length old)) = first-append (layerTests book layer) (searchTests (programOf book layer) (length old)) (sym e ∙ q) in
-      (rw z (a .reply-is), rw z (a .buffer-is))
 
 -- a granted answer carries a g of at most 20
 pub granted-small : (book : List ℕ) (layer : ℕ) (old : List ℕ) (g : ℕ) → oneReply book layer old ≡ reply.Written g → g ≤ maxBranching

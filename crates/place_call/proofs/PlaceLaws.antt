@@ -4,7 +4,7 @@ use mathlib.Core.Path.{_≡_, refl, sym, ap, ap₂, subst, _∙_}
 use mathlib.Core.Logic.{_⊎_, inl, inr}
 use mathlib.Core.Bool.{Bool, true, false, not, _&&_}
 use mathlib.Core.List.{List, [], _∷_, List·Memᴰ·head, List·Memᴰ·tail, List·Memᴰ·not-nil, Memᴰ·append-right}
-use Prim.Native.Nat.{ℕ, suc, _<_, _≤_}
+use Prim.Native.Nat.{ℕ, suc, _/_, _%_, _<_, _≤_}
 use native.Mathlib.Decide.{decLt}
 use native.Mathlib.Omega.{arith}
 use borrow.Author.Tests.{lt-ltb, le-ltb, ltb-false}
@@ -20,7 +20,7 @@ use Rattle.book.specs.declared.Cause.{Cause}
 use Rattle.book.specs.declared.Cause.the-variants.{NoSuchFact, TooManyBranching, NoStableState}
 use Rattle.book.specs.declared.Verdict.{Verdict}
 use Rattle.book.specs.declared.Verdict.the-variants.{Accepted, Refused}
-use Rattle.format.specs.Book.{bookOf}
+use Rattle.format.specs.Book.{u16At}
 use Rattle.models.specs.Program.{Program}
 use Rattle.models.specs.StableModels.{Interpretation, atomHolds, StableModel}
 use Rattle.models.specs.Branching.{branchingCount}
@@ -41,7 +41,7 @@ use Rattle.search.proofs.TurnLaws.{atoms-count}
 use Rattle.passes.specs.SetUp.{Ready}
 use Rattle.passes.specs.Limit.{hasTooManyBranching, hasNoStableState}
 use Rattle.passes.specs.Tallied.{Tallied}
-use Rattle.passes.proofs.StateLaws.{models-from, models-into, some-state, seen-from, seen-into, tallied-none, tallied-some}
+use Rattle.passes.proofs.StateLaws.{models-from, models-into, some-state, seen-from, seen-into, tallied-none, tallied-some, settled-weight}
 use Rattle.place_call.specs.declared.Place.{Place}
 use Rattle.place_call.specs.declared.Place.the-variants.{Every, InSome, Nowhere}
 use Rattle.place_call.specs.declared.PlaceReply.{PlaceReply}
@@ -108,6 +108,11 @@ module _ (P : Program) (fact : ℕ) where
   place-in-some m s t o r f = rw (not-all o r f, passed (any stands (stableModels P)) (any-of stands (models-into P m s) t)) refl
 
 -- ---- what the pass tells
+-- the two bytes that ask for a fact
+pub fact-asked : (fact : ℕ) → fact < maxAtoms → u16At (fact / 256 % 256 ∷ fact % 256 ∷ []) 0 ≡ fact
+unfolding u16At
+fact-asked fact h = omega arith
+
 and-false : (b : Bool) → (b && false) ≡ false
 and-false true = refl
 and-false false = refl
@@ -182,42 +187,6 @@ module _ {P Q : Program} (a : Alike P Q) (fact : ℕ) where
 
   pub reply-over : (r : PlaceReply) → r ≡ replyOf (firstOf (stateTests Q)) Q fact → r ≡ replyOf (firstOf (stateTests P)) P fact
   reply-over r e = e ∙ sym (reply-same (firstOf (stateTests Q))) ∙ sym (ap (λ (ts : List Test). replyOf (firstOf ts) P fact) state-same)
-
--- ---- cause 12
-module _ {P : Program} (fact : ℕ) where
-  pub branching-refused : hasTooManyBranching P ≡ true → reply.Refused TooManyBranching ≡ replyOf (firstOf (searchTests P)) P fact
-  unfolding firstOf verdictIf searchTests replyOf
-  branching-refused q = rw q refl
-
-  pub branching-passes : hasTooManyBranching P ≡ false → {Q : Program} → Alike P Q → (r : PlaceReply) → r ≡ replyOf (firstOf (stateTests Q)) Q fact → r ≡ replyOf (firstOf (searchTests P)) P fact
-  unfolding firstOf verdictIf searchTests
-  branching-passes q a r e = rw q (reply-over a fact r e)
-
--- ---- cause 11
-module _ (book : List ℕ) (layer fact n : ℕ) (e : n ≡ bookOf book .atoms) where
-  abbrev R : Program
-  R = programOf book layer
-
-  atoms-is : n ≡ programOf book layer .atoms
-  atoms-is = program-atoms book layer n e
-
-  pub fact-refused : n ≤ fact → reply.Refused NoSuchFact ≡ replyOf (firstOf (factTests R fact)) R fact
-  unfolding firstOf verdictIf factTests isNoSuchFact replyOf
-  fact-refused h = rw (le-ltb fact (programOf book layer .atoms) (omega (arith, atoms-is))) refl
-
-  pub fact-passes : fact < n → (r : PlaceReply) → r ≡ replyOf (firstOf (searchTests R)) R fact → r ≡ replyOf (firstOf (factTests R fact)) R fact
-  unfolding firstOf verdictIf factTests isNoSuchFact
-  fact-passes h r q = rw (lt-ltb fact (programOf book layer .atoms) (omega (arith, atoms-is))) q
-
--- ---- the call
-module _ (book : List ℕ) (layer fact : ℕ) (v : Verdict) (e : v ≡ firstOf (layerTests book layer)) where
-  pub call-refused : (c : Cause) → v ≡ Refused c → reply.Refused c ≡ placeReply book layer fact
-  unfolding placeReply placeTests replyOf
-  call-refused c q = rw (first-refused (layerTests book layer) (factTests (programOf book layer) fact) c (sym e ∙ q)) refl
-
-  pub call-answered : v ≡ Accepted → (r : PlaceReply) → r ≡ replyOf (firstOf (factTests (programOf book layer) fact)) (programOf book layer) fact → r ≡ placeReply book layer fact
-  unfolding placeReply placeTests
-  call-answered q r a = rw (first-append (layerTests book layer) (factTests (programOf book layer) fact) (sym e ∙ q)) a
 
 -- ---- the places, by the stable models of the inductive definition
 not-every : (b : Bool) → placeBy false b ≡ Every → ⊥

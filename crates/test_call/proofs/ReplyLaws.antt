@@ -14,6 +14,7 @@ use Rattle.models.specs.StableModels.{Interpretation, stable, StableModel}
 use Rattle.models.specs.Listing.{interpretationOf}
 use Rattle.models.proofs.LeastLaws.{stable-sound, stable-complete}
 use Rattle.models.proofs.AlikeLaws.{alike-stable}
+use Rattle.table.specs.Rows.{rowSize}
 use Rattle.table.specs.Table.{programOf, TableMade}
 use Rattle.table.specs.Tabled.{tabled}
 use Rattle.table.proofs.TabledLaws.{lent-alike}
@@ -40,9 +41,9 @@ module _ (n : ℕ) (s : List ℕ) (m : List Bool) (e : take n m ≡ interpretati
   lent-size = ap (length {A = Bool}) lent-state ∙ read-length n s
 
 -- the test of the lent table is that of the driven layer's program
-pub stable-over : {P : Program} {book rows overridden : List ℕ} {count : ℕ} → TableMade P book rows overridden count → {n : ℕ} → n ≡ P .atoms
+pub stable-over : {P : Program} {book rows : List ℕ} {count : ℕ} → TableMade P book rows count → {n : ℕ} → n ≡ P .atoms
     → (s : List ℕ) (m : List Bool) → take n m ≡ interpretationOf n s → (r : Bool)
-    → r ≡ stable (tabled book (take (4 * count - 0) rows) (take (count - 0) overridden) n) (take (n - 0) m) → r ≡ stable P (interpretationOf n s)
+    → r ≡ stable (tabled book (take (rowSize * count - 0) rows) n) (take (n - 0) m) → r ≡ stable P (interpretationOf n s)
 stable-over {P} made {n} e s m q r t =
     t ∙ sym (alike-stable (lent-alike made e) (take (n - 0) m) (lent-size n s m q ∙ e)) ∙ ap (λ (o : Interpretation). stable P o) (lent-state n s m q)
 

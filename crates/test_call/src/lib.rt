@@ -15,11 +15,18 @@ ghost use Rattle.test_call.specs.Reply.{testReply};
 use accepted::atom_count;
 use accepted::check_layer;
 use accepted::prepare;
+use base::MAX_LAYERS;
+use base::MAX_RULES;
 use book::Cause;
 use book::Verdict;
 use candidate::bad_candidate;
 use candidate::read_candidate;
+use filling::HINTS;
+use table::ROW_SIZE;
 use tester::is_stable;
+
+// The numbers of the rows of all rules.
+const ROWS: usize = ROW_SIZE * MAX_RULES;
 
 pub enum TestReply {
     Stable,
@@ -28,7 +35,13 @@ pub enum TestReply {
 }
 
 // Whether a candidate's state is stable, once no cause applies: the table is made once, then the test fills from it.
-fn candidate_stable(book: &[u8], layer: usize, lower: [u32; 32], candidate: &[u8], n: usize) -> bool
+fn candidate_stable(
+    book: &[u8],
+    layer: usize,
+    lower: [u32; MAX_LAYERS],
+    candidate: &[u8],
+    n: usize,
+) -> bool
     requires { ⌜ IsAccepted (now book) ⌝ }
     requires { ⌜ layer < bookOf (now book) .layers ⌝ }
     requires { ⌜ LowerMasks (arrowsOf (now book)) lower ⌝ }
@@ -37,18 +50,10 @@ fn candidate_stable(book: &[u8], layer: usize, lower: [u32; 32], candidate: &[u8
     ensures { λ r. ⌜ r ≡ stable (programOf (now (book .entry)) layer) (interpretationOf n (now (candidate .entry))) ⌝ }
 {
     let m = read_candidate(candidate, n);
-    let mut rows: [u16; 4096] = [0; 4096];
-    let mut overridden: [u32; 1024] = [0; 1024];
-    let count = prepare(book, layer, lower, &mut rows, &mut overridden);
-    let mut hints: [u16; 2048] = [0; 2048];
-    is_stable(
-        book,
-        &rows[0..4 * count],
-        &overridden[0..count],
-        &m[0..n],
-        n,
-        &mut hints,
-    )
+    let mut rows: [u16; ROWS] = [0; ROWS];
+    let count = prepare(book, layer, lower, &mut rows);
+    let mut hints: [u16; HINTS] = [0; HINTS];
+    is_stable(book, &rows[0..ROW_SIZE * count], &m[0..n], n, &mut hints)
 }
 
 // Tests a candidate.

@@ -17,11 +17,8 @@ read-candidate-requires c κs = let s = c .before .before in (s .pre .1 .1 .1 .0
 slice-aggregate-prepare : tie.Need-slice-aggregate-prepare
 slice-aggregate-prepare c = search needs
 
-slice-aggregate-prepare-2 : tie.Need-slice-aggregate-prepare-2
-slice-aggregate-prepare-2 c = search needs
-
 prepare-requires : tie.Need-prepare-requires
-prepare-requires c κs = let s = c .before .before .before .before .before .pre in (s .0, (s .1 .0, (s .1 .1 .0, search needs)))
+prepare-requires c κs = let s = c .before .before .before .before .pre in (s .0, (s .1 .0, (s .1 .1 .0, search needs)))
 
 mul-is-stable : tie.Need-mul-is-stable
 mul-is-stable c = search needs
@@ -42,37 +39,28 @@ part-is-stable-start-2 : tie.Need-part-is-stable-start-2
 part-is-stable-start-2 c = search needs
 
 part-is-stable-end-2 : tie.Need-part-is-stable-end-2
-part-is-stable-end-2 c = search needs
-
-sub-is-stable-3 : tie.Need-sub-is-stable-3
-sub-is-stable-3 c = search needs
-
-part-is-stable-start-3 : tie.Need-part-is-stable-start-3
-part-is-stable-start-3 c = search needs
-
-part-is-stable-end-3 : tie.Need-part-is-stable-end-3
-part-is-stable-end-3 c = omega (arith, c .before .before .before .before .before .before .before .before .before .before .before .before .before .pre .1 .1 .1 .0 .1)
+part-is-stable-end-2 c = omega (arith, c .before .before .before .before .before .before .before .before .before .pre .1 .1 .1 .0 .1)
 
 slice-aggregate-is-stable : tie.Need-slice-aggregate-is-stable
 slice-aggregate-is-stable c = search needs
 
 is-stable-requires : tie.Need-is-stable-requires
 is-stable-requires c κs =
-    let e = c .before .before .before .before .before .before .before .before .before .before .before .before .before .before .before .args in
-    let h = c .before .before .before .before .before .before .before .before .before .before .before .before .before .before .before .pre in
-    let m = c .before .before .before .before .before .before .before .before .before .before .before .before .read-candidate in
-    let t = c .before .before .before .before .before .before .before .before .before .prepare .ensures in
+    let e = c .before .before .before .before .before .before .before .before .before .before .before .args in
+    let h = c .before .before .before .before .before .before .before .before .before .before .before .pre in
+    let m = c .before .before .before .before .before .before .before .before .read-candidate in
+    let t = c .before .before .before .before .before .before .prepare .ensures in
     let q = program-atoms (e .book .now) (e .layer) (e .n) (h .1 .1 .1 .0 .0) in (
       alike-formed (lent-alike t q) (accepted-formed (e .book .now) (h .0) (e .layer)),
-      (lent-tabled t q, (sym (tabled-atoms _ _ _ (e .n)), (h .1 .1 .1 .0 .1, (lent-size (e .n) (e .candidate .now) (m .result) (m .ensures), search needs)))),
+      (lent-tabled t q, (sym (tabled-atoms _ _ (e .n)), (h .1 .1 .1 .0 .1, (lent-size (e .n) (e .candidate .now) (m .result) (m .ensures), search needs)))),
     )
 
 returns : tie.Need-returns
 returns c =
-    let e = c .before .before .before .before .before .before .before .before .before .before .before .before .before .before .before .before .before .args in
-    let h = c .before .before .before .before .before .before .before .before .before .before .before .before .before .before .before .before .before .pre in
-    let m = c .before .before .before .before .before .before .before .before .before .before .before .before .before .before .read-candidate in
-    stable-over (c .before .before .before .before .before .before .before .before .before .before .before .prepare .ensures) (program-atoms (e .book .now) (e .layer) (e .n) (h .1 .1 .1 .0 .0)) (e .candidate .now) (m .result) (m .ensures) _ (c .before .is-stable .ensures)
+    let e = c .before .before .before .before .before .before .before .before .before .before .before .before .before .args in
+    let h = c .before .before .before .before .before .before .before .before .before .before .before .before .before .pre in
+    let m = c .before .before .before .before .before .before .before .before .before .before .read-candidate in
+    stable-over (c .before .before .before .before .before .before .before .before .prepare .ensures) (program-atoms (e .book .now) (e .layer) (e .n) (h .1 .1 .1 .0 .0)) (e .candidate .now) (m .result) (m .ensures) _ (c .before .is-stable .ensures)
 
 pub candidate-stable-spec : {M : Type 1} → statement M
 candidate-stable-spec =
@@ -80,7 +68,6 @@ candidate-stable-spec =
     (tie.spec
     read-candidate-requires
     slice-aggregate-prepare
-    slice-aggregate-prepare-2
     prepare-requires
     mul-is-stable
     sub-is-stable
@@ -89,9 +76,6 @@ candidate-stable-spec =
     sub-is-stable-2
     part-is-stable-start-2
     part-is-stable-end-2
-    sub-is-stable-3
-    part-is-stable-start-3
-    part-is-stable-end-3
     slice-aggregate-is-stable
     is-stable-requires
     returns)

@@ -1,0 +1,141 @@
+-- The calls that search, for any question: each refusal in its turn, the answer over programs that are alike, and what a promise of
+-- `ask` says to each call. Assumes nothing.
+use mathlib.Core.Path.{_≡_, refl, sym, ap, subst, _∙_}
+use mathlib.Core.Bool.{Bool, true, false, not, false≢true}
+use mathlib.Core.List.{List, _++_}
+use Prim.Native.Nat.{ℕ, _<_, _≤_}
+use native.Mathlib.Decide.{decLt}
+use native.Mathlib.Omega.{arith}
+use borrow.Author.Tests.{le-ltb}
+use lib.Dec.{ltb}
+use lib.ListN.{length}
+use Rattle.base.specs.Bounds.{maxAtoms}
+use Rattle.models.specs.Program.{Program}
+use Rattle.models.specs.Alike.{Alike}
+use Rattle.table.specs.Table.{programOf}
+use Rattle.table.specs.Tabled.{tabled}
+use Rattle.book.specs.Causes.{verdictIf, firstOf}
+use Rattle.book.specs.declared.Cause.{Cause}
+use Rattle.book.specs.declared.Cause.the-variants.{NoSuchFact, TooManyBranching}
+use Rattle.book.specs.declared.Verdict.{Verdict}
+use Rattle.book.specs.declared.Verdict.the-variants.{Accepted, Refused}
+use Rattle.accepted.specs.Driven.{layerTests}
+use Rattle.accepted.proofs.FirstLaws.{first-append, first-refused}
+use Rattle.plan.specs.declared.Sizes.{Sizes}
+use Rattle.passes.specs.Limit.{hasTooManyBranching}
+use Rattle.passes.specs.SetUp.{lentRows, SetUp}
+use Rattle.list_call.specs.Reply as list
+use Rattle.one_call.specs.Reply as one
+use Rattle.place_call.specs.Reply as place
+use Rattle.list_call.specs.declared.ListReply.{ListReply}
+use Rattle.one_call.specs.declared.OneReply.{OneReply}
+use Rattle.place_call.specs.declared.PlaceReply.{PlaceReply}
+use Rattle.list_call.proofs.ListLaws as list-laws
+use Rattle.one_call.proofs.OneLaws as one-laws
+use Rattle.place_call.proofs.PlaceLaws as place-laws
+use Rattle.drive.specs.declared.Question.{Question}
+use Rattle.drive.specs.declared.Question.the-variants as question
+use Rattle.drive.specs.declared.Answer.{Answer}
+use Rattle.drive.specs.declared.Answer.the-variants.{Listing, State, Standing}
+use Rattle.drive.specs.Asked.{ownTests, askedTests, asksNoFact, replyBy, refusalOf, BufferBy, Answers, Asked}
+
+-- ---- a refusal: the buffer is as it was
+refused-by : (q : Question) (c : Cause) (P : Program) (old : List ℕ) → Answers q (Refused c) P old (refusalOf q c) old
+unfolding refusalOf replyBy list.replyOf list.bufferOf one.replyOf place.replyOf
+refused-by question.List c P old = record { reply-is = refl; buffer-is = refl }
+refused-by question.One c P old = record { reply-is = refl; buffer-is = refl }
+refused-by (question.Place fact) c P old = record { reply-is = refl; buffer-is = refl }
+
+pub refused-as : (q : Question) (c : Cause) (P : Program) (old : List ℕ) {r : Answer} {v : Verdict} → r ≡ refusalOf q c → v ≡ Refused c → Answers q v P old r old
+refused-as q c P old e h = rw (e, h) (refused-by q c P old)
+
+-- ---- the question's own answer
+module _ {q : Question} {P : Program} {old new : List ℕ} where
+  pub listed : q ≡ question.List → {r : ListReply} → list.Answers (firstOf (list.roomTests P (length old))) P old r new
+      → Answers q (firstOf (ownTests q P (length old))) P old (Listing r) new
+  unfolding ownTests replyBy
+  listed e a = rw e (record { reply-is = ap Listing (a .reply-is); buffer-is = a .buffer-is })
+
+  pub written : q ≡ question.One → {r : OneReply} → one.Answers (firstOf (one.roomTests P (length old))) P old r new
+      → Answers q (firstOf (ownTests q P (length old))) P old (State r) new
+  unfolding ownTests replyBy
+  written e a = rw e (record { reply-is = ap State (a .reply-is); buffer-is = a .buffer-is })
+
+pub placed : {q : Question} {fact : ℕ} {P : Program} {old : List ℕ} → q ≡ question.Place fact → {r : PlaceReply}
+    → r ≡ place.replyOf (firstOf (place.stateTests P)) P fact → Answers q (firstOf (ownTests q P (length old))) P old (Standing r) old
+unfolding ownTests replyBy
+placed e a = rw e (record { reply-is = ap Standing a; buffer-is = refl })
+
+-- ---- the program that the table stands for, and the driven layer's
+pub answers-over : (q : Question) {P Q : Program} → Alike P Q → {old new : List ℕ} {r : Answer} → Answers q (firstOf (ownTests q Q (length old))) Q old r new
+    → Answers q (firstOf (ownTests q P (length old))) P old r new
+unfolding ownTests replyBy
+answers-over question.List {P} {Q} a {old} {new} x =
+    let y : list.Answers (firstOf (list.roomTests P (length old))) P old (list.replyOf (firstOf (list.roomTests Q (length old))) Q) new = list-laws.answers-over a (record { reply-is = refl; buffer-is = x .buffer-is }) in
+    record { reply-is = x .reply-is ∙ ap Listing (y .reply-is); buffer-is = y .buffer-is }
+answers-over question.One {P} {Q} a {old} {new} x =
+    let y : one.Answers (firstOf (one.roomTests P (length old))) P old (one.replyOf (firstOf (one.roomTests Q (length old))) Q) new = one-laws.answers-over a (record { reply-is = refl; buffer-is = x .buffer-is }) in
+    record { reply-is = x .reply-is ∙ ap State (y .reply-is); buffer-is = y .buffer-is }
+answers-over (question.Place fact) {P} {Q} a {old} {new} x =
+    record { reply-is = x .reply-is ∙ ap Standing (place-laws.reply-over a fact (place.replyOf (firstOf (place.stateTests Q)) Q fact) refl); buffer-is = x .buffer-is }
+
+-- ---- causes 11 and 12
+module _ (P : Program) (n : ℕ) (e : n ≡ P .atoms) (room : ℕ) where
+  pub fact-refused : (q : Question) → asksNoFact q n ≡ true → firstOf (askedTests q P room) ≡ Refused NoSuchFact
+  unfolding asksNoFact askedTests place.factTests place.isNoSuchFact firstOf verdictIf
+  fact-refused question.List h = absurd (false≢true h)
+  fact-refused question.One h = absurd (false≢true h)
+  fact-refused (question.Place fact) h = rw (ap (λ (k : ℕ). not (ltb fact k)) (sym e) ∙ h) refl
+
+  pub branching-refused : (q : Question) → asksNoFact q n ≡ false → hasTooManyBranching P ≡ true → firstOf (askedTests q P room) ≡ Refused TooManyBranching
+  unfolding asksNoFact askedTests list.searchTests one.searchTests place.searchTests place.factTests place.isNoSuchFact firstOf verdictIf
+  branching-refused question.List f h = rw h refl
+  branching-refused question.One f h = rw h refl
+  branching-refused (question.Place fact) f h = rw (ap (λ (k : ℕ). not (ltb fact k)) (sym e) ∙ f, h) refl
+
+  own-left : (q : Question) → asksNoFact q n ≡ false → hasTooManyBranching P ≡ false → firstOf (askedTests q P room) ≡ firstOf (ownTests q P room)
+  unfolding asksNoFact askedTests ownTests list.searchTests one.searchTests place.searchTests place.factTests place.isNoSuchFact firstOf verdictIf
+  own-left question.List f h = rw h refl
+  own-left question.One f h = rw h refl
+  own-left (question.Place fact) f h = rw (ap (λ (k : ℕ). not (ltb fact k)) (sym e) ∙ f, h) refl
+
+pub fact-low : (fact n : ℕ) → n ≤ maxAtoms → asksNoFact (question.Place fact) n ≡ false → fact < maxAtoms
+unfolding asksNoFact
+fact-low fact n few h = go (decLt fact n)
+  where
+    go : Dec (fact < n) → fact < maxAtoms
+    go (yes l) = omega arith
+    go (no l) = absurd (false≢true (sym h ∙ ap not (le-ltb fact n (omega arith))))
+
+-- ---- what the set-up tells
+module _ {P : Program} {book rows plan : List ℕ} {rules : ℕ} {few : Bool} {s : Sizes} (up : SetUp P book rows plan rules few s) (n : ℕ) (e : n ≡ P .atoms) where
+  pub same-count : few ≡ true → s .n ≡ n
+  same-count h = up .ready h .table .size ∙ sym (up .alike .atoms-same) ∙ sym e
+
+  pub answered : (q : Question) → asksNoFact q n ≡ false → few ≡ true → {old new : List ℕ} {r : Answer}
+      → Answers q (firstOf (ownTests q (tabled book (lentRows rows rules) (s .n)) (length old))) (tabled book (lentRows rows rules) (s .n)) old r new
+      → Answers q (firstOf (askedTests q P (length old))) P old r new
+  answered q f h {old} x = rw (own-left P n e (length old) q f (up .not-too-many h)) (answers-over q (up .alike) x)
+
+-- ---- the call
+module _ (q : Question) (book : List ℕ) (layer : ℕ) (old : List ℕ) (v : Verdict) (e : v ≡ firstOf (layerTests book layer)) where
+  pub call-refused : (c : Cause) → v ≡ Refused c → {r : Answer} → r ≡ refusalOf q c → Asked q book layer old r old
+  call-refused c h z = refused-as q c (programOf book layer) old z (first-refused (layerTests book layer) (askedTests q (programOf book layer) (length old)) c (sym e ∙ h))
+
+  pub call-answered : v ≡ Accepted → {r : Answer} {new : List ℕ} → Answers q (firstOf (askedTests q (programOf book layer) (length old))) (programOf book layer) old r new
+      → Asked q book layer old r new
+  call-answered h a = rw (first-append (layerTests book layer) (askedTests q (programOf book layer) (length old)) (sym e ∙ h)) a
+
+-- ---- what the promise of `ask` says to each call
+module _ (book : List ℕ) (layer : ℕ) (old new : List ℕ) (r : Answer) where
+  pub list-told : Asked question.List book layer old r new → (r ≡ Listing (list.listReply book layer old)) × (new ≡ list.listBuffer book layer old)
+  unfolding askedTests replyBy list.listReply list.listBuffer list.listTests
+  list-told a = (a .reply-is, a .buffer-is)
+
+  pub one-told : Asked question.One book layer old r new → (r ≡ State (one.oneReply book layer old)) × one.OneBuffer book layer old new
+  unfolding askedTests replyBy one.oneReply one.oneTests
+  one-told a = (a .reply-is, a .buffer-is)
+
+  pub place-told : (fact : ℕ) → Asked (question.Place fact) book layer old r new → r ≡ Standing (place.placeReply book layer fact)
+  unfolding askedTests replyBy place.placeReply place.placeTests
+  place-told fact a = a .reply-is

@@ -1,0 +1,32 @@
+-- `refusal` meets its contract, question by question. Assumes nothing.
+use mathlib.Core.Path.{sym, ap}
+use Rattle.drive.specs.declared.Question.{Question}
+use Rattle.drive.specs.Asked.{refusalOf}
+use borrow.Author.Needs.{needs}
+use Rattle.drive.proofs.refusal.Statement.{statement}
+use Rattle.drive.proofs.refusal.Tie as tie
+
+enum-told : tie.Need-enum-told
+enum-told c = search needs
+
+enum-told-2 : tie.Need-enum-told-2
+enum-told-2 c = search needs
+
+enum-known-question : tie.Need-enum-known-question
+enum-known-question c = search needs
+
+returns : tie.Need-returns
+unfolding refusalOf
+returns c = sym (ap (λ (q : Question). refusalOf q (c .before .before .args .cause)) (c .enum-told .given .1))
+
+returns-2 : tie.Need-returns-2
+unfolding refusalOf
+returns-2 c = sym (ap (λ (q : Question). refusalOf q (c .before .before .args .cause)) (c .enum-told2 .given .1))
+
+returns-3 : tie.Need-returns-3
+unfolding refusalOf
+returns-3 c = sym (ap (λ (q : Question). refusalOf q (c .before .before .before .args .cause)) (c .before .question .given .1))
+
+pub refusal-spec : {M : Type 1} → statement M
+refusal-spec =
+    tie.close (tie.spec enum-told enum-told-2 enum-known-question returns returns-2 returns-3)

@@ -1,0 +1,69 @@
+-- Document 01: the calls that search, side by side. A question's causes in order of test, its answer and the buffer afterwards; each
+-- is said in the question's own crate. Assumes nothing.
+use mathlib.Core.Path.{_≡_}
+use mathlib.Core.Bool.{Bool, false, not}
+use mathlib.Core.List.{List, _++_}
+use Prim.Native.Nat.{ℕ}
+use lib.Dec.{ltb}
+use lib.ListN.{length}
+use Rattle.models.specs.Program.{Program}
+use Rattle.table.specs.Table.{programOf}
+use Rattle.book.specs.Causes.{Test, firstOf}
+use Rattle.book.specs.declared.Cause.{Cause}
+use Rattle.book.specs.declared.Verdict.{Verdict}
+use Rattle.accepted.specs.Driven.{layerTests}
+use Rattle.list_call.specs.Reply as list
+use Rattle.one_call.specs.Reply as one
+use Rattle.place_call.specs.Reply as place
+use Rattle.list_call.specs.declared.ListReply.the-variants as list-reply
+use Rattle.one_call.specs.declared.OneReply.the-variants as one-reply
+use Rattle.place_call.specs.declared.PlaceReply.the-variants as place-reply
+use Rattle.drive.specs.declared.Question.{Question}
+use Rattle.drive.specs.declared.Question.the-variants as question
+use Rattle.drive.specs.declared.Answer.{Answer}
+use Rattle.drive.specs.declared.Answer.the-variants.{Listing, State, Standing}
+
+-- the last causes, by the question: 13, 13 and 14, or 14
+unfoldable pub ownTests : Question → Program → ℕ → List Test
+ownTests question.List P room = list.roomTests P room
+ownTests question.One P room = one.roomTests P room
+ownTests (question.Place fact) P room = place.stateTests P
+
+-- after the causes of the book and of the driven layer: 11 where a fact is asked for, 12, then the last
+unfoldable pub askedTests : Question → Program → ℕ → List Test
+askedTests question.List P room = list.searchTests P room
+askedTests question.One P room = one.searchTests P room
+askedTests (question.Place fact) P room = place.factTests P fact
+
+-- 11: the question is for a fact not below n
+unfoldable pub asksNoFact : Question → ℕ → Bool
+asksNoFact question.List n = false
+asksNoFact question.One n = false
+asksNoFact (question.Place fact) n = not (ltb fact n)
+
+unfoldable pub replyBy : Question → Verdict → Program → Answer
+replyBy question.List v P = Listing (list.replyOf v P)
+replyBy question.One v P = State (one.replyOf v P)
+replyBy (question.Place fact) v P = Standing (place.replyOf v P fact)
+
+-- what a refusal replies, whatever the program
+unfoldable pub refusalOf : Question → Cause → Answer
+refusalOf question.List c = Listing (list-reply.Refused c)
+refusalOf question.One c = State (one-reply.Refused c)
+refusalOf (question.Place fact) c = Standing (place-reply.Refused c)
+
+-- the buffer afterwards; a fact's place writes nothing
+abbrev pub BufferBy : Question → Verdict → Program → List ℕ → List ℕ → Type 0
+BufferBy question.List v P old new = new ≡ list.bufferOf v P old
+BufferBy question.One v P old new = one.BufferOf v P old new
+BufferBy (question.Place fact) v P old new = new ≡ old
+
+-- the answer and the buffer that a verdict comes to
+pub record Answers (q : Question) (v : Verdict) (P : Program) (old : List ℕ) (r : Answer) (new : List ℕ) : Type 0 where
+  pub reply-is : r ≡ replyBy q v P
+  pub buffer-is : BufferBy q v P old new
+
+-- the first cause that applies, from 1 on; where none does, what the question asks for at the driven layer
+abbrev pub Asked : Question → List ℕ → ℕ → List ℕ → Answer → List ℕ → Type 0
+Asked q book layer old r new =
+    Answers q (firstOf (layerTests book layer ++ askedTests q (programOf book layer) (length old))) (programOf book layer) old r new

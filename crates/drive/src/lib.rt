@@ -1,0 +1,124 @@
+// The drive of every call that searches: it owns the table and the plan, makes them once, and names the causes that all such calls
+// have. A call adds its question, which has its own crate: its last causes, its pass and its reply.
+ghost use mathlib.Core.Path.{_≡_};
+ghost use mathlib.Core.Bool.{false};
+ghost use Prim.Native.Nat.{_<_, _≤_};
+ghost use lib.ListN.{length};
+ghost use Rattle.base.specs.Bounds.{maxAtoms};
+ghost use Rattle.layers.specs.Masks.{LowerMasks};
+ghost use Rattle.format.specs.Book.{arrowsOf, bookOf};
+ghost use Rattle.book.specs.Causes.{firstOf};
+ghost use Rattle.table.specs.Table.{programOf};
+ghost use Rattle.table.specs.Tabled.{tabled};
+ghost use Rattle.accepted.specs.Accepted.{IsAccepted};
+ghost use Rattle.passes.specs.SetUp.{Ready};
+ghost use Rattle.drive.specs.Asked.{ownTests, askedTests, asksNoFact, refusalOf, Answers, Asked};
+use accepted::atom_count;
+use accepted::check_layer;
+use base::MAX_LAYERS;
+use base::MAX_RULES;
+use book::Cause;
+use book::Verdict;
+use list_call::ListReply;
+use list_call::list_models;
+use one_call::OneReply;
+use one_call::one_found;
+use passes::set_up;
+use place_call::PlaceReply;
+use place_call::place_found;
+use plan::PLAN;
+use plan::Sizes;
+use table::ROW_SIZE;
+
+pub enum Question {
+    // every state
+    List,
+    // one state
+    One,
+    // the place of a fact
+    Place(usize),
+}
+
+pub enum Answer {
+    Listing(ListReply),
+    State(OneReply),
+    Standing(PlaceReply),
+}
+
+// Whether the question is for a fact that the book does not have.
+fn asks_no_fact(question: Question, n: usize) -> bool
+    ensures { λ r. ⌜ r ≡ asksNoFact question n ⌝ }
+{
+    match question {
+        Question::List => false,
+        Question::One => false,
+        Question::Place(fact) => !(fact < n),
+    }
+}
+
+fn refusal(question: Question, cause: Cause) -> Answer
+    ensures { λ r. ⌜ r ≡ refusalOf question cause ⌝ }
+{
+    match question {
+        Question::List => Answer::Listing(ListReply::Refused(cause)),
+        Question::One => Answer::State(OneReply::Refused(cause)),
+        Question::Place(fact) => Answer::Standing(PlaceReply::Refused(cause)),
+    }
+}
+
+// The question's own causes, pass and reply.
+fn find_answer(
+    book: &[u8],
+    rows: &[u16],
+    plan: &[u32],
+    sizes: Sizes,
+    question: Question,
+    buffer: &mut [u8],
+) -> Answer
+    requires { ⌜ Ready (now book) (now rows) (now plan) sizes ⌝ }
+    requires { ⌜ asksNoFact question (sizes .n) ≡ false ⌝ }
+    ensures { λ r. ⌜ Answers question (firstOf (ownTests question (tabled (now (book .entry)) (now (rows .entry)) (sizes .n)) (length (now (buffer .entry))))) (tabled (now (book .entry)) (now (rows .entry)) (sizes .n)) (now (buffer .entry)) r (now (buffer .exit)) ⌝ }
+{
+    match question {
+        Question::List => Answer::Listing(list_models(book, rows, plan, sizes, buffer)),
+        Question::One => Answer::State(one_found(book, rows, plan, sizes, buffer)),
+        Question::Place(fact) => Answer::Standing(place_found(book, rows, plan, sizes, fact)),
+    }
+}
+
+const ROWS: usize = ROW_SIZE * MAX_RULES;
+
+// The answer at a layer, once causes 1 to 9 are ruled out: what does not depend on a setting is worked out here.
+fn drive(book: &[u8], layer: usize, lower: [u32; MAX_LAYERS], question: Question, buffer: &mut [u8]) -> Answer
+    requires { ⌜ IsAccepted (now book) ⌝ }
+    requires { ⌜ layer < bookOf (now book) .layers ⌝ }
+    requires { ⌜ LowerMasks (arrowsOf (now book)) lower ⌝ }
+    ensures { λ r. ⌜ Answers question (firstOf (askedTests question (programOf (now (book .entry)) layer) (length (now (buffer .entry))))) (programOf (now (book .entry)) layer) (now (buffer .entry)) r (now (buffer .exit)) ⌝ }
+{
+    let n = atom_count(book);
+    if asks_no_fact(question, n) {
+        return refusal(question, Cause::NoSuchFact);
+    }
+    let mut rows: [u16; ROWS] = [0; ROWS];
+    let mut plan: [u32; PLAN] = [0; PLAN];
+    let driven = set_up(book, layer, lower, &mut rows, &mut plan);
+    let count = driven.rules;
+    let sizes = driven.sizes;
+    if driven.few {
+        return find_answer(book, &rows[0..ROW_SIZE * count], &plan, sizes, question, buffer);
+    }
+    refusal(question, Cause::TooManyBranching)
+}
+
+// Answers a question about the book at the driven layer. A refusal leaves every byte of the buffer.
+pub fn ask(book: &[u8], layer: u32, question: Question, buffer: &mut [u8]) -> Answer
+    ensures { λ r. ⌜ Asked question (now (book .entry)) layer (now (buffer .entry)) r (now (buffer .exit)) ⌝ }
+{
+    let checked = check_layer(book, layer);
+    let lower = checked.lower;
+    let v = checked.verdict;
+    match v {
+        Verdict::Refused(c) => refusal(question, c),
+        Verdict::Accepted => drive(book, layer as usize, lower, question, buffer),
+    }
+}
