@@ -9,6 +9,7 @@ use borrow.Author.Tests.{leb-true, eqb-true, not-false}
 use lib.Dec.{leb, eqb}
 use lib.ListN.{length, drop, length-drop, length-take}
 use lib.Seq.{take-all}
+use Rattle.base.specs.Bounds.{maxAtoms, maxLayers}
 use Rattle.format.specs.Book.{records, meetsEnd, sectionBytes, sectionCount, sectionEnd, sectionRecords, atomCount, ruleSection, bookOf}
 use Rattle.format.specs.Sections.{wholeSection, hasBrokenSection}
 use Rattle.format.proofs.SectionLaws.{or-first, or-second}
@@ -69,10 +70,10 @@ rest-is s w = take-all (sectionBytes s (ruleSection s)) (drop (ruleSection s + 6
 
 module _ (s : List ℕ) (e : IsAccepted s) where
   -- the number of facts, as the code reads it
-  pub atoms-are : (n : ℕ) → n ≡ atomCount s → (n ≡ bookOf s .atoms) × (0 < n) × (n ≤ 256)
+  pub atoms-are : (n : ℕ) → n ≡ atomCount s → (n ≡ bookOf s .atoms) × (0 < n) × (n ≤ maxAtoms)
   unfolding bookOf
   atoms-are n q = let r : Ranges s = ranges s (accepted-lawful s e .not5) in (q, omega (arith, r .some-atom), omega (arith, r .atoms-few))
 
-  pub layer-low : (layer : ℕ) → layer < bookOf s .layers → layer < 32
+  pub layer-low : (layer : ℕ) → layer < bookOf s .layers → layer < maxLayers
   unfolding bookOf
   layer-low layer h = let r : Ranges s = ranges s (accepted-lawful s e .not5) in omega (arith, r .layers-few)

@@ -89,7 +89,13 @@ fn find_answer(
 const ROWS: usize = ROW_SIZE * MAX_RULES;
 
 // The answer at a layer, once causes 1 to 9 are ruled out: what does not depend on a setting is worked out here.
-fn drive(book: &[u8], layer: usize, lower: [u32; MAX_LAYERS], question: Question, buffer: &mut [u8]) -> Answer
+fn drive(
+    book: &[u8],
+    layer: usize,
+    lower: [u32; MAX_LAYERS],
+    question: Question,
+    buffer: &mut [u8],
+) -> Answer
     requires { ⌜ IsAccepted (now book) ⌝ }
     requires { ⌜ layer < bookOf (now book) .layers ⌝ }
     requires { ⌜ LowerMasks (arrowsOf (now book)) lower ⌝ }
@@ -105,7 +111,14 @@ fn drive(book: &[u8], layer: usize, lower: [u32; MAX_LAYERS], question: Question
     let count = driven.rules;
     let sizes = driven.sizes;
     if driven.few {
-        return find_answer(book, &rows[0..ROW_SIZE * count], &plan, sizes, question, buffer);
+        return find_answer(
+            book,
+            &rows[0..ROW_SIZE * count],
+            &plan,
+            sizes,
+            question,
+            buffer,
+        );
     }
     refusal(question, Cause::TooManyBranching)
 }

@@ -290,16 +290,5 @@ pub fn model_at(
             hints,
         );
     }
-    model_from(
-        book,
-        rows,
-        rejects,
-        atoms,
-        n,
-        setting,
-        start,
-        marks,
-        hints,
-    )
+    model_from(book, rows, rejects, atoms, n, setting, start, marks, hints)
 }
-

@@ -1,6 +1,6 @@
 -- The numbers that an answer carries fit the 64 bits: g is at most `maxBranching` and k at most 2 to its power, since the call was
 -- granted. Used by lesson_list, lesson_one and lesson_place. Assumes nothing.
-use mathlib.Core.Path.{_≡_, sym, ap, _∙_}
+use mathlib.Core.Path.{_≡_, refl, sym, ap, _∙_}
 use mathlib.Core.List.{List}
 use Prim.Native.Nat.{ℕ, _+_, _*_, _^_, _≤_}
 use Rattle.base.specs.Bounds.{maxBranching}
@@ -17,7 +17,9 @@ use Rattle.place_call.specs.declared.PlaceReply.{PlaceReply}
 use Rattle.place_call.specs.declared.PlaceReply.the-variants.{Placed}
 use Rattle.place_call.specs.Reply.{placeReply}
 use Rattle.place_call.proofs.PlaceLaws as place-laws
-use Rattle.lesson.specs.Answers.{placeBits, placeAnswer}
+use Rattle.drive.specs.declared.Answer.{Answer}
+use Rattle.drive.specs.declared.Answer.the-variants.{Listing, State, Standing}
+use Rattle.lesson.specs.Answers.{placeBits, placeAnswer, Fits}
 
 pub list-small : (book : List ℕ) (layer : ℕ) (buffer : List ℕ) (r : ListReply) (k g : ℕ) → r ≡ listReply book layer buffer → r ≡ Listed k g → (k ≤ 2 ^ maxBranching) × (g ≤ maxBranching)
 list-small book layer buffer r k g e q = granted-small (record { book = book; layer = layer; buffer = buffer }) k g (sym e ∙ q)
@@ -28,6 +30,15 @@ one-small book layer buffer r g e q = one-laws.granted-small book layer buffer g
 pub place-small : (book : List ℕ) (layer fact : ℕ) (r : PlaceReply) (p : Place) (g : ℕ) → r ≡ placeReply book layer fact → r ≡ Placed p g → g ≤ maxBranching
 place-small book layer fact r p g e q = place-laws.granted-small book layer fact p g (sym e ∙ q)
 
-pub place-number : (book : List ℕ) (layer fact : ℕ) (r : PlaceReply) (p : Place) (g bits : ℕ) → r ≡ placeReply book layer fact → r ≡ Placed p g → bits ≡ placeBits p
-    → bits + g * 256 ≡ placeAnswer (placeReply book layer fact)
-place-number book layer fact r p g bits e q b = ap (λ (x : ℕ). x + g * 256) b ∙ sym (ap placeAnswer (sym e ∙ q))
+pub placed-number : (r : PlaceReply) (p : Place) (g bits : ℕ) → r ≡ Placed p g → bits ≡ placeBits p → bits + g * 256 ≡ placeAnswer r
+placed-number r p g bits q b = ap (λ (x : ℕ). x + g * 256) b ∙ sym (ap placeAnswer q)
+
+-- ---- the same, of what `ask` answers
+pub list-fits : (book : List ℕ) (layer : ℕ) (buffer : List ℕ) {a : Answer} → a ≡ Listing (listReply book layer buffer) → Fits a
+list-fits book layer buffer e = rw e (λ k g q. list-small book layer buffer (listReply book layer buffer) k g refl q)
+
+pub one-fits : (book : List ℕ) (layer : ℕ) (buffer : List ℕ) {a : Answer} → a ≡ State (oneReply book layer buffer) → Fits a
+one-fits book layer buffer e = rw e (λ g q. one-small book layer buffer (oneReply book layer buffer) g refl q)
+
+pub place-fits : (book : List ℕ) (layer fact : ℕ) {a : Answer} → a ≡ Standing (placeReply book layer fact) → Fits a
+place-fits book layer fact e = rw e (λ p g q. place-small book layer fact (placeReply book layer fact) p g refl q)

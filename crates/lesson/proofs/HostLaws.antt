@@ -3,11 +3,12 @@
 use mathlib.Core.Path.{_≡_, refl, sym, ap, ap₂, _∙_}
 use mathlib.Core.Bool.{Bool, true, false, not, false≢true}
 use mathlib.Core.List.{List, [], _∷_}
-use Prim.Native.Nat.{ℕ, _+_, _-_, _*_, _/_, _%_, _<_, _≤_}
+use Prim.Native.Nat.{ℕ, _+_, _-_, _*_, _^_, _/_, _%_, _<_, _≤_}
 use native.Mathlib.Omega.{arith}
 use borrow.Author.Tests.{ne-eqb}
 use lib.Dec.{T, eqb, ltb, ltb→lt}
 use lib.ListN.{getD}
+use Rattle.base.specs.Bounds.{maxBranching}
 use Rattle.book.specs.Causes.{verdict}
 use Rattle.book.specs.Numbers.{numberOf}
 use Rattle.book.specs.declared.Cause.{Cause}
@@ -84,7 +85,7 @@ module _ {A : Type 0} (own : ℕ → A) where
       let byte : (more * 256 + g) % 256 ≡ g = omega arith in
       same-reading (ap (λ (x : ℕ). eqb x 0) low ∙ t) low (ap (λ (x : ℕ). x % 256 % 4294967296) middle ∙ ap (λ (x : ℕ). x % 4294967296) byte ∙ omega arith) o
 
-  granted-read : (g more answer : ℕ) (v : A) → answer ≡ more * 65536 + g * 256 → g ≤ 20 → own answer ≡ v → readBy own answer ≡ grantedWith g v
+  granted-read : (g more answer : ℕ) (v : A) → answer ≡ more * 65536 + g * 256 → g ≤ maxBranching → own answer ≡ v → readBy own answer ≡ grantedWith g v
   granted-read g more answer v e h o = carried true 0 g more answer v (omega arith) refl (omega arith) (omega arith) o
 
   refused-read : (c : Cause) (v : A) → own (numberOf c) ≡ v → readBy own (numberOf c) ≡ refusedFor c v
@@ -144,9 +145,9 @@ test-meant reply.NotStable = meant-granted tested reply.Refused 0 false
 test-meant (reply.Refused c) = meant-refused tested reply.Refused c false
 
 -- ---- lesson_list
-list-read : (r : ListReply) → ((k g : ℕ) → r ≡ list.Listed k g → (k ≤ 1048576) × (g ≤ 20)) → readBy lessonStateCount (listAnswer r) ≡ listTold r
+list-read : (r : ListReply) → ((k g : ℕ) → r ≡ list.Listed k g → (k ≤ 2 ^ maxBranching) × (g ≤ maxBranching)) → readBy lessonStateCount (listAnswer r) ≡ listTold r
 list-read (list.Listed k g) small =
-    let s : (k ≤ 1048576) × (g ≤ 20) = small k g refl in granted-read lessonStateCount g k (listAnswer (list.Listed k g)) k (omega arith) (s .1) (omega (arith, s .0, s .1))
+    let s : (k ≤ 2 ^ maxBranching) × (g ≤ maxBranching) = small k g refl in granted-read lessonStateCount g k (listAnswer (list.Listed k g)) k (omega arith) (s .1) (omega (arith, s .0, s .1))
 list-read (list.Refused c) small = states-refused c
 
 listed-with : ℕ → ℕ → ListReply
@@ -158,7 +159,7 @@ list-meant (list.Listed k g) = meant-granted listed-with list.Refused g k
 list-meant (list.Refused c) = meant-refused listed-with list.Refused c 0
 
 -- ---- lesson_one
-one-read : (r : OneReply) → ((g : ℕ) → r ≡ one.Written g → g ≤ 20) → readBy lessonStateCount (oneAnswer r) ≡ oneTold r
+one-read : (r : OneReply) → ((g : ℕ) → r ≡ one.Written g → g ≤ maxBranching) → readBy lessonStateCount (oneAnswer r) ≡ oneTold r
 one-read (one.Written g) small = granted-read lessonStateCount g 0 (oneAnswer (one.Written g)) 0 (omega arith) (small g refl) (omega (arith, small g refl))
 one-read (one.Refused c) small = states-refused c
 
@@ -176,10 +177,10 @@ place-back Nowhere = refl
 place-back InSome = refl
 place-back Every = refl
 
-place-read : (r : PlaceReply) → ((p : Place) (g : ℕ) → r ≡ place.Placed p g → g ≤ 20) → readBy lessonPlaceOf (placeAnswer r) ≡ placeTold r
-place-read (place.Placed Nowhere g) small = let s : g ≤ 20 = small Nowhere g refl in granted-read lessonPlaceOf g 0 (placeAnswer (place.Placed Nowhere g)) 0 (omega arith) s (omega arith)
-place-read (place.Placed InSome g) small = let s : g ≤ 20 = small InSome g refl in granted-read lessonPlaceOf g 1 (placeAnswer (place.Placed InSome g)) 1 (omega arith) s (omega arith)
-place-read (place.Placed Every g) small = let s : g ≤ 20 = small Every g refl in granted-read lessonPlaceOf g 2 (placeAnswer (place.Placed Every g)) 2 (omega arith) s (omega arith)
+place-read : (r : PlaceReply) → ((p : Place) (g : ℕ) → r ≡ place.Placed p g → g ≤ maxBranching) → readBy lessonPlaceOf (placeAnswer r) ≡ placeTold r
+place-read (place.Placed Nowhere g) small = let s : g ≤ maxBranching = small Nowhere g refl in granted-read lessonPlaceOf g 0 (placeAnswer (place.Placed Nowhere g)) 0 (omega arith) s (omega arith)
+place-read (place.Placed InSome g) small = let s : g ≤ maxBranching = small InSome g refl in granted-read lessonPlaceOf g 1 (placeAnswer (place.Placed InSome g)) 1 (omega arith) s (omega arith)
+place-read (place.Placed Every g) small = let s : g ≤ maxBranching = small Every g refl in granted-read lessonPlaceOf g 2 (placeAnswer (place.Placed Every g)) 2 (omega arith) s (omega arith)
 place-read (place.Refused c) small = refused-read lessonPlaceOf c 0 (omega (arith, number-high c))
 
 placed-with : ℕ → ℕ → PlaceReply

@@ -1,6 +1,8 @@
 -- What the C host reads: how each call's answer becomes one 64-bit number. The low byte is 0 where the call is granted, and
 -- else the cause's number with every other bit 0; the bits above the low byte carry what the answer carries. Assumes nothing.
-use Prim.Native.Nat.{ℕ, _+_, _*_}
+use mathlib.Core.Path.{_≡_}
+use Prim.Native.Nat.{ℕ, _+_, _*_, _^_, _≤_}
+use Rattle.base.specs.Bounds.{maxBranching}
 use Rattle.book.specs.declared.Verdict.{Verdict}
 use Rattle.book.specs.declared.Verdict.the-variants.{Accepted, Refused}
 use Rattle.book.specs.Numbers.{numberOf}
@@ -12,6 +14,8 @@ use Rattle.place_call.specs.declared.Place.{Place}
 use Rattle.place_call.specs.declared.Place.the-variants.{Every, InSome, Nowhere}
 use Rattle.place_call.specs.declared.PlaceReply.{PlaceReply}
 use Rattle.place_call.specs.declared.PlaceReply.the-variants as place
+use Rattle.drive.specs.declared.Answer.{Answer}
+use Rattle.drive.specs.declared.Answer.the-variants.{Listing, State, Standing}
 use Rattle.test_call.specs.declared.TestReply.{TestReply}
 use Rattle.test_call.specs.declared.TestReply.the-variants as reply
 
@@ -45,3 +49,24 @@ placeBits Every = 131072
 abbrev pub placeAnswer : PlaceReply → ℕ
 placeAnswer (place.Placed p g) = placeBits p + g * 256
 placeAnswer (place.Refused c) = numberOf c
+
+-- a call that searches
+abbrev pub answerOf : Answer → ℕ
+answerOf (Listing r) = listAnswer r
+answerOf (State r) = oneAnswer r
+answerOf (Standing r) = placeAnswer r
+
+-- k and g keep to their bits; proofs/AnswerLaws.antt proves it of every reply that a call gives
+abbrev pub ListFits : ListReply → Type 0
+ListFits r = (k g : ℕ) → r ≡ list.Listed k g → (k ≤ 2 ^ maxBranching) × (g ≤ maxBranching)
+
+abbrev pub OneFits : OneReply → Type 0
+OneFits r = (g : ℕ) → r ≡ one.Written g → g ≤ maxBranching
+
+abbrev pub PlaceFits : PlaceReply → Type 0
+PlaceFits r = (p : Place) (g : ℕ) → r ≡ place.Placed p g → g ≤ maxBranching
+
+abbrev pub Fits : Answer → Type 0
+Fits (Listing r) = ListFits r
+Fits (State r) = OneFits r
+Fits (Standing r) = PlaceFits r

@@ -7,17 +7,17 @@ ghost use Rattle.test_call.specs.Reply.{testReply};
 ghost use Rattle.list_call.specs.Reply.{listReply, listBuffer};
 ghost use Rattle.one_call.specs.Reply.{oneReply, OneBuffer};
 ghost use Rattle.place_call.specs.Reply.{placeReply};
-ghost use Rattle.lesson.specs.Answers.{checkAnswer, testAnswer, listAnswer, oneAnswer, placeBits, placeAnswer};
+ghost use Rattle.lesson.specs.Answers.{checkAnswer, testAnswer, listAnswer, oneAnswer, placeBits, placeAnswer, answerOf, ListFits, OneFits, PlaceFits, Fits};
 use book::Verdict;
 use book::cause_number;
 use book::check;
+use drive::Answer;
+use drive::Question;
+use drive::ask;
 use list_call::ListReply;
-use list_call::list;
 use one_call::OneReply;
-use one_call::one;
 use place_call::Place;
 use place_call::PlaceReply;
-use place_call::fact_place;
 use test_call::TestReply;
 use test_call::test;
 
@@ -58,34 +58,6 @@ pub extern "C" fn lesson_test(book: &[u8], layer: u32, candidate: &[u8]) -> u64
     test_number(test(book, layer, candidate))
 }
 
-// Writes the listing of a book at a layer into the buffer, or names the first of causes 1 to 9, 12 and 13 that applies and leaves
-// every byte. The answer carries k and g.
-#[no_mangle]
-pub extern "C" fn lesson_list(book: &[u8], layer: u32, buffer: &mut [u8]) -> u64
-    ensures answer { λ r. ⌜ r ≡ listAnswer (listReply (now (book .entry)) layer (now (buffer .entry))) ⌝ }
-    ensures bytes { λ _. ⌜ now (buffer .exit) ≡ listBuffer (now (book .entry)) layer (now (buffer .entry)) ⌝ }
-{
-    let reply = list(book, layer, buffer);
-    match reply {
-        ListReply::Listed(k, g) => (k as u64) * 65536 + (g as u64) * 256,
-        ListReply::Refused(c) => cause_number(c),
-    }
-}
-
-// Writes the record of a stable state of a book at a layer into the buffer's first bytes, or names the first of causes 1 to 9, 12,
-// 13 and 14 that applies and leaves every byte. The answer carries g.
-#[no_mangle]
-pub extern "C" fn lesson_one(book: &[u8], layer: u32, buffer: &mut [u8]) -> u64
-    ensures answer { λ r. ⌜ r ≡ oneAnswer (oneReply (now (book .entry)) layer (now (buffer .entry))) ⌝ }
-    ensures bytes { λ _. ⌜ OneBuffer (now (book .entry)) layer (now (buffer .entry)) (now (buffer .exit)) ⌝ }
-{
-    let reply = one(book, layer, buffer);
-    match reply {
-        OneReply::Written(g) => (g as u64) * 256,
-        OneReply::Refused(c) => cause_number(c),
-    }
-}
-
 // A fact's place in bits 16 and 17.
 fn place_bits(p: Place) -> u64
     ensures { λ r. ⌜ (r ≡ placeBits p) × (r ≤ 131072) ⌝ }
@@ -97,15 +69,77 @@ fn place_bits(p: Place) -> u64
     }
 }
 
+// How a listing's reply is answered: k from bit 16 on, g in bits 8 to 15.
+fn list_number(r: ListReply) -> u64
+    requires { ⌜ ListFits r ⌝ }
+    ensures { λ n. ⌜ n ≡ listAnswer r ⌝ }
+{
+    match r {
+        ListReply::Listed(k, g) => (k as u64) * 65536 + (g as u64) * 256,
+        ListReply::Refused(c) => cause_number(c),
+    }
+}
+
+// How the reply of the call for one state is answered: g in bits 8 to 15.
+fn one_number(r: OneReply) -> u64
+    requires { ⌜ OneFits r ⌝ }
+    ensures { λ n. ⌜ n ≡ oneAnswer r ⌝ }
+{
+    match r {
+        OneReply::Written(g) => (g as u64) * 256,
+        OneReply::Refused(c) => cause_number(c),
+    }
+}
+
+// How the reply for a fact's place is answered: the place in bits 16 and 17, g in bits 8 to 15.
+fn place_number(r: PlaceReply) -> u64
+    requires { ⌜ PlaceFits r ⌝ }
+    ensures { λ n. ⌜ n ≡ placeAnswer r ⌝ }
+{
+    match r {
+        PlaceReply::Placed(p, g) => place_bits(p) + (g as u64) * 256,
+        PlaceReply::Refused(c) => cause_number(c),
+    }
+}
+
+// How the answer of a call that searches is told.
+fn answer_number(a: Answer) -> u64
+    requires { ⌜ Fits a ⌝ }
+    ensures { λ n. ⌜ n ≡ answerOf a ⌝ }
+{
+    match a {
+        Answer::Listing(r) => list_number(r),
+        Answer::State(r) => one_number(r),
+        Answer::Standing(r) => place_number(r),
+    }
+}
+
+// Writes the listing of a book at a layer into the buffer, or names the first of causes 1 to 9, 12 and 13 that applies and leaves
+// every byte. The answer carries k and g.
+#[no_mangle]
+pub extern "C" fn lesson_list(book: &[u8], layer: u32, buffer: &mut [u8]) -> u64
+    ensures answer { λ r. ⌜ r ≡ listAnswer (listReply (now (book .entry)) layer (now (buffer .entry))) ⌝ }
+    ensures bytes { λ _. ⌜ now (buffer .exit) ≡ listBuffer (now (book .entry)) layer (now (buffer .entry)) ⌝ }
+{
+    answer_number(ask(book, layer, Question::List, buffer))
+}
+
+// Writes the record of a stable state of a book at a layer into the buffer's first bytes, or names the first of causes 1 to 9, 12,
+// 13 and 14 that applies and leaves every byte. The answer carries g.
+#[no_mangle]
+pub extern "C" fn lesson_one(book: &[u8], layer: u32, buffer: &mut [u8]) -> u64
+    ensures answer { λ r. ⌜ r ≡ oneAnswer (oneReply (now (book .entry)) layer (now (buffer .entry))) ⌝ }
+    ensures bytes { λ _. ⌜ OneBuffer (now (book .entry)) layer (now (buffer .entry)) (now (buffer .exit)) ⌝ }
+{
+    answer_number(ask(book, layer, Question::One, buffer))
+}
+
 // Whether a fact stands in every stable state of a book at a layer, in some or in none, or the first of causes 1 to 9, 11, 12 and
 // 14 that applies. The answer carries the place and g.
 #[no_mangle]
 pub extern "C" fn lesson_place(book: &[u8], layer: u32, fact: u32) -> u64
     ensures { λ r. ⌜ r ≡ placeAnswer (placeReply (now (book .entry)) layer fact) ⌝ }
 {
-    let reply = fact_place(book, layer, fact);
-    match reply {
-        PlaceReply::Placed(p, g) => place_bits(p) + (g as u64) * 256,
-        PlaceReply::Refused(c) => cause_number(c),
-    }
+    let mut none: [u8; 0] = [];
+    answer_number(ask(book, layer, Question::Place(fact as usize), &mut none))
 }

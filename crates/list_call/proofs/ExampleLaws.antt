@@ -31,7 +31,7 @@ use Rattle.accepted.proofs.FirstLaws.{first-append}
 use Rattle.passes.specs.Limit.{hasTooManyBranching}
 use Rattle.list_call.specs.declared.ListReply.the-variants as reply
 use Rattle.list_call.specs.Reply.{roomTests, searchTests, listTests, replyOf, bufferOf, listReply, listBuffer}
-use Rattle.list_call.specs.Examples.{stateCount, Answered, ExamplesAnswered}
+use Rattle.list_call.specs.Examples.{stateCount, ExampleAnswered, ExamplesAnswered}
 use Rattle.list_call.proofs.Condition3Laws.{lists-exactly}
 
 accepts : Verdict → Bool
@@ -93,7 +93,7 @@ module _ (e : Example) (i : e ∈ table) where
       sym (lists-exactly (record { book = e .book; layer = e .layer; buffer = e .written }) (length (stableModels P)) (branchingCount P) (counts (e .written) own) .head-count)
       ∙ ap (λ (s : List ℕ). u32At s 7) (writes (e .written) own ∙ ap (λ (s : List ℕ). e .written ++ s) (drop-length (e .written)) ∙ append-nil (e .written))
 
-  answered : Answered e
+  answered : ExampleAnswered e
   answered = record {
     accepted = driven (e .book) (e .layer) layer-accepted .0;
     answer = λ buffer room. counts buffer room ∙ ap₂ reply.Listed states-are branches-are;

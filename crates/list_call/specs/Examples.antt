@@ -17,10 +17,10 @@ stateCount e = u32At (e .written) 7
 
 -- The book is accepted, and a call with a buffer that holds the listing is granted: its answer carries the example's k and g, the
 -- example's bytes stand in front, and the bytes past them are as they were.
-pub record Answered (e : Example) : Type 0 where
+pub record ExampleAnswered (e : Example) : Type 0 where
   pub accepted : verdict (e .book) ≡ Accepted
   pub answer : (buffer : List ℕ) → length (e .written) ≤ length buffer → listReply (e .book) (e .layer) buffer ≡ Listed (stateCount e) (e .branches)
   pub bytes : (buffer : List ℕ) → length (e .written) ≤ length buffer → listBuffer (e .book) (e .layer) buffer ≡ e .written ++ drop (length (e .written)) buffer
 
 abbrev pub ExamplesAnswered : Type 0
-ExamplesAnswered = (e : Example) → List·Memᴰ e table → Answered e
+ExamplesAnswered = (e : Example) → List·Memᴰ e table → ExampleAnswered e

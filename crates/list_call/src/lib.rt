@@ -18,7 +18,13 @@ pub enum ListReply {
 }
 
 // Counts the stable models, and writes them where there is room: one pass each. The head is written last.
-pub fn list_models(book: &[u8], rows: &[u16], plan: &[u32], sizes: Sizes, buffer: &mut [u8]) -> ListReply
+pub fn list_models(
+    book: &[u8],
+    rows: &[u16],
+    plan: &[u32],
+    sizes: Sizes,
+    buffer: &mut [u8],
+) -> ListReply
     requires { ⌜ Ready (now book) (now rows) (now plan) sizes ⌝ }
     ensures { λ r. ⌜ Answers (firstOf (roomTests (tabled (now (book .entry)) (now (rows .entry)) (sizes .n)) (length (now (buffer .entry))))) (tabled (now (book .entry)) (now (rows .entry)) (sizes .n)) (now (buffer .entry)) r (now (buffer .exit)) ⌝ }
 {

@@ -16,7 +16,13 @@ pub enum OneReply {
 }
 
 // Room for a record comes first: a short buffer is 13 whether or not there is a state. The search stops at the first state.
-pub fn one_found(book: &[u8], rows: &[u16], plan: &[u32], sizes: Sizes, buffer: &mut [u8]) -> OneReply
+pub fn one_found(
+    book: &[u8],
+    rows: &[u16],
+    plan: &[u32],
+    sizes: Sizes,
+    buffer: &mut [u8],
+) -> OneReply
     requires { ⌜ Ready (now book) (now rows) (now plan) sizes ⌝ }
     ensures { λ r. ⌜ Answers (firstOf (roomTests (tabled (now (book .entry)) (now (rows .entry)) (sizes .n)) (length (now (buffer .entry))))) (tabled (now (book .entry)) (now (rows .entry)) (sizes .n)) (now (buffer .entry)) r (now (buffer .exit)) ⌝ }
 {

@@ -56,7 +56,12 @@ pub fn set_up(
 {
     let n = atom_count(book);
     let rules = prepare(book, layer, lower, rows);
-    let g = branching_atoms(book, &rows[0..ROW_SIZE * rules], n, &mut plan[0..MAX_BRANCHING]);
+    let g = branching_atoms(
+        book,
+        &rows[0..ROW_SIZE * rules],
+        n,
+        &mut plan[0..MAX_BRANCHING],
+    );
     if MAX_BRANCHING < g {
         let none = Sizes {
             n,
@@ -128,7 +133,14 @@ pub fn count_all(book: &[u8], rows: &[u16], plan: &[u32], sizes: Sizes) -> usize
 }
 
 // Counts the stable models, and what they weigh for the goal, until it is reached.
-pub fn tally(book: &[u8], rows: &[u16], plan: &[u32], sizes: Sizes, goal: Goal, asked: &[u8]) -> Counts
+pub fn tally(
+    book: &[u8],
+    rows: &[u16],
+    plan: &[u32],
+    sizes: Sizes,
+    goal: Goal,
+    asked: &[u8],
+) -> Counts
     requires { ⌜ Ready (now book) (now rows) (now plan) sizes ⌝ }
     requires { ⌜ Asks goal (now asked) ⌝ }
     ensures { λ r. ⌜ Tallied (tabled (now (book .entry)) (now (rows .entry)) (sizes .n)) goal (now (asked .entry)) (r .count) (r .weight) ⌝ }

@@ -61,12 +61,23 @@ fn plan_row(
 {
     let body = row_masks(book, rows, bits, j);
     let h = row_head(rows, j);
-    let heads = put_rule(&mut plan[MASKS..NOGOODS], sizes.heads, body, bits_of(bits, h));
+    let heads = put_rule(
+        &mut plan[MASKS..NOGOODS],
+        sizes.heads,
+        body,
+        bits_of(bits, h),
+    );
     let nogood = row_nogood(book, rows, rejectable, bits, body, j);
     let nogoods = put_nogood(&mut plan[NOGOODS..REJECTING], sizes.nogoods, nogood);
     let name = opposite(h);
     let layers = row_overridden(rows, j);
-    let rejecting = put_rejecting(&mut plan[REJECTING..PLAN], sizes.rejecting, body, name, layers);
+    let rejecting = put_rejecting(
+        &mut plan[REJECTING..PLAN],
+        sizes.rejecting,
+        body,
+        name,
+        layers,
+    );
     Sizes {
         n: sizes.n,
         branching: sizes.branching,

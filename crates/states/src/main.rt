@@ -4,6 +4,9 @@ ghost use Prim.Native.Nat.{_≤_};
 use base::MAX_ATOMS;
 use base::wide;
 use book::cause_number;
+use drive::Answer;
+use drive::Question;
+use drive::ask;
 use io::large_buffer;
 use io::print_decimal;
 use io::read_full;
@@ -11,7 +14,6 @@ use io::write_all;
 use libc::STDIN_FILENO;
 use libc::STDOUT_FILENO;
 use list_call::ListReply;
-use list_call::list;
 
 fn print_refused(number: u64) {
     write_all(STDOUT_FILENO, b"refused ");
@@ -90,16 +92,28 @@ fn last_layer(book: &[u8]) -> u32 {
     (layers - 1) as u32
 }
 
-fn show(book: &[u8]) {
-    let mut buffer = large_buffer();
-    let reply = list(book, last_layer(book), &mut buffer);
+fn print_listing(reply: ListReply, listing: &[u8]) {
     match reply {
         ListReply::Refused(c) => print_refused(cause_number(c)),
         ListReply::Listed(k, g) => {
-            let n = wide(buffer[5]) * 256 + wide(buffer[6]);
+            if listing.len() < 11 {
+                return;
+            }
+            let n = wide(listing[5]) * 256 + wide(listing[6]);
             print_head(n as u64, k as u64, g as u64);
-            print_states(&buffer, n, k);
+            print_states(listing, n, k);
         }
+    }
+}
+
+// A listing is asked for, so that no other answer comes.
+fn show(book: &[u8]) {
+    let mut buffer = large_buffer();
+    let answer = ask(book, last_layer(book), Question::List, &mut buffer);
+    match answer {
+        Answer::Listing(reply) => print_listing(reply, &buffer),
+        Answer::State(reply) => {}
+        Answer::Standing(reply) => {}
     }
 }
 

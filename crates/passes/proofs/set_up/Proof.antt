@@ -37,7 +37,7 @@ part-branching-atoms-end-2 : tie.Need-part-branching-atoms-end-2
 part-branching-atoms-end-2 c = search needs
 
 branching-atoms-requires : tie.Need-branching-atoms-requires
-branching-atoms-requires c κs = 
+branching-atoms-requires c κs =
     let a = c .before .before .before .before .before .before .before .before .before .before .before .args in
     let n = c .before .before .before .before .before .before .before .atom-count in
     (lent-tabled (c .before .before .before .before .before .prepare .ensures) (program-atoms (a .book .now) (a .layer) (n .result) (n .ensures .0)), (n .ensures .2, search needs))
@@ -49,7 +49,7 @@ same-length-2 : tie.Need-same-length-2
 same-length-2 c = search needs
 
 returns : tie.Need-returns
-returns c = 
+returns c =
     let a = c .before .before .before .before .before .before .before .before .before .before .before .before .before .before .before .args in
     let n = c .before .before .before .before .before .before .before .before .before .before .before .atom-count in
     let made = c .before .before .before .before .before .before .before .before .before .prepare .ensures in
@@ -77,7 +77,7 @@ part-make-plan-end : tie.Need-part-make-plan-end
 part-make-plan-end c = search needs
 
 make-plan-requires : tie.Need-make-plan-requires
-make-plan-requires c κs = 
+make-plan-requires c κs =
     let a = c .before .before .before .before .before .before .before .before .before .before .before .before .before .before .before .before .before .before .args in
     let n = c .before .before .before .before .before .before .before .before .before .before .before .before .before .before .atom-count in
     let made = c .before .before .before .before .before .before .before .before .before .before .before .before .prepare .ensures in
@@ -91,7 +91,7 @@ same-length-4 : tie.Need-same-length-4
 same-length-4 c = search needs
 
 returns-2 : tie.Need-returns-2
-returns-2 c = 
+returns-2 c =
     let a = c .before .before .before .before .before .before .before .before .before .before .before .before .before .before .before .before .before .before .before .before .before .args in
     let n = c .before .before .before .before .before .before .before .before .before .before .before .before .before .before .before .before .before .atom-count in
     let made = c .before .before .before .before .before .before .before .before .before .before .before .before .before .before .before .prepare .ensures in

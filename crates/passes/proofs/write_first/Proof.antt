@@ -18,7 +18,7 @@ same-length : tie.Need-same-length
 same-length c = search needs
 
 returns : tie.Need-returns
-returns c = 
+returns c =
     let w = c .before .before .before .before .before .before .before .before .before .before .pre .0 .table in
     let e = c .before .before .before .pass .ensures in
     first-written w (asks-first []) e (one-written w (asks-first []) e (c .before .before .before .before .before .before .before .before .before .before .pre .1))

@@ -36,7 +36,7 @@ rejectable-masks-requires : tie.Need-rejectable-masks-requires Inv-loop μ-loop
 rejectable-masks-requires c κs = search needs
 
 loop-holds : tie.Need-loop-holds Inv-loop μ-loop
-loop-holds c = 
+loop-holds c =
     let s = c .before .before .before .before .before .before .before in
     let a = s .args in
     let r = c .rejectable-masks in
@@ -50,7 +50,7 @@ slice-aggregate-plan-row-2 : tie.Need-slice-aggregate-plan-row-2 Inv-loop μ-loo
 slice-aggregate-plan-row-2 c = search needs
 
 plan-row-requires : tie.Need-plan-row-requires Inv-loop μ-loop
-plan-row-requires c κs = 
+plan-row-requires c κs =
     let s = c .before .before .before .before .before .before .before .before .before .before .before .before in
     let l = c .before .before .before .before .loop in
     let b = c .before .before .before .before .before .before .atom-bits in
@@ -64,7 +64,7 @@ loop-less : tie.Need-loop-less Inv-loop μ-loop
 loop-less c = search needs
 
 loop-again : tie.Need-loop-again Inv-loop μ-loop
-loop-again c = 
+loop-again c =
     let l = c .before .before .before .before .before .before .before .loop in
     let p = c .before .before .plan-row .ensures in
     (refl, omega arith, p .made, ap (planAtoms (c .before .before .plan-row .last .1 .1 .1 .1 .0)) (p .branching-same) ∙ p .atoms-same ∙ l .inv .3, p .facts-same ∙ l .inv .4, p .branching-same ∙ l .inv .5)
@@ -73,7 +73,7 @@ same-length : tie.Need-same-length Inv-loop μ-loop
 same-length c = search needs
 
 returns : tie.Need-returns Inv-loop μ-loop
-returns c = 
+returns c =
     let s = c .before .before .before .before .before .before .before .before .before in
     let l = c .before .loop in
     (plan-end (l .inv .2) (omega (arith, c .loop-test .left, l .inv .1, l .inv .0)) (s .pre .1 .0) (l .inv .3) (c .before .before .before .atom-bits .ensures) (c .before .before .rejectable-masks .ensures), l .inv .4, l .inv .5)

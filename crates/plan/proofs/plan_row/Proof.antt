@@ -46,7 +46,7 @@ part-put-nogood-start : tie.Need-part-put-nogood-start
 part-put-nogood-start c = search needs
 
 part-put-nogood-end : tie.Need-part-put-nogood-end
-part-put-nogood-end c = 
+part-put-nogood-end c =
     let s = c .before .before .before .before .before .before .before .before .before .before .before .before .before in
     let w = s .pre .1 .1 .1 .1 in
     let m = c .before .before .before .put-rule .last .0 in
@@ -69,7 +69,7 @@ part-put-rejecting-start : tie.Need-part-put-rejecting-start
 part-put-rejecting-start c = search needs
 
 part-put-rejecting-end : tie.Need-part-put-rejecting-end
-part-put-rejecting-end c = 
+part-put-rejecting-end c =
     let s = c .before .before .before .before .before .before .before .before .before .before .before .before .before .before .before .before .before .before .before in
     let w = s .pre .1 .1 .1 .1 in
     let m = c .before .before .before .before .before .before .before .before .before .put-rule .last .0 in
@@ -79,7 +79,7 @@ part-put-rejecting-end c =
     omega (arith, size₂ (s .args .plan .now) (w .size) m em n en)
 
 put-rejecting-requires : tie.Need-put-rejecting-requires
-put-rejecting-requires c κs = 
+put-rejecting-requires c κs =
     let s = c .before .before .before .before .before .before .before .before .before .before .before .before .before .before .before .before .before .before .before .before in
     let w = s .pre .1 .1 .1 .1 in
     let m = c .before .before .before .before .before .before .before .before .before .before .put-rule .last .0 in
@@ -89,7 +89,7 @@ put-rejecting-requires c κs =
     (omega (arith, w .rejecting-made .room, w .rejecting-made .size, ap length (rejecting-there (s .args .plan .now) (w .size) m em n en), s .pre .1 .0 .0, s .pre .1 .0 .1), c .before .before .opposite .ensures .1)
 
 same-length : tie.Need-same-length
-same-length c = 
+same-length c =
     let s = c .before .before .before .before .before .before .before .before .before .before .before .before .before .before .before .before .before .before .before .before .before .before .before in
     let w = s .pre .1 .1 .1 .1 in
     let m = c .before .before .before .before .before .before .before .before .before .before .before .before .before .put-rule .last .0 in
@@ -101,7 +101,7 @@ same-length c =
     size₃ (s .args .plan .now) (w .size) m em n en r er ∙ sym (w .size)
 
 returns : tie.Need-returns
-returns c = 
+returns c =
     let s = c .before .before .before .before .before .before .before .before .before .before .before .before .before .before .before .before .before .before .before .before .before .before .before in
     let w = s .pre .1 .1 .1 .1 in
     let m = c .before .before .before .before .before .before .before .before .before .before .before .before .before .put-rule .last .0 in

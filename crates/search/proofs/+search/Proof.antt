@@ -43,13 +43,13 @@ search-promising-requires : (t : ℕ) → search-lts.Need-promising-requires (cl
 search-promising-requires t c κs = let q = c .before .before .before .before .before .before .before .before .pre .1 .1 .0 in (q .size, q .heads-few, q .nogoods-few)
 
 search-returns-2 : (t : ℕ) → search-lts.Need-returns-2 (claims t) (search-at t) search′.Post
-search-returns-2 t c = 
+search-returns-2 t c =
     let a = c .before .before .before .before .before .before .before .before .before .before .args in
     let h = c .before .before .before .before .before .before .before .before .before .before .pre .1 in
     none-searched (a .asked .now) (a .sizes .n) _ (none-promised (h .0) (h .1 .1 .0) (h .1 .0) (c .before .promising .result) (c .before .promising .ensures) (not-true (c .before .promising .result) (c .if2 .taken))) (a .v) (a .part .now)
 
 search-visit-setting-requires : (t : ℕ) → search-lts.Need-visit-setting-requires (claims t) (search-at t) search′.Post
-search-visit-setting-requires t c κs = 
+search-visit-setting-requires t c κs =
     let a = c .before .before .before .before .before .before .before .before .before .before .before .before .before .args in
     let h = c .before .before .before .before .before .before .before .before .before .before .before .before .before .pre .1 in
     (h .0, (h .1 .0, ((h .1 .1 .1 .0 .0, count-fits (a .v .count) (a .turn .left) (h .1 .1 .1 .0 .1), sym (c .before .before .before .before .before .before .stops .ensures) ∙ c .before .before .before .before .before .if1 .left), h .1 .1 .1 .1)))
@@ -61,7 +61,7 @@ search-same-length-2 : (t : ℕ) → search-lts.Need-same-length-2 (claims t) (s
 search-same-length-2 t c = search needs
 
 search-returns-3 : (t : ℕ) → search-lts.Need-returns-3 (claims t) (search-at t) search′.Post
-search-returns-3 t c = 
+search-returns-3 t c =
     let a = c .before .before .before .before .before .before .before .before .before .before .before .before .before .before .before .before .before .before .args in
     let h = c .before .before .before .before .before .before .before .before .before .before .before .before .before .before .before .before .before .before .pre .1 in
     leaf-searched (h .0) (h .1 .1 .0) (c .before .before .before .before .before .before .before .if3 .taken) (a .asked .now) (a .v) (a .part .now) _ _ (c .before .before .before .before .visit-setting .ensures)
@@ -79,7 +79,7 @@ search-sub-t22 : (t : ℕ) → search-lts.Need-sub-t22 (claims t) (search-at t) 
 search-sub-t22 t c = search needs
 
 search-search-requires : (t : ℕ) → search-lts.Need-search-requires (claims t) (search-at t) search′.Post
-search-search-requires t c κs = 
+search-search-requires t c κs =
     let a = c .before .before .before .before .before .before .before .before .before .before .before .before .before .before .before .args in
     let h = c .before .before .before .before .before .before .before .before .before .before .before .before .before .before .before .pre .1 in
     let some = c .before .before .before .before .if3 .left in
@@ -91,7 +91,7 @@ search-sub-t22-2 : (t : ℕ) → search-lts.Need-sub-t22-2 (claims t) (search-at
 search-sub-t22-2 t c = search needs
 
 search-search-requires-2 : (t : ℕ) → search-lts.Need-search-requires-2 (claims t) (search-at t) search′.Post
-search-search-requires-2 t c κs = 
+search-search-requires-2 t c κs =
     let a = c .before .before .before .before .before .before .before .before .before .before .before .before .before .before .before .before .before .before .before .before .before .before .before .args in
     let h = c .before .before .before .before .before .before .before .before .before .before .before .before .before .before .before .before .before .before .before .before .before .before .before .pre .1 in
     let some = c .before .before .before .before .before .before .before .before .before .before .before .before .if3 .left in
@@ -107,7 +107,7 @@ search-same-length-4 : (t : ℕ) → search-lts.Need-same-length-4 (claims t) (s
 search-same-length-4 t c = search needs
 
 search-returns-4 : (t : ℕ) → search-lts.Need-returns-4 (claims t) (search-at t) search′.Post
-search-returns-4 t c = 
+search-returns-4 t c =
     let a = c .before .before .before .before .before .before .before .before .before .before .before .before .before .before .before .before .before .before .before .before .before .before .before .before .before .before .before .before .args in
     let h = c .before .before .before .before .before .before .before .before .before .before .before .before .before .before .before .before .before .before .before .before .before .before .before .before .before .before .before .before .pre .1 in
     both-halves (h .0) (h .1 .1 .0) (c .before .before .before .before .before .before .before .before .before .before .before .before .before .before .before .before .before .if3 .left) (a .sizes .branching - a .turn .left) (shift-is (h .1 .0) (a .turn .left)) (a .asked .now) (a .v) (a .part .now) _ _ (c .before .before .before .before .before .before .before .before .before .before .before .before .search .ensures) _ _ (c .before .before .before .before .search2 .ensures)

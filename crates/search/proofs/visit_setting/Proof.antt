@@ -57,7 +57,7 @@ part-model-at-end : tie.Need-part-model-at-end
 part-model-at-end c = search needs
 
 model-at-requires : tie.Need-model-at-requires
-model-at-requires c κs = 
+model-at-requires c κs =
     let h = c .before .before .before .before .before .before .before .before .before .before .before .before .before .before .before .before .pre in
     (h .0, (setting-rejects (h .0) (c .before .before .before .before .before .before .before .before .before .before .before .before .before .before .before .before .args .standing) _ (c .before .before .before .before .before .before .before .setting-of .ensures) (h .1 .0 .rejecting-masks) (c .before .before .before .before .reject-at .ensures), h .1 .1 .1))
 
@@ -71,7 +71,7 @@ same-length-2 : tie.Need-same-length-2
 same-length-2 c = search needs
 
 returns : tie.Need-returns
-returns c = 
+returns c =
     let a = c .before .before .before .before .before .before .before .before .before .before .before .before .before .before .before .before .before .before .before .before .before .before .before .before .before .args in
     setting-met (a .asked .now) (a .sizes .n) _ (c .before .before .before .before .before .before .before .before .model-at .result .ok) _ (ap (λ (o : Interpretation). atSetting (tabled (a .book .now) (a .rows .now) (a .sizes .n)) (planAtoms (a .plan .now) (a .sizes .branching)) o) (sym (c .before .before .before .before .before .before .before .before .before .before .before .before .before .before .before .before .setting-of .ensures)) ∙ c .before .before .before .before .before .before .before .before .model-at .ensures) (c .before .before .before .before .if1 .taken) (a .v) (a .part .now) _ _ (c .before .before .meet .ensures)
 
@@ -79,7 +79,7 @@ same-length-3 : tie.Need-same-length-3
 same-length-3 c = search needs
 
 returns-2 : tie.Need-returns-2
-returns-2 c = 
+returns-2 c =
     let a = c .before .before .before .before .before .before .before .before .before .before .before .before .before .before .before .before .before .before .before .before .before .args in
     setting-empty (a .asked .now) (a .sizes .n) _ (c .before .before .before .before .model-at .result .ok) _ (ap (λ (o : Interpretation). atSetting (tabled (a .book .now) (a .rows .now) (a .sizes .n)) (planAtoms (a .plan .now) (a .sizes .branching)) o) (sym (c .before .before .before .before .before .before .before .before .before .before .before .before .setting-of .ensures)) ∙ c .before .before .before .before .model-at .ensures) (c .if1 .left) (a .v) (a .part .now)
 
