@@ -1,8 +1,8 @@
 -- The calls that search, for any question: each refusal in its turn, the answer over programs that are alike, and what a promise of
 -- `ask` says to each call. Assumes nothing.
-use mathlib.Core.Path.{_≡_, refl, sym, ap, subst, _∙_}
+use mathlib.Core.Path.{_≡_, refl, sym, ap, _∙_}
 use mathlib.Core.Bool.{Bool, true, false, not, false≢true}
-use mathlib.Core.List.{List, _++_}
+use mathlib.Core.List.{List}
 use Prim.Native.Nat.{ℕ, _<_, _≤_}
 use native.Mathlib.Decide.{decLt}
 use native.Mathlib.Omega.{arith}
@@ -37,7 +37,7 @@ use Rattle.drive.specs.declared.Question.{Question}
 use Rattle.drive.specs.declared.Question.the-variants as question
 use Rattle.drive.specs.declared.Answer.{Answer}
 use Rattle.drive.specs.declared.Answer.the-variants.{Listing, State, Standing}
-use Rattle.drive.specs.Asked.{ownTests, askedTests, asksNoFact, replyBy, refusalOf, BufferBy, Answers, Asked}
+use Rattle.drive.specs.Asked.{ownTests, askedTests, asksNoFact, replyBy, refusalOf, Answers, Asked}
 
 -- ---- a refusal: the buffer is as it was
 refused-by : (q : Question) (c : Cause) (P : Program) (old : List ℕ) → Answers q (Refused c) P old (refusalOf q c) old

@@ -1,6 +1,5 @@
 -- The listing call, step by step: the size of the listing, each refusal, and the buffer once all is written. Assumes nothing.
 use mathlib.Core.Path.{_≡_, refl, sym, ap, ap₂, subst, _∙_}
-use mathlib.Core.Bool.{true, false}
 use mathlib.Core.List.{List, [], _∷_, _++_, map}
 use Prim.Native.Nat.{ℕ, _+_, _-_, _*_, _^_, _<_, _≤_}
 use native.Mathlib.Nat.{pow-le-pow-right}
@@ -13,35 +12,27 @@ use lib.Seq.{length-take-le}
 use Rattle.base.specs.Bounds.{maxAtoms, maxRecord, maxBranching}
 use Rattle.base.specs.Lists.{flat}
 use Rattle.book.specs.Causes.{verdictIf, firstOf}
-use Rattle.book.specs.declared.Cause.{Cause}
-use Rattle.book.specs.declared.Cause.the-variants.{TooManyBranching, BufferTooShort}
+use Rattle.book.specs.declared.Cause.the-variants.{BufferTooShort}
 use Rattle.book.specs.declared.Verdict.{Verdict}
 use Rattle.book.specs.declared.Verdict.the-variants.{Accepted, Refused}
-use Rattle.format.specs.Book.{bookOf}
 use Rattle.models.specs.Program.{Program}
 use Rattle.models.specs.Branching.{branchingCount}
 use Rattle.models.specs.Listing.{stableModels, recordSize, recordOf, be16, be32, listingOf, listing}
 use Rattle.models.proofs.RecordLaws.{listing-length}
 use Rattle.models.specs.Alike.{Alike}
 use Rattle.models.proofs.AlikeLaws.{alike-models, alike-count, alike-listing}
-use Rattle.table.specs.Table.{programOf, TableMade}
 use Rattle.table.specs.Tabled.{tabled}
-use Rattle.accepted.specs.Accepted.{IsAccepted}
-use Rattle.accepted.specs.Driven.{layerTests}
-use Rattle.accepted.proofs.FirstLaws.{first-append, first-refused}
 use Rattle.branching.specs.Marks.{Listed}
 use Rattle.records.proofs.WrittenLaws.{records-fit, head-written}
 use Rattle.leaf.specs.Searchable.{Searchable}
 use Rattle.plan.specs.Plan.{planAtoms}
 use Rattle.plan.specs.declared.Sizes.{Sizes}
 use Rattle.search.proofs.TurnLaws.{atoms-count}
-use Rattle.passes.specs.Limit.{hasTooManyBranching}
 use Rattle.passes.specs.SetUp.{Ready}
 use Rattle.passes.proofs.PassLaws.{models-le}
-use Rattle.passes.proofs.SetUpLaws.{set-up-alike, too-many, not-too-many}
 use Rattle.list_call.specs.declared.ListReply.{ListReply}
 use Rattle.list_call.specs.declared.ListReply.the-variants as reply
-use Rattle.list_call.specs.Reply.{roomTests, searchTests, listTests, replyOf, bufferOf, listReply, listBuffer, Answers}
+use Rattle.list_call.specs.Reply.{roomTests, replyOf, bufferOf, Answers}
 
 -- ---- counting and writing
 module _ {book rows plan : List ℕ} {sizes : Sizes} (ready : Ready book rows plan sizes) where

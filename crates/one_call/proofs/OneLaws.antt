@@ -2,7 +2,7 @@
 use mathlib.Core.Path.{_≡_, refl, sym, ap, ap₂, subst, _∙_}
 use mathlib.Core.Bool.{Bool, true, false}
 use mathlib.Core.List.{List, [], _∷_, _++_, List·Memᴰ·head, Memᴰ·append-right}
-use Prim.Native.Nat.{ℕ, _-_, _*_, _<_, _≤_}
+use Prim.Native.Nat.{ℕ, _-_, _<_, _≤_}
 use native.Mathlib.Omega.{arith}
 use borrow.Author.Tests.{lt-ltb, le-ltb, ltb-false}
 use borrow.Rule.Slice.PartMut.{putMid}
@@ -11,23 +11,19 @@ use lib.ListN.{length, take, drop, take-append-drop}
 use lib.Seq.{length-take-le}
 use Rattle.base.specs.Bounds.{maxBranching}
 use Rattle.book.specs.Causes.{verdictIf, firstOf}
-use Rattle.book.specs.declared.Cause.{Cause}
 use Rattle.book.specs.declared.Cause.the-variants.{TooManyBranching, BufferTooShort, NoStableState}
 use Rattle.book.specs.declared.Verdict.{Verdict}
 use Rattle.book.specs.declared.Verdict.the-variants.{Accepted, Refused}
-use Rattle.format.specs.Book.{bookOf}
 use Rattle.models.specs.Program.{Program}
 use Rattle.models.specs.StableModels.{Interpretation}
 use Rattle.models.specs.Branching.{branchingCount}
 use Rattle.models.specs.Listing.{recordSize, recordOf}
 use Rattle.models.specs.Alike.{Alike}
 use Rattle.models.proofs.AlikeLaws.{flip, alike-model, alike-models, alike-count}
-use Rattle.table.specs.Table.{programOf, TableMade}
+use Rattle.table.specs.Table.{programOf}
 use Rattle.table.specs.Tabled.{tabled}
-use Rattle.accepted.specs.Accepted.{IsAccepted}
 use Rattle.accepted.specs.Driven.{layerTests}
-use Rattle.accepted.proofs.FirstLaws.{accepted-none, first-append, first-refused}
-use Rattle.branching.specs.Marks.{Listed}
+use Rattle.accepted.proofs.FirstLaws.{accepted-none}
 use Rattle.leaf.specs.Searchable.{Searchable}
 use Rattle.plan.specs.Plan.{planAtoms}
 use Rattle.plan.specs.declared.Sizes.{Sizes}
@@ -35,10 +31,9 @@ use Rattle.search.proofs.TurnLaws.{atoms-count}
 use Rattle.passes.specs.SetUp.{Ready}
 use Rattle.passes.specs.Limit.{hasTooManyBranching, hasNoStableState}
 use Rattle.passes.specs.First.{FirstWritten}
-use Rattle.passes.proofs.SetUpLaws.{set-up-alike, too-many, not-too-many}
 use Rattle.one_call.specs.declared.OneReply.{OneReply}
 use Rattle.one_call.specs.declared.OneReply.the-variants as reply
-use Rattle.one_call.specs.Reply.{roomTests, searchTests, oneTests, replyOf, BufferOf, oneReply, OneBuffer, Answers}
+use Rattle.one_call.specs.Reply.{roomTests, searchTests, oneTests, replyOf, BufferOf, oneReply, Answers}
 
 -- ---- room and search
 module _ {book rows plan : List ℕ} {sizes : Sizes} (ready : Ready book rows plan sizes) (size : ℕ) (e : size ≡ recordSize (sizes .n)) (old : List ℕ) where

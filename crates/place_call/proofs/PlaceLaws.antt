@@ -7,7 +7,7 @@ use mathlib.Core.List.{List, [], _∷_, List·Memᴰ·head, List·Memᴰ·tail, 
 use Prim.Native.Nat.{ℕ, suc, _/_, _%_, _<_, _≤_}
 use native.Mathlib.Decide.{decLt}
 use native.Mathlib.Omega.{arith}
-use borrow.Author.Tests.{lt-ltb, le-ltb, ltb-false}
+use borrow.Author.Tests.{le-ltb, ltb-false}
 use lib.Dec.{T, T-not, not-T, eqb, ltb}
 use lib.ListN.{length}
 use Rattle.base.specs.Bounds.{maxAtoms, maxBranching}
@@ -16,8 +16,7 @@ use Rattle.base.proofs.Members.{_∈_, test, filter-from, filter-into, all-at, 
 use Rattle.base.proofs.ClosureLaws.{filter-lt, filter-length}
 use Rattle.base.proofs.UpTo.{passed, failed}
 use Rattle.book.specs.Causes.{Test, verdictIf, firstOf}
-use Rattle.book.specs.declared.Cause.{Cause}
-use Rattle.book.specs.declared.Cause.the-variants.{NoSuchFact, TooManyBranching, NoStableState}
+use Rattle.book.specs.declared.Cause.the-variants.{TooManyBranching, NoStableState}
 use Rattle.book.specs.declared.Verdict.{Verdict}
 use Rattle.book.specs.declared.Verdict.the-variants.{Accepted, Refused}
 use Rattle.format.specs.Book.{u16At}
@@ -30,8 +29,7 @@ use Rattle.models.proofs.AlikeLaws.{alike-models, alike-count}
 use Rattle.table.specs.Table.{programOf}
 use Rattle.table.specs.Tabled.{tabled}
 use Rattle.accepted.specs.Driven.{layerTests}
-use Rattle.accepted.proofs.FirstLaws.{first-append, first-refused, accepted-none}
-use Rattle.accepted.proofs.RecordFacts.{program-atoms}
+use Rattle.accepted.proofs.FirstLaws.{accepted-none}
 use Rattle.search.specs.declared.Goal.the-variants.{Settle}
 use Rattle.leaf.specs.Searchable.{Searchable}
 use Rattle.search.specs.Visits.{reaches}
@@ -46,7 +44,7 @@ use Rattle.place_call.specs.declared.Place.{Place}
 use Rattle.place_call.specs.declared.Place.the-variants.{Every, InSome, Nowhere}
 use Rattle.place_call.specs.declared.PlaceReply.{PlaceReply}
 use Rattle.place_call.specs.declared.PlaceReply.the-variants as reply
-use Rattle.place_call.specs.Reply.{stateTests, searchTests, isNoSuchFact, factTests, placeTests, placeBy, placeIn, replyOf, placeReply, NoCause, SomeModel, Answers, EveryExactly, NowhereExactly, InSomeExactly}
+use Rattle.place_call.specs.Reply.{stateTests, searchTests, factTests, placeTests, placeBy, placeIn, replyOf, placeReply, NoCause, SomeModel, Answers, EveryExactly, NowhereExactly, InSomeExactly}
 
 -- ---- how many of a list pass a test
 module _ {A : Type 0} (p : A → Bool) where

@@ -1,6 +1,6 @@
 -- One row of the plan: its three kinds of entries stand in parts of their own, so that each is written without a change to the others;
 -- and the plan of all rows, as a search is lent it. Used by plan_row and make_plan. Assumes nothing.
-use mathlib.Core.Path.{_≡_, refl, ap, subst, _∙_}
+use mathlib.Core.Path.{_≡_, refl, subst, _∙_}
 use mathlib.Core.Bool.{Bool}
 use mathlib.Core.List.{List}
 use Prim.Native.Nat.{ℕ, _+_, _*_, _-_, _/_, _≤_}
@@ -11,12 +11,12 @@ use Rattle.base.specs.Bounds.{maxRules, maxBranching}
 use Rattle.table.specs.Rows.{rowCount}
 use Rattle.setting.specs.RuleMasks.{AtomBits, RulePut, no-rule, one-rule, MasksMade, RuleMasks}
 use Rattle.setting.proofs.RuleMaskLaws.{masks-start, masks-lent}
-use Rattle.nogoods.specs.Nogoods.{maxNogoods, Rejectable, NogoodPut, no-nogood, one-nogood, NogoodsTo, Nogoods}
+use Rattle.nogoods.specs.Nogoods.{Rejectable, NogoodPut, no-nogood, one-nogood, NogoodsTo, Nogoods}
 use Rattle.nogoods.proofs.NogoodLaws.{entries-start, nogoods-lent}
 use Rattle.rejecting.specs.Rejecting.{RejectingPut, no-entry, one-entry, RejectingMade, Rejecting}
 use Rattle.rejecting.proofs.RejectingLaws.{made-start, rejecting-lent}
 use Rattle.plan.specs.declared.Sizes.{Sizes}
-use Rattle.plan.specs.Plan.{masksAt, nogoodsAt, rejectingAt, planSize, part, planAtoms, planMasks, planNogoods, planRejecting, PlanTo, PlanStep, Planned}
+use Rattle.plan.specs.Plan.{masksAt, nogoodsAt, rejectingAt, planSize, part, planAtoms, PlanTo, PlanStep, Planned}
 use Rattle.plan.proofs.PartLaws.{part-part, part-length, part-back, part-before, part-behind}
 
 -- what is put keeps the part's length

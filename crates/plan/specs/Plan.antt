@@ -5,7 +5,6 @@ use mathlib.Core.List.{List}
 use Prim.Native.Nat.{ℕ, _+_, _*_, _-_, _/_, _≤_}
 use lib.ListN.{length, take, drop}
 use Rattle.base.specs.Bounds.{maxRules, maxBranching}
-use Rattle.table.specs.Rows.{rowCount}
 use Rattle.setting.specs.RuleMasks.{MasksMade, RuleMasks}
 use Rattle.nogoods.specs.Nogoods.{maxNogoods, NogoodsTo, Nogoods}
 use Rattle.rejecting.specs.Rejecting.{Rejecting, RejectingMade}

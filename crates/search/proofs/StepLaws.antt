@@ -13,7 +13,7 @@ use Rattle.models.specs.StableModels.{Interpretation}
 use Rattle.search.specs.declared.Visit.{Visit}
 use Rattle.leaf.specs.Found.{atSetting, foundBy}
 use Rattle.search.specs.Visits.{Kept, Met, Searched}
-use Rattle.table.specs.Rows.{rowCount, overridden}
+use Rattle.table.specs.Rows.{rowCount}
 use Rattle.table.specs.Tabled.{tabled}
 use Rattle.tester.specs.Masks.{RejectedMasks}
 use Rattle.setting.specs.Setting.{settingOf}

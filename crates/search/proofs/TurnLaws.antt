@@ -1,13 +1,13 @@
 -- From turn to turn of the recursion: of the atoms that are left, the first is decided each way. Used by search. Assumes nothing.
 use mathlib.Core.Path.{_≡_, refl, sym, ap, subst, _∙_}
 use mathlib.Core.Logic.{_⊎_, inl, inr}
-use mathlib.Core.Bool.{Bool, true, false, not}
+use mathlib.Core.Bool.{Bool, true, false}
 use mathlib.Core.List.{List, []}
-use Prim.Native.Nat.{ℕ, suc, _+_, _-_, _/_, _^_, _<_, _≤_}
+use Prim.Native.Nat.{ℕ, _+_, _-_, _/_, _^_, _<_, _≤_}
 use native.Mathlib.Omega.{arith}
 use lib.Bits.{bitOr}
 use lib.ListN.{length, getD, set, take, drop, length-drop}
-use Rattle.base.specs.Bounds.{maxAtoms, maxBranching}
+use Rattle.base.specs.Bounds.{maxAtoms}
 use Rattle.models.specs.StableModels.{Interpretation}
 use Rattle.table.specs.Tabled.{tabled}
 use Rattle.setting.specs.Setting.{settingOf}

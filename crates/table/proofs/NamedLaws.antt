@@ -1,6 +1,6 @@
 -- Two rows are named exactly when the one could displace the other; and the same of a row and a rule, as the proofs above ask it: they
 -- cite these laws and do not look into what displacement asks. Assumes nothing.
-use mathlib.Core.Path.{_≡_, sym, subst, _∙_}
+use mathlib.Core.Path.{_≡_, sym, subst}
 use mathlib.Core.Bool.{_&&_}
 use mathlib.Core.List.{List}
 use Prim.Native.Nat.{ℕ, _<_}
@@ -11,7 +11,7 @@ use Rattle.format.specs.Book.{Literal, Rule}
 use Rattle.models.specs.Program.{Program}
 use Rattle.models.specs.StableModels.{complement, sameLiteral, overrides}
 use Rattle.models.proofs.LeastLaws.{literal-same, literal-refl}
-use Rattle.table.specs.Rows.{rowCount, overridden, rowAt, rowsOf}
+use Rattle.table.specs.Rows.{rowCount, overridden, rowAt}
 use Rattle.table.specs.Table.{Tabulates}
 use Rattle.table.specs.Named.{named, NamedExactly}
 use Rattle.table.proofs.RowLaws.{row-in, row-of}

@@ -7,7 +7,7 @@ use Prim.Native.Nat.{ℕ, _+_, _*_, _/_, _%_, _^_, _<_}
 use native.Mathlib.Decide.{decLt, ℕ-discrete}
 use native.Mathlib.Omega.{arith}
 use lib.Bits.{bitAnd, bitOr}
-use lib.ListN.{length, getD, set, length-set, replicate, length-replicate}
+use lib.ListN.{getD, set, length-set, replicate, length-replicate}
 use lib.Seq.{getD-set-same, getD-set-other}
 use Rattle.base.specs.Bounds.{maxNames, maxLayers}
 use Rattle.layers.specs.Masks.{bitOf}

@@ -1,13 +1,12 @@
 -- The invariant: the marks are the facts that the rows passed make branch. The rows left fall.
 use mathlib.Core.Path.{_≡_, refl, sym, ap, subst}
-use mathlib.Core.Bool.{Bool, not}
+use mathlib.Core.Bool.{not}
 use Prim.Native.Nat.{ℕ, _-_, _/_}
 use lib.Dec.{eqb}
 use lib.ListN.{length}
 use Rattle.table.specs.Rows.{rowSize}
 use Rattle.table.specs.Tabled.{tabled}
 use Rattle.branching.proofs.RowMarkLaws.{RowsMarked, rows-start, rows-more, rows-end}
-use mathlib.Core.List.{List}
 use borrow.Author.Needs.{needs}
 use native.Mathlib.Omega.{arith}
 use Rattle.branching.proofs.mark_branching.Statement.{statement}

@@ -1,7 +1,6 @@
 -- `drive` meets its contract: 11 where the fact is not in the book, 12 where too many facts branch, and else the question's own answer
 -- over the table, which stands for a program alike to the driven layer's. Assumes nothing.
 use mathlib.Core.Path.{sym, ap, _∙_}
-use mathlib.Core.Bool.{Bool}
 use Prim.Native.Nat.{ℕ}
 use lib.ListN.{length}
 use Rattle.table.specs.Table.{programOf}

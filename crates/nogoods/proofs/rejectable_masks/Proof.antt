@@ -1,6 +1,6 @@
 -- The invariant: the masks have what the rows passed can reject. The rows left fall.
 use mathlib.Core.Path.{_≡_, refl, subst}
-use Prim.Native.Nat.{ℕ, _-_, _/_, _≤_}
+use Prim.Native.Nat.{_-_, _/_, _≤_}
 use lib.ListN.{length}
 use Rattle.table.specs.Rows.{rowSize}
 use Rattle.nogoods.specs.Nogoods.{Rejectable}

@@ -1,5 +1,4 @@
 -- The table of the layer, its branching facts in front of the plan, and the plan of them (SetUpLaws).
-use mathlib.Core.Path.{refl, sym, _∙_}
 use mathlib.Core.Bool.{false≢true, true≢false}
 use Rattle.table.proofs.TableLaws.{lent-table}
 use Rattle.table.proofs.TabledLaws.{lent-tabled}

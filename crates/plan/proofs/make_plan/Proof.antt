@@ -4,7 +4,6 @@ use mathlib.Core.Path.{_≡_, refl, sym, subst, ap, _∙_}
 use mathlib.Core.List.{List}
 use Prim.Native.Nat.{ℕ, _-_, _/_, _≤_}
 use lib.ListN.{length}
-use Rattle.base.specs.Bounds.{maxNames}
 use Rattle.table.specs.Rows.{rowSize}
 use Rattle.setting.specs.RuleMasks.{AtomBits}
 use Rattle.plan.specs.Plan.{planAtoms, PlanTo}

@@ -1,8 +1,8 @@
 -- Each atom passed has its bit, and no other bit is set. The atoms left fall.
-use mathlib.Core.Path.{_≡_, sym, subst}
-use Prim.Native.Nat.{ℕ, _-_, _<_, _≤_}
-use lib.ListN.{length, getD}
-use Rattle.base.specs.Bounds.{maxAtoms, maxBranching}
+use mathlib.Core.Path.{subst}
+use Prim.Native.Nat.{_-_, _≤_}
+use lib.ListN.{length}
+use Rattle.base.specs.Bounds.{maxBranching}
 use Rattle.setting.specs.RuleMasks.{Low, AtomBits}
 use Rattle.setting.proofs.RuleMaskLaws.{bits-start, bits-more}
 use borrow.Author.Needs.{needs}

@@ -1,6 +1,6 @@
 -- The invariant: the masks of the rows passed have the lower layers in which the opposite head stands, and the other numbers of the rows
 -- are as they were. The rows left fall.
-use mathlib.Core.Path.{_≡_, refl, sym, subst, _∙_}
+use mathlib.Core.Path.{_≡_, refl, subst, _∙_}
 use Prim.Native.Nat.{_-_, _/_, _≤_}
 use lib.Bits.{bitAnd}
 use lib.ListN.{length, getD}
