@@ -68,10 +68,10 @@ enum lesson_cause_number {
  * linker that binds memcpy or memset at its first call. */
 enum lesson_stack_bytes {
     LESSON_CHECK_STACK = 1024,
-    LESSON_TEST_STACK = 26624,
-    LESSON_LIST_STACK = 73728,
-    LESSON_ONE_STACK = 73728,
-    LESSON_PLACE_STACK = 73728
+    LESSON_TEST_STACK = 30720,
+    LESSON_LIST_STACK = 78848,
+    LESSON_ONE_STACK = 78848,
+    LESSON_PLACE_STACK = 78848
 };
 
 /* The cause that an answer names; LESSON_GRANTED where there is none. */

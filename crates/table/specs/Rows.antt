@@ -11,9 +11,9 @@ use Rattle.layers.specs.Masks.{bitOf}
 use Rattle.format.specs.Book.{Rule, literalsOf}
 use Rattle.table.specs.Names.{literalNamed, nameOf}
 
--- numbers of a row
+-- numbers of a row, the last two of which say nothing
 abbrev pub rowSize : ℕ
-rowSize = 6
+rowSize = 8
 
 abbrev pub rowCount : List ℕ → ℕ
 rowCount rows = length rows / rowSize

@@ -18,8 +18,8 @@ use base::wide;
 use base::wide16;
 use format::literal_value;
 
-// Numbers of a row.
-pub const ROW_SIZE: usize = 6;
+// Numbers of a row: two more than it holds, so that a row's place is a shift and no multiplication, which every pass over the rows feels.
+pub const ROW_SIZE: usize = 8;
 
 // Whether an atom holds: one that the array does not have does not.
 pub fn atom_holds(m: &[bool], f: usize) -> bool
