@@ -1,2 +1,3 @@
 pub mod RejectingLaws
 pub mod RejectedLaws
+pub mod EntriesLaws

@@ -1,1 +1,2 @@
 pub mod Rejecting
+pub mod Entries
