@@ -3,10 +3,12 @@
 //! write, passes over all rules. `bitset` is free of the forms and tries every setting once.
 //!
 //! Run it with `cargo run --release`; with `-- --full` the books that take long come too, with
-//! `-- --only WORD` only the rows that have the word in their name. Where LESSON_BEFORE_DIR names a
-//! folder with another liblesson.a, every row times that one too.
+//! `-- --only WORD` only the rows that have the word in their name, and with `-- --opening` another
+//! table alone, of how long books open. Where LESSON_BEFORE_DIR names a folder with another
+//! liblesson.a, every row times that one too.
 
 mod before;
+mod opening;
 
 use lesson_tests::book::Book;
 use lesson_tests::expected::{branching, NO_STABLE_STATE};
@@ -422,7 +424,8 @@ fn main() {
         match option.as_str() {
             "--full" => full = true,
             "--only" => word = options.next().expect("--only takes a word"),
-            other => panic!("{other}: the options are --full and --only WORD"),
+            "--opening" => return opening::table(),
+            other => panic!("{other}: the options are --full, --only WORD and --opening"),
         }
     }
     let table = &Table { word };
