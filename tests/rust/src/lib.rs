@@ -19,6 +19,7 @@ pub mod ffi;
 pub mod guarded;
 pub mod inputs;
 pub mod known;
+pub mod listed;
 pub mod misreadings;
 pub mod oracle;
 pub mod plain;

@@ -4,9 +4,10 @@
 use lesson_tests::book::{hex, not, plain, Book};
 use lesson_tests::causes::{every_set, AnyBytes};
 use lesson_tests::examples;
-use lesson_tests::expected::{counts, yes_or_no, BUFFER_TOO_SHORT};
+use lesson_tests::expected::{counts, yes_or_no};
 use lesson_tests::ffi;
 use lesson_tests::known::{self, Following, Known, EVERY_FOLLOWING};
+use lesson_tests::listed::{assert_outcome, outcome};
 use lesson_tests::oracle::{self, Driven};
 use lesson_tests::rng::{seed, Rng};
 use lesson_tests::shapes::{self, Layering, B, NO_LAYERS};
@@ -16,35 +17,6 @@ use std::thread;
 
 const P: u16 = 0;
 const Q: u16 = 1;
-
-/// The outcome on `buffer` of a call that would write `listing` and give `answer`.
-fn outcome(listing: &[u8], answer: u64, buffer: &[u8]) -> ffi::Outcome {
-    let mut after = buffer.to_vec();
-    match after.get_mut(..listing.len()) {
-        Some(place) => {
-            place.copy_from_slice(listing);
-            (answer, after)
-        }
-        None => (BUFFER_TOO_SHORT, after),
-    }
-}
-
-/// The engine's outcome on fenced copies is the one expected.
-fn assert_outcome(what: &str, book: &[u8], layer: u32, buffer: &[u8], expected: &ffi::Outcome) {
-    let engine = ffi::list(book, layer, buffer);
-    assert!(
-        engine == *expected,
-        "{what}, layer {layer}, buffer of {} bytes: engine {:#X}, expected {:#X}\nbook {}\n\
-         engine's buffer   {}\nexpected          {}\nbefore            {}",
-        buffer.len(),
-        engine.0,
-        expected.0,
-        hex(book),
-        hex(&engine.1),
-        hex(&expected.1),
-        hex(buffer)
-    );
-}
 
 /// How often the cases came up for which random books are there.
 #[derive(Debug, Default)]
