@@ -17,7 +17,7 @@ pub struct Known {
     /// Document 01: k.
     pub count: usize,
     /// The stable states in some order, by number.
-    state: Box<dyn Fn(usize) -> Vec<bool>>,
+    pub(crate) state: Box<dyn Fn(usize) -> Vec<bool>>,
 }
 
 impl Known {
@@ -61,7 +61,7 @@ impl Known {
     }
 }
 
-fn bit(number: usize, at: usize) -> bool {
+pub(crate) fn bit(number: usize, at: usize) -> bool {
     number >> at & 1 == 1
 }
 
@@ -120,7 +120,7 @@ pub fn displacing_pairs(choices: u16, lone: u16) -> Known {
 }
 
 /// A fact that may stand or not: a quarrel in layer 0, and above it rules that lean on themselves.
-fn free_fact(book: Book, atom: u16) -> Book {
+pub(crate) fn free_fact(book: Book, atom: u16) -> Book {
     book.rule(0, plain(atom), &[])
         .rule(0, not(atom), &[])
         .rule(1, plain(atom), &[plain(atom)])
@@ -793,14 +793,14 @@ pub fn every_slow(rng: &mut Rng, choices: u16) -> Vec<(String, Known)> {
 }
 
 #[cfg(test)]
-mod tests {
+pub(crate) mod tests {
     use super::*;
     use crate::book::hex;
     use crate::rng::seed;
     use crate::shapes::{self, Layering};
 
     /// The book is lawful, and of the small ones the oracle says the same.
-    fn assert_known(what: &str, known: &Known) {
+    pub(crate) fn assert_known(what: &str, known: &Known) {
         let bytes = known.book.bytes();
         assert_eq!(crate::reader::first_cause(&bytes), 0, "{what}");
         let driven = Driven::new(&known.book, known.layer);

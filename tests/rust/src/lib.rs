@@ -22,6 +22,7 @@ pub mod known;
 pub mod listed;
 pub mod misreadings;
 pub mod oracle;
+pub mod orders;
 pub mod plain;
 pub mod reader;
 pub mod rng;
