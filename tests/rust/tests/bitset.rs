@@ -8,6 +8,7 @@ use lesson_tests::expected::{self, branching, counts, place_of, yes_or_no, NO_ST
 use lesson_tests::ffi;
 use lesson_tests::known::{self, Known, EVERY_FOLLOWING};
 use lesson_tests::oracle::{self, Driven};
+use lesson_tests::orders::{Order, Ordered};
 use lesson_tests::rng::{seed, Rng};
 use lesson_tests::shapes::{self, Layering, NO_LAYERS};
 use lesson_tests::sweep;
@@ -206,6 +207,18 @@ fn known_states_of_larger_books_are_found_by_both() {
     for following in EVERY_FOLLOWING {
         let what = format!("{following:?}");
         assert_known(&what, &known::followed(5, 5, 200, following));
+    }
+    for order in Order::ALL {
+        let ordered = Ordered {
+            order,
+            choices: 6,
+            idle: 1,
+            cuts: 2,
+            atoms: 70,
+            at_the_end: true,
+        };
+        let what = format!("seed {seed}, {order:?}");
+        assert_known(&what, &ordered.known(&mut rng));
     }
     for atoms in [63, 64, 65, 128, 129, 192, 255, 256] {
         let small = shapes::crowded(&mut rng, Layering::Any);
