@@ -4,6 +4,7 @@
 use crate::book::{hex, Book};
 use crate::causes::fields;
 use crate::known::{self, EVERY_FOLLOWING};
+use crate::orders::{Order, Ordered};
 use crate::plain;
 use crate::reader;
 use crate::rng::Rng;
@@ -144,13 +145,24 @@ fn searched(rng: &mut Rng) -> Book {
 /// A lawful book of up to 256 facts, few of which branch.
 fn many_facts(rng: &mut Rng) -> Book {
     let atoms = rng.pick(&[9, 15, 16, 17, 64, 65, 255, 256]);
-    match rng.below(4) {
+    match rng.below(5) {
         0 => Book::new(atoms, rng.range(1, 32) as u8),
         1 => {
             let following = rng.pick(&EVERY_FOLLOWING);
             known::followed(rng.range(1, 4) as u16, 4, atoms, following).book
         }
         2 => known::quarrelled(known::free(rng.below(4) as u16, 3, atoms - 1)).book,
+        3 => {
+            let ordered = Ordered {
+                order: rng.pick(&Order::ALL),
+                choices: rng.range(1, 6) as u16,
+                idle: rng.below(2) as u16,
+                cuts: rng.below(2) as u16,
+                atoms,
+                at_the_end: rng.chance(50),
+            };
+            ordered.known(rng).book
+        }
         _ => {
             let small = searched(rng);
             let layer = rng.below(small.layers.into()) as u8;
@@ -185,7 +197,9 @@ fn questions(rng: &mut Rng, book: &[u8], layer: u32) -> Vec<Asked> {
         questions.push((Question::Test { candidate }, Wanted::answer(answer)));
     }
     let any_length = rng.range(0, length + 40) * rng.below(2);
-    for length in [length, length - 1, any_length] {
+    let branching = plain::branching_count(book, layer).unwrap_or(0);
+    let room_for_all = 11 + width * ((1 << branching.min(8)) - rng.below(2));
+    for length in [length, length - 1, any_length, room_for_all] {
         let buffer = rng.bytes(length);
         let (answer, after) = truth.list(&buffer);
         let buffers = vec![after];
