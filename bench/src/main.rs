@@ -14,6 +14,7 @@ use lesson_tests::book::Book;
 use lesson_tests::expected::{branching, NO_STABLE_STATE};
 use lesson_tests::ffi::{self, Call};
 use lesson_tests::known::{self, Ending, Following, Known};
+use lesson_tests::orders::{Order, Ordered};
 use lesson_tests::rng::Rng;
 use lesson_tests::shapes::{self, Planted};
 use lesson_tests::{bitset, oracle, plain, reader};
@@ -331,6 +332,11 @@ fn searches(table: &Table) {
     table.list("rising, 32 bytes", &known::free(14, 0, 256));
     table.list("falling, 32 bytes", &known::followed(14, 14, 256, FALLING));
     table.list("permuted, 4 bytes", &known::followed(10, 10, 28, REVERSED));
+    for order in [Order::BitReversed, Order::ParityFirst, Order::Shuffled] {
+        let name = format!("{}, 5 bytes", order.name());
+        let ordered = Ordered::new(order, 14, 40);
+        table.list(&name, &ordered.known(&mut rng("orders")));
+    }
     table.one("pairs", &known::pairs(10, 0));
     table.one("largest lawful book", &busy(14));
     table.place("pairs", &known::pairs(10, 0), 0);
