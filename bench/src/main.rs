@@ -2,13 +2,15 @@
 //! one table in Markdown. `plain` makes the same search in the same forms: one pass to count, one to
 //! write, passes over all rules. `bitset` is free of the forms and tries every setting once.
 //!
-//! Run it with `cargo run --release`; with `-- --full` the books that take long come too, with
-//! `-- --only WORD` only the rows that have the word in their name, and with `-- --opening` another
-//! table alone, of how long books open. Where LESSON_BEFORE_DIR names a folder with another
-//! liblesson.a, every row times that one too.
+//! Run it with `cargo run --release`; with `-- --full` the books that take long come too, and with
+//! `-- --only WORD` only the rows that have the word in their name. Two other tables come alone: with
+//! `-- --opening` the one of how long books open, and with `-- --orders` the one of listings whose
+//! records come in every order, where `--limit SECONDS` leaves out an archive that would take longer.
+//! Where LESSON_BEFORE_DIR names a folder with another liblesson.a, every row times that one too.
 
 mod before;
 mod opening;
+mod orders;
 
 use lesson_tests::book::Book;
 use lesson_tests::expected::{branching, NO_STABLE_STATE};
@@ -424,15 +426,28 @@ fn longest_searches(table: &Table) {
 }
 
 fn main() {
-    let (mut full, mut word) = (false, String::new());
+    let (mut full, mut orders, mut limit) = (false, false, orders::LIMIT);
+    let mut word = String::new();
     let mut options = env::args().skip(1);
     while let Some(option) = options.next() {
+        let mut value = || {
+            options
+                .next()
+                .unwrap_or_else(|| panic!("{option} takes a value"))
+        };
         match option.as_str() {
             "--full" => full = true,
-            "--only" => word = options.next().expect("--only takes a word"),
+            "--only" => word = value(),
             "--opening" => return opening::table(),
-            other => panic!("{other}: the options are --full, --only WORD and --opening"),
+            "--orders" => orders = true,
+            "--limit" => limit = value().parse().expect("--limit takes seconds"),
+            other => panic!(
+                "{other}: the options are --full, --only WORD, --opening, --orders and --limit SECONDS"
+            ),
         }
+    }
+    if orders {
+        return orders::table(word, limit);
     }
     let table = &Table { word };
     table.head();
