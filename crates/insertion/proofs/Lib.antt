@@ -1,6 +1,5 @@
 pub mod ByteOrder
 pub mod SortedLaws
 pub mod Once
-pub mod MoveLaws
+pub mod ByteLaws
 pub mod RunLaws
-pub mod KeptLaws

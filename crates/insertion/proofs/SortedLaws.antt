@@ -1,15 +1,13 @@
--- Insertion into a rising list keeps it rising and adds one member: which members there are then, how many, and at which
--- place the new one stands. RunLaws cites it for records, and the crates above for the states found. Assumes nothing.
+-- Insertion into a rising list keeps it rising and adds one member: which members there are then, and how many. The crates above cite it
+-- for records and for the states found. Assumes nothing.
 use mathlib.Core.Path.{_≡_, refl, sym, ap, subst, _∙_}
 use mathlib.Core.Logic.{_⊎_, inl, inr}
 use mathlib.Core.Bool.{Bool, true, false}
 use mathlib.Core.List.{List, [], _∷_, _++_, map, List·Memᴰ·head, List·Memᴰ·tail, List·Memᴰ·cases-cons, List·Memᴰ·not-nil}
-use Prim.Native.Nat.{ℕ, zero, suc, _+_, _≤_, _<_, zero-le, suc-le-suc}
-use native.Mathlib.Nat.{suc-inj}
+use Prim.Native.Nat.{ℕ, zero, suc, _+_, _<_}
 use native.Mathlib.Omega.{arith}
 use lib.Dec.{T}
-use lib.ListN.{length, getD, take, drop}
-use lib.Seq.{take-all, take-at, take-take, length-take-le}
+use lib.ListN.{length, getD, take}
 use Rattle.base.proofs.Members.{_∈_}
 use Rattle.insertion.specs.Sorted.{insertPast, insertBy, insertAll, Up}
 
@@ -79,7 +77,8 @@ module _ {A : Type 0} (less : A → A → Bool) where
   insert-length x (y ∷ ys) = insertPast-length (less y x) x y (insertBy less x ys) ys (insert-length x ys)
 
   module _ (le-lt : (y x r : A) → less y x ≡ false → less y r ≡ true → less x r ≡ true) (asym : (x y : A) → less x y ≡ true → less y x ≡ false) where
-    le-le : (y x r : A) → less y x ≡ false → less x r ≡ false → less y r ≡ false
+    -- not after, put together
+    pub le-le : (y x r : A) → less y x ≡ false → less x r ≡ false → less y r ≡ false
     le-le y x r p q = go (less y r) refl
       where
         go : (t : Bool) → less y r ≡ t → less y r ≡ false
@@ -103,65 +102,10 @@ module _ {A : Type 0} (less : A → A → Bool) where
         go true e h = (λ z m. later e z (insert-from x z ys m), h)
         go false e h = (λ z m. here e z (List·Memᴰ·cases-cons m), u)
 
-    -- it goes in at j, where the member in front comes before it and the next one does not
-    pub insert-position : (d x : A) (ys : List A) (j : ℕ) → j ≤ length ys → Up less ys → ((i : ℕ) → j ≡ suc i → less (getD ys i d) x ≡ true) → (j < length ys → less (getD ys j d) x ≡ false)
-        → insertBy less x ys ≡ take j ys ++ (x ∷ drop j ys)
-    unfolding insertBy insertPast
-    insert-position d x [] zero h u lo hi = refl
-    insert-position d x [] (suc j) h u lo hi = absurd (omega arith)
-    insert-position d x (y ∷ ys) zero h u lo hi = rw (hi (suc-le-suc zero-le)) refl
-    insert-position d x (y ∷ ys) (suc zero) h u lo hi =
-        rw (lo zero refl) (ap (λ (t : List A). y ∷ t) (insert-position d x ys zero (omega arith) (u .1) (λ i b. absurd (omega arith)) (λ b. hi (omega arith))))
-    insert-position d x (y ∷ ys) (suc (suc j)) h u lo hi =
-        let l : less (getD ys j d) x ≡ true = lo (suc j) refl in
-        let e : less y x ≡ true = le-lt (getD ys j d) y x (u .0 (getD ys j d) (getD-member ys j d (omega arith))) l in
-        rw e (ap (λ (t : List A). y ∷ t) (insert-position d x ys (suc j) (omega arith) (u .1) (λ i b. subst (λ (k : ℕ). less (getD ys k d) x ≡ true) (suc-inj b) l) (λ b. hi (omega arith))))
-
-    -- a list whose last comes before x: x goes in behind it, and is the one left out
-    pub insert-behind : (d x : A) (i : ℕ) (ys : List A) → length ys ≡ suc i → Up less ys → less (getD ys i d) x ≡ true → take (suc i) (insertBy less x ys) ≡ ys
-    insert-behind d x i ys n u e =
-        let s : take (suc i) ys ≡ ys = take-all (suc i) ys (omega arith) in
-        ap (take (suc i)) (insert-position d x ys (suc i) (omega arith) u (λ k q. subst (λ (t : ℕ). less (getD ys t d) x ≡ true) (suc-inj q) e) (λ q. absurd (omega arith)))
-        ∙ take-at (take (suc i) ys) (x ∷ drop (suc i) ys) (suc i) (length-take-le (suc i) ys (omega arith)) ∙ s
-
     pub insertAll-keeps-up : (xs ys : List A) → Up less ys → Up less (insertAll less xs ys)
     unfolding insertAll
     insertAll-keeps-up [] ys u = u
     insertAll-keeps-up (x ∷ xs) ys u = insertAll-keeps-up xs (insertBy less x ys) (insert-keeps-up x ys u)
-
-  -- a list with a member, at i, that does not come before x: x goes in before it, whatever follows
-  pub insert-in-front : (d x : A) (i : ℕ) (ys : List A) → i < length ys → less (getD ys i d) x ≡ false → insertBy less x (take i ys) ≡ take (suc i) (insertBy less x ys)
-  unfolding insertBy insertPast
-  insert-in-front d x i [] h e = absurd (omega arith)
-  insert-in-front d x zero (y ∷ ys) h e = rw e refl
-  insert-in-front d x (suc i) (y ∷ ys) h e = go (less y x) (insert-in-front d x i ys (omega arith) e)
-    where
-      go : (t : Bool) → insertBy less x (take i ys) ≡ take (suc i) (insertBy less x ys)
-          → insertPast t x y (insertBy less x (take i ys)) (take i ys) ≡ take (suc (suc i)) (insertPast t x y (insertBy less x ys) ys)
-      go true q = ap (λ (l : List A). y ∷ l) q
-      go false q = refl
-
-  -- the least c of a list and of new members are the least c of its least c and of the new ones
-  insert-take : (c : ℕ) (x : A) (l : List A) → take c (insertBy less x (take c l)) ≡ take c (insertBy less x l)
-  unfolding insertBy insertPast
-  insert-take zero x l = refl
-  insert-take (suc c) x [] = refl
-  insert-take (suc c) x (y ∷ ys) = go (less y x) (insert-take c x ys)
-    where
-      rest : (k : ℕ) → take k (y ∷ take k ys) ≡ take k (y ∷ ys)
-      rest zero = refl
-      rest (suc k) = ap (λ (l : List A). y ∷ l) (take-take k (suc k) ys (omega arith))
-
-      go : (t : Bool) → take c (insertBy less x (take c ys)) ≡ take c (insertBy less x ys)
-          → take (suc c) (insertPast t x y (insertBy less x (take c ys)) (take c ys)) ≡ take (suc c) (insertPast t x y (insertBy less x ys) ys)
-      go true q = ap (λ (l : List A). y ∷ l) q
-      go false q = ap (λ (l : List A). x ∷ l) (rest c)
-
-  pub insertAll-take : (c : ℕ) (xs l : List A) → take c (insertAll less xs (take c l)) ≡ take c (insertAll less xs l)
-  unfolding insertAll
-  insertAll-take c [] l = take-take c c l (omega arith)
-  insertAll-take c (x ∷ xs) l =
-      sym (insertAll-take c xs (insertBy less x (take c l))) ∙ ap (λ (k : List A). take c (insertAll less xs k)) (insert-take c x l) ∙ insertAll-take c xs (insertBy less x l)
 
   pub insertAll-append : (xs ys l : List A) → insertAll less (xs ++ ys) l ≡ insertAll less ys (insertAll less xs l)
   unfolding insertAll

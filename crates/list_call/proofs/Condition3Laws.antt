@@ -4,8 +4,8 @@ use mathlib.Core.Path.{_≡_, refl, sym, ap, ap₂, subst, _∙_}
 use mathlib.Core.Logic.{_⊎_, inl, inr}
 use mathlib.Core.Bool.{true, false, false≢true}
 use mathlib.Core.List.{List, [], _∷_, _++_, map, List·Memᴰ·head, List·Memᴰ·tail, List·Memᴰ·cases-cons, List·Memᴰ·not-nil, Memᴰ·append-left, Memᴰ·append-right, Memᴰ·of-map}
-use Prim.Native.Nat.{ℕ, zero, suc, _+_, _*_, _/_, _%_, _^_, _<_, _≤_}
-use native.Mathlib.Nat.{pow-le-pow-right, mul-le-mul-right, div-div-eq-div-mul}
+use Prim.Native.Nat.{ℕ, zero, suc, _+_, _*_, _^_, _<_, _≤_}
+use native.Mathlib.Nat.{pow-le-pow-right, mul-le-mul-right}
 use native.Mathlib.Decide.{decLt}
 use native.Mathlib.Omega.{arith}
 use borrow.Author.Tests.{ltb-false}
@@ -30,6 +30,7 @@ use Rattle.models.proofs.LeastLaws.{stable-sound, stable-complete}
 use Rattle.models.proofs.RecordLaws.{record-length, record-same, records-length, listing-length}
 use Rattle.models.proofs.ListingLaws.{stableModels-length, listings-decide}
 use Rattle.records.proofs.OrderLaws.{record-rises}
+use Rattle.records.proofs.SumLaws.{field-read}
 use Rattle.records.proofs.WrittenLaws.{records-fit}
 use Rattle.book.specs.Causes.{Test, firstOf}
 use Rattle.book.specs.declared.Cause.the-variants.{TooManyBranching, BufferTooShort}
@@ -143,13 +144,6 @@ record-place n ms rest i h =
     at i [] h = absurd (omega arith)
     at zero (x ∷ xs) h = refl
     at (suc i) (x ∷ xs) h = at i xs (omega arith)
-
--- a number below 2^32 is read back from its four bytes
-bytes-read : (v c b a : ℕ) → v / 256 ≡ c → c / 256 ≡ b → b / 256 ≡ a → a < 256 → ((a % 256 * 256 + b % 256) * 256 + c % 256) * 256 + v % 256 ≡ v
-bytes-read v c b a p q r h = omega arith
-
-field-read : (v : ℕ) → v < 4294967296 → ((v / 16777216 % 256 * 256 + v / 65536 % 256) * 256 + v / 256 % 256) * 256 + v % 256 ≡ v
-field-read v h = bytes-read v (v / 256) (v / 65536) (v / 16777216) refl (div-div-eq-div-mul v 256 256) (div-div-eq-div-mul v 65536 256) (omega arith)
 
 -- ---- one granted call
 module _ (c : Call) (k g : ℕ) (w : Told c k g) where

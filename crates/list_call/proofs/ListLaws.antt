@@ -1,8 +1,8 @@
 -- The listing call, step by step: the size of the listing, each refusal, and the buffer once all is written. Assumes nothing.
 use mathlib.Core.Path.{_≡_, refl, sym, ap, ap₂, subst, _∙_}
 use mathlib.Core.List.{List, [], _∷_, _++_, map}
-use Prim.Native.Nat.{ℕ, _+_, _-_, _*_, _^_, _<_, _≤_}
-use native.Mathlib.Nat.{pow-le-pow-right}
+use Prim.Native.Nat.{ℕ, suc, _+_, _-_, _*_, _/_, _^_, _<_, _≤_}
+use native.Mathlib.Nat.{pow-le-pow-right, mul-le-mul-right, div-mul-le-self, lt-div-mul-add}
 use native.Mathlib.Omega.{arith}
 use borrow.Author.Tests.{lt-ltb, le-ltb}
 use borrow.Rule.Slice.PartMut.{putMid}
@@ -29,6 +29,7 @@ use Rattle.plan.specs.Plan.{planAtoms}
 use Rattle.plan.specs.declared.Sizes.{Sizes}
 use Rattle.search.proofs.TurnLaws.{atoms-count}
 use Rattle.passes.specs.SetUp.{Ready}
+use Rattle.passes.specs.Tallied.{Bounds}
 use Rattle.passes.proofs.PassLaws.{models-le}
 use Rattle.list_call.specs.declared.ListReply.{ListReply}
 use Rattle.list_call.specs.declared.ListReply.the-variants as reply
@@ -52,46 +53,79 @@ module _ {book rows plan : List ℕ} {sizes : Sizes} (ready : Ready book rows pl
   unfolding branchingCount
   g-is = sym (atoms-count (ready .planned)) ∙ ap length (w .listed)
 
-  module _ {k : ℕ} (k-is : k ≡ length (stableModels P)) where
-    k-le : k ≤ 2 ^ maxBranching
-    k-le = omega (arith, k-is, models-le P (w .formed) atoms-few, pow-le-pow-right {n = 2} (omega arith) (subst (λ (x : ℕ). x ≤ maxBranching) (atoms-count (ready .planned) ∙ g-is) (w .atoms-few)))
+  abbrev all : ℕ
+  all = length (stableModels P)
 
-    module _ (width : ℕ) (e : width ≡ recordSize n) where
-      pub bytes-fit : k * width ≤ 2 ^ maxBranching * maxRecord
-      bytes-fit = records-fit n k width (w .few) k-le e
+  k-le : all ≤ 2 ^ maxBranching
+  k-le = omega (arith, models-le P (w .formed) atoms-few, pow-le-pow-right {n = 2} (omega arith) (subst (λ (x : ℕ). x ≤ maxBranching) (atoms-count (ready .planned) ∙ g-is) (w .atoms-few)))
 
-      bytes-are : k * width ≡ length (stableModels P) * recordSize n
-      bytes-are = ap₂ (λ (x y : ℕ). x * y) k-is e
+  size-is : 11 + all * recordSize n ≡ length (listing P)
+  unfolding listing
+  size-is = ap (λ (x : ℕ). 11 + all * recordSize x) (w .size) ∙ sym (listing-length (P .atoms) (stableModels P))
 
-      size-is : 11 + k * width ≡ length (listing P)
-      unfolding listing
-      size-is =
-          ap (λ (x : ℕ). 11 + x) (bytes-are ∙ ap (λ (x : ℕ). length (stableModels P) * recordSize x) (w .size))
-          ∙ sym (listing-length (P .atoms) (stableModels P))
+  module _ (old : List ℕ) where
+    refused : length old < 11 + all * recordSize n → Answers (firstOf (roomTests P (length old))) P old (reply.Refused BufferTooShort) old
+    unfolding firstOf verdictIf roomTests replyOf bufferOf
+    refused h =
+        let e : firstOf (roomTests P (length old)) ≡ Refused BufferTooShort = rw (lt-ltb (length old) (length (listing P)) (omega (arith, size-is))) refl in
+        record { reply-is = rw e refl; buffer-is = rw e refl }
 
-      module _ (old : List ℕ) where
-        pub room-refused : length old < 11 + k * width → Answers (firstOf (roomTests P (length old))) P old (reply.Refused BufferTooShort) old
-        unfolding firstOf verdictIf roomTests replyOf bufferOf
+    -- no room for the head
+    pub head-refused : length old < 11 → Answers (firstOf (roomTests P (length old))) P old (reply.Refused BufferTooShort) old
+    head-refused h = refused (omega arith)
+
+    module _ (head : 11 ≤ length old) (width : ℕ) (e : width ≡ recordSize n) where
+      pub width-some : 0 < width
+      unfolding recordSize
+      width-some = omega (arith, e, w .some)
+
+      abbrev room : ℕ
+      room = (length old - 11) / width
+
+      room-fits : room * width ≤ length old - 11
+      room-fits = div-mul-le-self (length old - 11) width
+
+      module _ {most : ℕ} (b : Bounds all room most) where
+        -- no room for the records
+        pub room-refused : room < most → Answers (firstOf (roomTests P (length old))) P old (reply.Refused BufferTooShort) old
         room-refused h =
-            let e : firstOf (roomTests P (length old)) ≡ Refused BufferTooShort = rw (lt-ltb (length old) (length (listing P)) (omega (arith, size-is))) refl in
-            record { reply-is = rw e refl; buffer-is = rw e refl }
+            let more : suc room * width ≤ all * width = mul-le-mul-right width (b .past h) in
+            let step : suc room * width ≡ room * width + width = omega arith in
+            let next : length old - 11 < room * width + width = lt-div-mul-add width-some in
+            refused (omega (arith, head, more, step, next, ap (λ (x : ℕ). all * x) e))
 
-        module _ (h : 11 + k * width ≤ length old) where
-          pub part-sized : length (take (11 + k * width - 11) (drop 11 old)) ≡ length (stableModels P) * recordSize n
-          part-sized = length-take-le (11 + k * width - 11) (drop 11 old) (omega (arith, length-drop 11 old)) ∙ omega (arith, bytes-are)
+        module _ (h : most ≤ room) where
+          pub part-fits : 11 + most * width ≤ length old
+          part-fits = let q : most * width ≤ room * width = mul-le-mul-right width h in omega (arith, q, room-fits, head)
 
-          pub room-listed : (part buf : List ℕ) → part ≡ flat (map (recordOf n) (stableModels P))
-              → buf ≡ 1 ∷ (be32 (11 + k * width) ++ (be16 n ++ (be32 k ++ drop 11 (putMid 11 (11 + k * width - 11) old part))))
-              → Answers (firstOf (roomTests P (length old))) P old (reply.Listed k (sizes .branching)) buf
-          unfolding firstOf verdictIf roomTests replyOf bufferOf listing
-          room-listed part buf f q =
-              let v : firstOf (roomTests P (length old)) ≡ Accepted = rw (le-ltb (length old) (length (listing P)) (omega (arith, size-is))) refl in
-              record {
-                reply-is = rw v (ap₂ reply.Listed k-is g-is);
-                buffer-is =
-                    rw v (head-written n (stableModels P) k (11 + k * width) old part buf k-is (ap (λ (x : ℕ). 11 + x) bytes-are) h f q
-                    ∙ ap₂ (λ (x y : ℕ). listingOf x (stableModels P) ++ drop y old) (w .size) size-is);
-              }
+          part-length : length (take (11 + most * width - 11) (drop 11 old)) ≡ most * width
+          part-length = length-take-le (11 + most * width - 11) (drop 11 old) (omega (arith, length-drop 11 old, part-fits)) ∙ omega arith
+
+          all-fit : all * recordSize n ≤ most * width
+          all-fit = let q : all * width ≤ most * width = mul-le-mul-right width (b .enough h) in omega (arith, q, ap (λ (x : ℕ). all * x) e)
+
+          pub part-enough : all * recordSize n ≤ length (take (11 + most * width - 11) (drop 11 old))
+          part-enough = omega (arith, part-length, all-fit)
+
+          module _ {k : ℕ} (k-is : k ≡ all) where
+            pub bytes-fit : k * width ≤ 2 ^ maxBranching * maxRecord
+            bytes-fit = records-fit n k width (w .few) (omega (arith, k-is, k-le)) e
+
+            bytes-are : k * width ≡ all * recordSize n
+            bytes-are = ap₂ (λ (x y : ℕ). x * y) k-is e
+
+            pub room-listed : (part buf : List ℕ) → part ≡ flat (map (recordOf n) (stableModels P)) ++ drop (all * recordSize n) (take (11 + most * width - 11) (drop 11 old))
+                → buf ≡ 1 ∷ (be32 (11 + k * width) ++ (be16 n ++ (be32 k ++ drop 11 (putMid 11 (11 + most * width - 11) old part))))
+                → Answers (firstOf (roomTests P (length old))) P old (reply.Listed k (sizes .branching)) buf
+            unfolding firstOf verdictIf roomTests replyOf bufferOf listing
+            room-listed part buf f q =
+                let v : firstOf (roomTests P (length old)) ≡ Accepted = rw (le-ltb (length old) (length (listing P)) (omega (arith, size-is, all-fit, part-fits))) refl in
+                record {
+                  reply-is = rw v (ap₂ reply.Listed k-is g-is);
+                  buffer-is =
+                      rw v (head-written n (stableModels P) k (11 + k * width) (11 + most * width) old part buf k-is (ap (λ (x : ℕ). 11 + x) bytes-are) (omega (arith, bytes-are, all-fit)) part-fits f q
+                      ∙ ap₂ (λ (x y : ℕ). listingOf x (stableModels P) ++ drop y old) (w .size) (ap (λ (x : ℕ). 11 + x) bytes-are ∙ size-is));
+                }
 
 -- ---- the program that the table stands for, and the driven layer's
 module _ {P Q : Program} (a : Alike P Q) where

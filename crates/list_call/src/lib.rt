@@ -5,9 +5,10 @@ ghost use Rattle.book.specs.Causes.{firstOf};
 ghost use Rattle.passes.specs.SetUp.{Ready};
 ghost use Rattle.list_call.specs.Reply.{roomTests, Answers};
 use book::Cause;
-use passes::count_all;
+use passes::most_records;
 use passes::write_all;
 use plan::Sizes;
+use records::HEAD_SIZE;
 use records::put_head;
 use records::record_size;
 
@@ -17,7 +18,8 @@ pub enum ListReply {
     Refused(Cause),
 }
 
-// Counts the stable models, and writes them where there is room: one pass each. The head is written last.
+// Writes the records of the stable models where there is room for them, and the head last: one pass where there is room for a record of
+// every setting, else one that counts and one that writes.
 pub fn list_models(
     book: &[u8],
     rows: &[u16],
@@ -29,12 +31,17 @@ pub fn list_models(
     ensures { λ r. ⌜ Answers (firstOf (roomTests (tabled (now (book .entry)) (now (rows .entry)) (sizes .n)) (length (now (buffer .entry))))) (tabled (now (book .entry)) (now (rows .entry)) (sizes .n)) (now (buffer .entry)) r (now (buffer .exit)) ⌝ }
 {
     let n = sizes.n;
-    let k = count_all(book, rows, plan, sizes);
-    let size = 11 + k * record_size(n);
-    if buffer.len() < size {
+    if buffer.len() < HEAD_SIZE {
         return ListReply::Refused(Cause::BufferTooShort);
     }
-    write_all(book, rows, plan, sizes, &mut buffer[11..size]);
-    put_head(buffer, size, n, k);
+    let w = record_size(n);
+    let room = (buffer.len() - HEAD_SIZE) / w;
+    let most = most_records(book, rows, plan, sizes, room);
+    if room < most {
+        return ListReply::Refused(Cause::BufferTooShort);
+    }
+    let end = HEAD_SIZE + most * w;
+    let k = write_all(book, rows, plan, sizes, &mut buffer[HEAD_SIZE..end]);
+    put_head(buffer, HEAD_SIZE + k * w, n, k);
     ListReply::Listed(k, sizes.branching)
 }

@@ -5,7 +5,7 @@ use mathlib.Core.Bool.{Bool, true, false}
 use mathlib.Core.List.{List, [], _∷_, _++_, List·Memᴰ·head, Memᴰ·append-left, append-nil}
 use Prim.Native.Nat.{ℕ, _+_, _<_, _≤_}
 use native.Mathlib.Omega.{arith}
-use borrow.Author.Tests.{ne-eqb}
+use borrow.Author.Tests.{ne-eqb, le-ltb}
 use lib.Dec.{eqb}
 use lib.ListN.{length, replicate, length-replicate, length-append}
 use Rattle.base.specs.Bounds.{maxAtoms}
@@ -18,7 +18,7 @@ use Rattle.models.specs.Listing.{bitValue, interpretations, stableModels}
 use Rattle.models.proofs.InterpretationLaws.{interpretations-length, interpretations-has}
 use Rattle.models.proofs.LeastLaws.{stable-sound, stable-complete}
 use Rattle.search.specs.declared.Goal.{Goal}
-use Rattle.search.specs.declared.Goal.the-variants.{All, First, Settle}
+use Rattle.search.specs.declared.Goal.the-variants as goals
 use Rattle.search.specs.Visits.{weightOf, totalOf, reaches}
 use Rattle.leaf.proofs.FoundLaws.{found-stable, stable-found}
 use Rattle.passes.specs.Limit.{hasNoStableState}
@@ -56,9 +56,11 @@ module _ (P : Program) where
 -- ---- what a pass met
 none-reaches : (goal : Goal) → reaches goal 0 0 ≡ false
 unfolding reaches
-none-reaches All = refl
-none-reaches First = refl
-none-reaches Settle = refl
+none-reaches goals.List = refl
+none-reaches (goals.Count most) = le-ltb most 0 (omega arith)
+none-reaches goals.First = refl
+none-reaches goals.Settle = refl
+none-reaches goals.Sums = refl
 
 module _ (P : Program) (w : WellFormed P) (few : P .atoms ≤ maxAtoms) where
   pub searched-from : (m : Interpretation) → m ∈ searched P → StableModel P m
@@ -88,12 +90,12 @@ module _ (P : Program) (w : WellFormed P) (few : P .atoms ≤ maxAtoms) where
     tallied-some h = state-some P (omega (arith, t .count-is, ap length (t .split), length-append (t .seen) (t .rest), searched-length P w few))
 
 -- for a fact's place the models weigh as many as those in which it stands
-pub settled-weight : (asked : List ℕ) (ms : List Interpretation) → totalOf (weightOf Settle asked) ms ≡ length (filter (λ m. atomHolds m (u16At asked 0)) ms)
+pub settled-weight : (asked : List ℕ) (ms : List Interpretation) → totalOf (weightOf goals.Settle asked) ms ≡ length (filter (λ m. atomHolds m (u16At asked 0)) ms)
 unfolding totalOf weightOf filter bitValue consIf
 settled-weight asked [] = refl
 settled-weight asked (m ∷ ms) = go (atomHolds m (u16At asked 0)) (settled-weight asked ms)
   where
-    go : (c : Bool) → totalOf (weightOf Settle asked) ms ≡ length (filter (λ m. atomHolds m (u16At asked 0)) ms)
-        → bitValue c 1 + totalOf (weightOf Settle asked) ms ≡ length (consIf c m (filter (λ m. atomHolds m (u16At asked 0)) ms))
+    go : (c : Bool) → totalOf (weightOf goals.Settle asked) ms ≡ length (filter (λ m. atomHolds m (u16At asked 0)) ms)
+        → bitValue c 1 + totalOf (weightOf goals.Settle asked) ms ≡ length (consIf c m (filter (λ m. atomHolds m (u16At asked 0)) ms))
     go true e = omega (arith, e)
     go false e = omega (arith, e)

@@ -2,7 +2,7 @@
 use mathlib.Core.Path.{_≡_}
 use mathlib.Core.Bool.{false}
 use mathlib.Core.List.{List, [], _++_}
-use Prim.Native.Nat.{ℕ}
+use Prim.Native.Nat.{ℕ, _<_, _≤_}
 use lib.ListN.{length, replicate}
 use Rattle.base.specs.Bounds.{maxAtoms}
 use Rattle.models.specs.Program.{Program}
@@ -18,10 +18,10 @@ use Rattle.setting.specs.Setting.{settingOf}
 unfoldable pub searched : Program → List Interpretation
 searched P = foundBy (atSetting P (branchingAtoms P)) (branchingAtoms P) (replicate maxAtoms false)
 
--- one pass of the search, which begins with nothing met and the whole part as a gap
+-- one pass of the search, which begins with nothing met
 abbrev pub Passed : Program → List ℕ → ℕ → Goal → List ℕ → List ℕ → Visit → List ℕ → Type 0
 Passed P atoms n goal asked part end part′ =
-    Searched asked n (foundBy (atSetting P atoms) atoms (settingOf atoms 0)) (record { goal = goal; count = 0; weight = 0; lo = 0; hi = length part }) part end part′
+    Searched asked n (foundBy (atSetting P atoms) atoms (settingOf atoms 0)) (record { goal = goal; count = 0; weight = 0 }) part end part′
 
 -- the first of them were met, and all unless the goal was reached before
 pub record Tallied (P : Program) (goal : Goal) (asked : List ℕ) (count weight : ℕ) : Type 0 where
@@ -31,3 +31,8 @@ pub record Tallied (P : Program) (goal : Goal) (asked : List ℕ) (count weight 
   pub count-is : count ≡ length seen
   pub weight-is : weight ≡ totalOf (weightOf goal asked) seen
   pub whole : reaches goal count weight ≡ false → rest ≡ []
+
+-- a number that is no less than k, or that with k is over what there is room for
+pub record Bounds (k room r : ℕ) : Type 0 where
+  pub enough : r ≤ room → k ≤ r
+  pub past : room < r → room < k

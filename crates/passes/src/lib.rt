@@ -1,24 +1,24 @@
 // What a call works out before it searches, and passes of the search: two that count, one that writes every record and one that writes
-// the first. Document 01: "a listing may take one such pass to count and one to write".
+// the first. Document 01: "a listing may take one such pass to count and one to write"; where there is room for a record of every setting
+// it takes one.
 ghost use mathlib.Core.Path.{_≡_};
-ghost use mathlib.Core.List.{map};
-ghost use Prim.Native.Nat.{_*_, _<_};
-ghost use lib.ListN.{length};
+ghost use mathlib.Core.List.{[], map, _++_};
+ghost use Prim.Native.Nat.{_*_, _<_, _≤_};
+ghost use lib.ListN.{length, drop};
 ghost use Rattle.base.specs.Bounds.{maxRules};
 ghost use Rattle.base.specs.Lists.{flat};
 ghost use Rattle.layers.specs.Masks.{LowerMasks};
 ghost use Rattle.format.specs.Book.{arrowsOf, bookOf};
-ghost use Rattle.insertion.specs.Runs.{Mult};
 ghost use Rattle.models.specs.Listing.{stableModels, recordSize, recordOf};
 ghost use Rattle.table.specs.Rows.{rowSize};
 ghost use Rattle.table.specs.Table.{programOf};
 ghost use Rattle.table.specs.Tabled.{tabled};
 ghost use Rattle.accepted.specs.Accepted.{IsAccepted};
 ghost use Rattle.plan.specs.Plan.{planSize, planAtoms};
-ghost use Rattle.search.specs.Visits.{Asks};
+ghost use Rattle.search.specs.Visits.{Asks, RoomFor};
 ghost use Rattle.passes.specs.First.{FirstWritten};
 ghost use Rattle.passes.specs.SetUp.{Ready, SetUp};
-ghost use Rattle.passes.specs.Tallied.{Passed, Tallied};
+ghost use Rattle.passes.specs.Tallied.{Passed, Tallied, Bounds};
 use accepted::atom_count;
 use accepted::prepare;
 use base::MAX_BRANCHING;
@@ -89,7 +89,7 @@ pub struct Counts {
     pub weight: usize,
 }
 
-// One pass of the search: no fact is decided at first, nothing is met, and the whole part is a gap for the records.
+// One pass of the search: no fact is decided at first, and nothing is met.
 fn pass(
     book: &[u8],
     rows: &[u16],
@@ -101,17 +101,14 @@ fn pass(
 ) -> Visit
     requires { ⌜ Ready (now book) (now rows) (now plan) sizes ⌝ }
     requires { ⌜ Asks goal (now asked) ⌝ }
-    requires { ⌜ Mult (recordSize (sizes .n)) (length (now part)) ⌝ }
+    requires { ⌜ RoomFor goal (sizes .n) (length (stableModels (tabled (now book) (now rows) (sizes .n)))) (now part) ⌝ }
     ensures { λ r. ⌜ Passed (tabled (now (book .entry)) (now (rows .entry)) (sizes .n)) (planAtoms (now (plan .entry)) (sizes .branching)) (sizes .n) goal (now (asked .entry)) (now (part .entry)) r (now (part .exit)) ⌝ }
 {
-    let room = part.len();
     let mut hints: [u16; HINTS] = [0; HINTS];
     let v = Visit {
         goal,
         count: 0,
         weight: 0,
-        lo: 0,
-        hi: room,
     };
     let turn = Turn {
         left: sizes.branching,
@@ -121,15 +118,29 @@ fn pass(
     search(book, rows, plan, sizes, turn, &mut hints, asked, part, v)
 }
 
-// Counts all stable models.
-pub fn count_all(book: &[u8], rows: &[u16], plan: &[u32], sizes: Sizes) -> usize
+// No fewer than the stable models are, or more than there is room for: as many as there are settings, where there is room for that;
+// else they are counted, no further than one past the room.
+pub fn most_records(book: &[u8], rows: &[u16], plan: &[u32], sizes: Sizes, room: usize) -> usize
     requires { ⌜ Ready (now book) (now rows) (now plan) sizes ⌝ }
-    ensures { λ r. ⌜ r ≡ length (stableModels (tabled (now (book .entry)) (now (rows .entry)) (sizes .n))) ⌝ }
+    ensures { λ r. ⌜ Bounds (length (stableModels (tabled (now (book .entry)) (now (rows .entry)) (sizes .n)))) room r ⌝ }
 {
+    let settings: u32 = 1 << (sizes.branching as u32);
+    let every = settings as usize;
+    if every <= room {
+        return every;
+    }
     let nothing: [u8; 0] = [];
     let mut none: [u8; 0] = [];
-    let end = pass(book, rows, plan, sizes, Goal::All, &nothing, &mut none);
-    end.count
+    let counted = pass(
+        book,
+        rows,
+        plan,
+        sizes,
+        Goal::Count(room),
+        &nothing,
+        &mut none,
+    );
+    counted.count
 }
 
 // Counts the stable models, and what they weigh for the goal, until it is reached.
@@ -143,6 +154,7 @@ pub fn tally(
 ) -> Counts
     requires { ⌜ Ready (now book) (now rows) (now plan) sizes ⌝ }
     requires { ⌜ Asks goal (now asked) ⌝ }
+    requires { ⌜ RoomFor goal (sizes .n) (length (stableModels (tabled (now book) (now rows) (sizes .n)))) [] ⌝ }
     ensures { λ r. ⌜ Tallied (tabled (now (book .entry)) (now (rows .entry)) (sizes .n)) goal (now (asked .entry)) (r .count) (r .weight) ⌝ }
 {
     let mut none: [u8; 0] = [];
@@ -153,18 +165,19 @@ pub fn tally(
     }
 }
 
-// Writes the records of all stable models, rising, into a part that has just the room for them. Where it has none there are none, and
-// nothing is searched.
-pub fn write_all(book: &[u8], rows: &[u16], plan: &[u32], sizes: Sizes, part: &mut [u8])
+// Writes the records of all stable models, rising, into the front of a part that has the room for them, and says how many there are.
+// Where it has no room at all there are none, and nothing is searched.
+pub fn write_all(book: &[u8], rows: &[u16], plan: &[u32], sizes: Sizes, part: &mut [u8]) -> usize
     requires { ⌜ Ready (now book) (now rows) (now plan) sizes ⌝ }
-    requires { ⌜ length (now part) ≡ length (stableModels (tabled (now book) (now rows) (sizes .n))) * recordSize (sizes .n) ⌝ }
-    ensures { λ _. ⌜ now (part .exit) ≡ flat (map (recordOf (sizes .n)) (stableModels (tabled (now (book .entry)) (now (rows .entry)) (sizes .n)))) ⌝ }
+    requires { ⌜ length (stableModels (tabled (now book) (now rows) (sizes .n))) * recordSize (sizes .n) ≤ length (now part) ⌝ }
+    ensures { λ r. ⌜ (r ≡ length (stableModels (tabled (now (book .entry)) (now (rows .entry)) (sizes .n)))) × (now (part .exit) ≡ flat (map (recordOf (sizes .n)) (stableModels (tabled (now (book .entry)) (now (rows .entry)) (sizes .n)))) ++ drop (length (stableModels (tabled (now (book .entry)) (now (rows .entry)) (sizes .n))) * recordSize (sizes .n)) (now (part .entry))) ⌝ }
 {
     if part.len() == 0 {
-        return;
+        return 0;
     }
     let nothing: [u8; 0] = [];
-    pass(book, rows, plan, sizes, Goal::All, &nothing, part);
+    let end = pass(book, rows, plan, sizes, Goal::List, &nothing, part);
+    end.count
 }
 
 // Writes the record of the first stable model that the search meets into a part of a record's size, and says whether there is one.

@@ -1,4 +1,4 @@
 pub mod PackLaws
-pub mod RoomLaws
+pub mod SumLaws
 pub mod OrderLaws
 pub mod WrittenLaws

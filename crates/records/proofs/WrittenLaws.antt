@@ -1,50 +1,37 @@
 -- The listing in a lent buffer: the part that is lent for the records, and the buffer once they and the head are written. The
 -- listing call cites it. Assumes nothing.
 use mathlib.Core.Path.{_≡_, refl, sym, ap, _∙_}
-use mathlib.Core.List.{List, [], _∷_, _++_, map}
-use Prim.Native.Nat.{ℕ, zero, suc, _+_, _-_, _*_, _^_, _≤_}
+use mathlib.Core.List.{List, _∷_, _++_, map, append-assoc}
+use Prim.Native.Nat.{ℕ, _+_, _-_, _*_, _^_, _≤_}
 use native.Mathlib.Nat.{mul-le-mul}
 use native.Mathlib.Omega.{arith}
 use borrow.Rule.Slice.PartMut.{putMid}
-use lib.ListN.{length, take, drop, length-map, take-append-drop}
-use lib.Seq.{drop-drop, drop-at, length-take-le}
+use lib.ListN.{length, take, drop, length-drop, take-append-drop}
+use lib.Seq.{drop-drop, drop-at, drop-append-le, length-take-le}
 use Rattle.base.specs.Bounds.{maxAtoms, maxRecord, maxBranching}
 use Rattle.base.specs.Lists.{flat}
-use Rattle.insertion.specs.Runs.{bytesBefore, Held}
-use Rattle.insertion.specs.Sorted.{insertAll}
-use Rattle.insertion.proofs.SortedLaws.{insertAll-length, insertAll-map}
-use Rattle.insertion.proofs.RunLaws.{held-none}
-use Rattle.insertion.proofs.KeptLaws.{held-length}
 use Rattle.models.specs.StableModels.{Interpretation}
+use Rattle.models.proofs.RecordLaws.{record-length}
 use Rattle.models.specs.Listing.{recordSize, recordOf, be16, be32, listingOf}
-use Rattle.records.specs.Written.{LeastFor, before, sorted}
-
-map-take : {A B : Type 0} (f : A → B) (i : ℕ) (xs : List A) → map f (take i xs) ≡ take i (map f xs)
-map-take f zero xs = refl
-map-take f (suc i) [] = refl
-map-take f (suc i) (x ∷ xs) = ap (λ (l : List _). f x ∷ l) (map-take f i xs)
 
 -- the bytes of as many records as a search may find
 pub records-fit : (n k w : ℕ) → n ≤ maxAtoms → k ≤ 2 ^ maxBranching → w ≡ recordSize n → k * w ≤ 2 ^ maxBranching * maxRecord
 unfolding recordSize
 records-fit n k w h b e = let q : w ≤ maxRecord = omega arith in mul-le-mul b q
 
--- a part that was all gap, with room for no more records than there are states: it is the least of their records
-pub least-written : (n : ℕ) (ms : List Interpretation) (room hi₀ : ℕ) (part₀ : List ℕ) (lo hi : ℕ) (part : List ℕ) → length part₀ ≡ room * recordSize n → hi₀ ≡ length part₀
-    → room ≤ length ms → LeastFor n ms 0 hi₀ part₀ lo hi part → part ≡ flat (map (recordOf n) (take room (sorted n ms)))
-unfolding sorted
-least-written n ms room hi₀ part₀ lo hi part sized all few a =
-    sym (take-append-drop lo part) ∙ ap (λ (x : ℕ). take lo part ++ drop x part) gap-none ∙ h .bytes
-    ∙ ap (λ (x : List (List ℕ)). flat (take room x)) (sym (insertAll-map (recordOf n) bytesBefore ms [])) ∙ ap flat (sym (map-take (recordOf n) room (insertAll (before n) ms [])))
-  where
-    h : Held (recordSize n) lo hi part (take room (insertAll bytesBefore (map (recordOf n) ms) []))
-    h = a .held room [] sized (held-none (recordSize n) hi₀ part₀ (omega (arith, all)))
+-- a state's record as the code makes it
+pub state-record : (s : Interpretation) (n w : ℕ) (r : List ℕ) → length s ≡ maxAtoms → n ≤ maxAtoms → w ≡ recordSize n
+    → take (recordSize (length (take (n - 0) (drop 0 s)))) r ≡ recordOf (length (take (n - 0) (drop 0 s))) (take (n - 0) (drop 0 s))
+    → take (w - 0) (drop 0 r) ≡ recordOf n (take n s)
+state-record s n w r l h q e =
+    let z : n - 0 ≡ n = omega arith in
+    let y : w - 0 ≡ recordSize n = omega arith in
+    let k : length (take n s) ≡ n = length-take-le n s (omega arith) in
+    rw y (rw (z, k) at e)
 
-    count : length (take room (insertAll bytesBefore (map (recordOf n) ms) [])) ≡ room
-    count = length-take-le room (insertAll bytesBefore (map (recordOf n) ms) []) (omega (arith, few, insertAll-length bytesBefore (map (recordOf n) ms) [], length-map ms (recordOf n)))
-
-    gap-none : lo ≡ hi
-    gap-none = omega (arith, held-length (a .whole) h, ap (λ (x : ℕ). x * recordSize n) count, sized, a .len, a .whole .order, a .whole .fits)
+-- the record written at an offset
+pub record-put : (n : ℕ) (m : Interpretation) (r part : List ℕ) (at : ℕ) → r ≡ recordOf n m → take at part ++ (r ++ drop (at + length r) part) ≡ take at part ++ (recordOf n m ++ drop (at + recordSize n) part)
+record-put n m r part at e = rw (e, record-length n m) refl
 
 head-and-records : (n : ℕ) (ms : List Interpretation) (k size : ℕ) (rest : List ℕ) → k ≡ length ms → size ≡ 11 + length ms * recordSize n
     → 1 ∷ (be32 size ++ (be16 n ++ (be32 k ++ (flat (map (recordOf n) ms) ++ rest)))) ≡ listingOf n ms ++ rest
@@ -58,9 +45,22 @@ behind-head size old part h b =
     drop-at (take 11 old) (part ++ drop (size - 11) (drop 11 old)) 11 (length-take-le 11 old (omega arith))
     ∙ ap (λ (x : List ℕ). part ++ x) (drop-drop (size - 11) 11 old ∙ ap (λ (x : ℕ). drop x old) z)
 
--- the listing in front of what follows it, once its records and its head are written
-pub head-written : (n : ℕ) (ms : List Interpretation) (k size : ℕ) (old part buf : List ℕ) → k ≡ length ms → size ≡ 11 + length ms * recordSize n → size ≤ length old
-    → part ≡ flat (map (recordOf n) ms) → buf ≡ 1 ∷ (be32 size ++ (be16 n ++ (be32 k ++ drop 11 (putMid 11 (size - 11) old part)))) → buf ≡ listingOf n ms ++ drop size old
-head-written n ms k size old part buf e s h f q =
-    q ∙ ap (λ (x : List ℕ). 1 ∷ (be32 size ++ (be16 n ++ (be32 k ++ x)))) (behind-head size old part (omega arith) h ∙ ap (λ (x : List ℕ). x ++ drop size old) f)
+-- what the records leave of the part, and what lies behind the part, is what lies behind the records
+rest-behind : (old : List ℕ) (end k : ℕ) → 11 + k ≤ end → end ≤ length old → drop k (take (end - 11) (drop 11 old)) ++ drop end old ≡ drop (11 + k) old
+rest-behind old end k h b =
+    let l : List ℕ = drop 11 old in
+    let t : length (take (end - 11) l) ≡ end - 11 = length-take-le (end - 11) l (omega (arith, length-drop 11 old)) in
+    let z : 11 + (end - 11) ≡ end = omega arith in
+    ap (λ (x : List ℕ). drop k (take (end - 11) l) ++ x) (ap (λ (x : ℕ). drop x old) (sym z) ∙ sym (drop-drop (end - 11) 11 old))
+    ∙ sym (drop-append-le k (take (end - 11) l) (drop (end - 11) l) (omega (arith, t))) ∙ ap (drop k) (take-append-drop (end - 11) l) ∙ drop-drop k 11 old
+
+-- the listing in front of what follows it, once its records are written into the bytes from 11 to `end`, and its head in front of them
+pub head-written : (n : ℕ) (ms : List Interpretation) (k size end : ℕ) (old part buf : List ℕ) → k ≡ length ms → size ≡ 11 + length ms * recordSize n → size ≤ end → end ≤ length old
+    → part ≡ flat (map (recordOf n) ms) ++ drop (length ms * recordSize n) (take (end - 11) (drop 11 old))
+    → buf ≡ 1 ∷ (be32 size ++ (be16 n ++ (be32 k ++ drop 11 (putMid 11 (end - 11) old part)))) → buf ≡ listingOf n ms ++ drop size old
+head-written n ms k size end old part buf e s h b f q =
+    let r : part ++ drop end old ≡ flat (map (recordOf n) ms) ++ drop size old =
+    ap (λ (x : List ℕ). x ++ drop end old) f ∙ append-assoc (flat (map (recordOf n) ms)) (drop (length ms * recordSize n) (take (end - 11) (drop 11 old))) (drop end old)
+    ∙ ap (λ (x : List ℕ). flat (map (recordOf n) ms) ++ x) (rest-behind old end (length ms * recordSize n) (omega (arith, s)) b ∙ ap (λ (x : ℕ). drop x old) (sym s)) in
+    q ∙ ap (λ (x : List ℕ). 1 ∷ (be32 size ++ (be16 n ++ (be32 k ++ x)))) (behind-head end old part (omega (arith, s)) b ∙ r)
     ∙ head-and-records n ms k size (drop size old) e s

@@ -1,18 +1,20 @@
-// States as records, and the listing's bytes: the records go into a lent part in rising order, the head in front of them.
+// States as bytes in a lent part: a record, the listing's head, and sums by fact.
 ghost use mathlib.Core.Path.{_≡_};
-ghost use mathlib.Core.List.{[], _∷_, _++_};
-ghost use Prim.Native.Nat.{_≤_};
+ghost use mathlib.Core.List.{_∷_, _++_};
+ghost use Prim.Native.Nat.{_+_, _*_, _≤_};
 ghost use lib.ListN.{length, take, drop};
 ghost use Rattle.base.specs.Bounds.{maxAtoms, maxRecord};
 ghost use Rattle.models.specs.StableModels.{atomHolds};
 ghost use Rattle.models.specs.Listing.{bitValue, bitsValue, recordSize, recordOf, be16, be32};
-ghost use Rattle.insertion.specs.Runs.{Whole};
-ghost use Rattle.records.specs.Written.{LeastFor};
+ghost use Rattle.records.specs.Written.{addedTo};
 use base::MAX_ATOMS;
 use base::MAX_RECORD;
-use insertion::Gap;
-use insertion::insert_least;
+use base::wide;
+use format::be32;
 use insertion::put_record;
+
+// The bytes of a listing before its records.
+pub const HEAD_SIZE: usize = 11;
 
 // The bytes of a record of n facts.
 pub fn record_size(n: usize) -> usize
@@ -63,18 +65,41 @@ pub fn record_of(m: &[bool]) -> [u8; MAX_RECORD]
     r
 }
 
-// Puts the record of the first n facts in its place among those in the part, which keeps the least that it has room for. Where it
-// has room for none, as in a pass that only counts, no record is made.
-pub fn insert_state(state: [bool; MAX_ATOMS], n: usize, part: &mut [u8], gap: Gap) -> Gap
-    requires { ⌜ (n ≤ maxAtoms) × Whole (recordSize n) (gap .lo) (gap .hi) (now part) ⌝ }
-    ensures { λ r. ⌜ LeastFor n (take n state ∷ []) (gap .lo) (gap .hi) (now (part .entry)) (r .lo) (r .hi) (now (part .exit)) ⌝ }
+// Writes the record of the first n facts at an offset.
+pub fn put_state(state: [bool; MAX_ATOMS], n: usize, part: &mut [u8], at: usize)
+    requires { ⌜ (n ≤ maxAtoms) × (at + recordSize n ≤ length (now part)) ⌝ }
+    ensures { λ _. ⌜ now (part .exit) ≡ take at (now (part .entry)) ++ (recordOf n (take n state) ++ drop (at + recordSize n) (now (part .entry))) ⌝ }
 {
-    if part.len() == 0 {
-        return gap;
-    }
     let r = record_of(&state[0..n]);
     let w = record_size(n);
-    insert_least(part, gap, &r[0..w])
+    put_record(part, at, &r[0..w]);
+}
+
+// Writes a number's last four bytes at an offset, the highest first.
+pub fn put_be32(part: &mut [u8], at: usize, v: usize)
+    requires { ⌜ at + 4 ≤ length (now part) ⌝ }
+    ensures { λ _. ⌜ now (part .exit) ≡ take at (now (part .entry)) ++ (be32 v ++ drop (at + 4) (now (part .entry))) ⌝ }
+{
+    let bytes = [
+        (v / 16777216 % 256) as u8,
+        (v / 65536 % 256) as u8,
+        (v / 256 % 256) as u8,
+        (v % 256) as u8,
+    ];
+    put_record(part, at, &bytes[0..4]);
+}
+
+// Adds a state to the sums by fact: to each fact's four bytes 1 where it stands.
+pub fn add_state(m: &[bool], sums: &mut [u8])
+    requires { ⌜ (length (now m) ≤ maxAtoms) × (4 * length (now m) ≤ length (now sums)) ⌝ }
+    ensures { λ _. ⌜ now (sums .exit) ≡ addedTo (length (now (m .entry))) (now (sums .entry)) (now (m .entry)) ⌝ }
+{
+    let mut f = 0;
+    while f < m.len() {
+        let sum = be32(sums, 4 * f) + wide(atom_bit(m, f));
+        put_be32(sums, 4 * f, sum);
+        f += 1;
+    }
 }
 
 // Writes the listing's head: version, length of the whole listing, n and k.
@@ -95,5 +120,5 @@ pub fn put_head(buf: &mut [u8], size: usize, n: usize, k: usize)
         (k / 256 % 256) as u8,
         (k % 256) as u8,
     ];
-    put_record(buf, 0, &head[0..11]);
+    put_record(buf, 0, &head[0..HEAD_SIZE]);
 }

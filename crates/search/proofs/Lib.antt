@@ -1,3 +1,4 @@
+pub mod KeptLaws
 pub mod VisitLaws
 pub mod StepLaws
 pub mod QuickLaws

@@ -2,17 +2,17 @@
 use mathlib.Core.Path.{_≡_, refl, sym, ap, ap₂, subst, _∙_}
 use mathlib.Core.Bool.{Bool, true, false}
 use mathlib.Core.List.{List, [], _∷_, _++_}
-use Prim.Native.Nat.{ℕ, suc, _+_, _-_, _/_, _^_, _<_, _≤_}
+use Prim.Native.Nat.{ℕ, zero, suc, _+_, _-_, _/_, _^_, _<_, _≤_}
 use native.Mathlib.Nat.{pow-suc}
 use native.Mathlib.Omega.{arith}
 use lib.Pow.{pow-pos}
-use lib.ListN.{length, getD, take, drop, set, length-append}
+use lib.ListN.{length, getD, take, drop, set}
 use lib.Seq.{take-all, set-set}
 use Rattle.base.specs.Lists.{consIf}
 use Rattle.models.specs.StableModels.{Interpretation}
 use Rattle.search.specs.declared.Visit.{Visit}
 use Rattle.leaf.specs.Found.{atSetting, foundBy}
-use Rattle.search.specs.Visits.{Kept, Met, Searched}
+use Rattle.search.specs.Visits.{stopped, keptBy, Kept, visited, Searched}
 use Rattle.table.specs.Rows.{rowCount}
 use Rattle.table.specs.Tabled.{tabled}
 use Rattle.tester.specs.Masks.{RejectedMasks}
@@ -20,8 +20,8 @@ use Rattle.setting.specs.Setting.{settingOf}
 use Rattle.rejecting.specs.Rejecting.{Rejecting, RejectsAt}
 use Rattle.rejecting.proofs.RejectedLaws.{rejected-at}
 use Rattle.leaf.specs.Searchable.{Searchable}
-use Rattle.leaf.proofs.FoundLaws.{setting-one, found-le}
-use Rattle.search.proofs.VisitLaws.{searched-none, searched-one, searched-append, visits-kept, visits-count}
+use Rattle.leaf.proofs.FoundLaws.{setting-one}
+use Rattle.search.proofs.VisitLaws.{searched-none, searched-one}
 
 -- no more than so many models, so that the count fits
 abbrev pub limit : ℕ
@@ -51,8 +51,13 @@ setting-rejects {book} {rows} {rejects = rejects} {n = n} w standing o e d r =
 
 -- a setting whose model is known, or that has none
 module _ (asked : List ℕ) (n : ℕ) (ms : List Interpretation) (ok : Bool) (m : Interpretation) (is : ms ≡ consIf ok m []) where
-  pub setting-met : ok ≡ true → (v : Visit) (p : List ℕ) (v′ : Visit) (p′ : List ℕ) → Met asked n m v p v′ p′ → Searched asked n ms v p v′ p′
-  setting-met y v p v′ p′ a = subst (λ (l : List Interpretation). Searched asked n l v p v′ p′) (sym (is ∙ kept-yes ok m y)) (searched-one asked n m v p v′ p′ a)
+  pub setting-met : ok ≡ true → (v : Visit) (p : List ℕ) (v′ : Visit) (p′ : List ℕ) → stopped v ≡ false
+      → (v′ ≡ visited asked (m ∷ []) v) × (p′ ≡ keptBy (v .goal) n (v .count) (m ∷ []) p) → Searched asked n ms v p v′ p′
+  setting-met y v p v′ p′ e a = subst (λ (l : List Interpretation). Searched asked n l v p v′ p′) (sym (is ∙ kept-yes ok m y)) (searched-one asked n m v p v′ p′ e a)
+
+  -- there is room for it
+  pub setting-kept : ok ≡ true → (v : Visit) (p : List ℕ) → Kept asked n (length ms) v p → Kept asked n 1 v p
+  setting-kept y v p k = subst (λ (x : ℕ). Kept asked n x v p) (ap length (is ∙ kept-yes ok m y)) k
 
   pub setting-empty : ok ≡ false → (v : Visit) (p : List ℕ) → Searched asked n ms v p v p
   setting-empty y v p = subst (λ (l : List Interpretation). Searched asked n l v p v p) (sym (is ∙ kept-no ok m y)) (searched-none asked n v p)
@@ -61,10 +66,10 @@ module _ (asked : List ℕ) (n : ℕ) (ms : List Interpretation) (ok : Bool) (m 
 pub none-searched : (asked : List ℕ) (n : ℕ) (ms : List Interpretation) → ms ≡ [] → (v : Visit) (p : List ℕ) → Searched asked n ms v p v p
 none-searched asked n ms e v p = subst (λ (l : List Interpretation). Searched asked n l v p v p) (sym e) (searched-none asked n v p)
 
-module _ (asked : List ℕ) (n : ℕ) (leaf : Interpretation → List Interpretation) (undecided : List ℕ) (o : Interpretation) where
+module _ (leaf : Interpretation → List Interpretation) (undecided : List ℕ) (o : Interpretation) where
   -- no fact is left: the setting itself
-  pub leaf-searched : length undecided ≡ 0 → (v : Visit) (p : List ℕ) (v′ : Visit) (p′ : List ℕ) → Searched asked n (leaf o) v p v′ p′ → Searched asked n (foundBy leaf undecided o) v p v′ p′
-  leaf-searched empty v p v′ p′ s = subst (λ (l : List Interpretation). Searched asked n l v p v′ p′) (sym (at-leaf leaf undecided o empty)) s
+  pub found-at-leaf : length undecided ≡ 0 → foundBy leaf undecided o ≡ leaf o
+  found-at-leaf empty = at-leaf leaf undecided o empty
 
   module _ (some : length undecided ≡ 0 → ⊥) where
     -- the undecided facts after the first, as the code cuts them
@@ -90,32 +95,9 @@ module _ (asked : List ℕ) (n : ℕ) (leaf : Interpretation → List Interpreta
             rw (t, q, set-set o g false true) refl
 
     -- the two halves, with the first undecided fact decided each way
-    module _ (o₁ : Interpretation) (e₁ : set o (getD undecided 0 0) false ≡ o₁) where
-      pub both-halves : (o₂ : Interpretation) → set (set o (getD undecided 0 0) false) (getD undecided 0 0) true ≡ o₂
-          → (v : Visit) (p : List ℕ) (v₁ : Visit) (p₁ : List ℕ) (v₂ : Visit) (p₂ : List ℕ)
-          → Searched asked n (foundBy leaf later o₁) v p v₁ p₁ → Searched asked n (foundBy leaf later o₂) v₁ p₁ v₂ p₂ → Searched asked n (foundBy leaf undecided o) v p v₂ p₂
-      both-halves o₂ e₂ v p v₁ p₁ v₂ p₂ a b =
-          subst (λ (ms : List Interpretation). Searched asked n ms v p v₂ p₂)
-          (sym (halves (getD undecided 0 0) refl ∙ ap₂ (λ (x y : Interpretation). foundBy leaf later x ++ foundBy leaf later y) e₁ e₂))
-          (searched-append asked n (foundBy leaf later o₁) (foundBy leaf later o₂) v p v₁ p₁ v₂ p₂ a b)
-
-    pub first-fits : (c : ℕ) → c + 2 ^ length undecided ≤ limit → c + 2 ^ length later ≤ limit
-    first-fits c h = omega (arith, ap (λ (k : ℕ). 2 ^ k) later-length, pow-suc 2 (length later))
-
-    module _ (one : (x : Interpretation) → length (leaf x) ≤ 1) (o₁ : Interpretation) (v : Visit) (p : List ℕ) (v₁ : Visit) (p₁ : List ℕ) (a : Searched asked n (foundBy leaf later o₁) v p v₁ p₁) where
-      pub second-kept : Kept asked n v p → Kept asked n v₁ p₁
-      second-kept k = visits-kept asked n (a .seen) v p v₁ p₁ (a .visits) k
-
-      pub second-fits : v .count + 2 ^ length undecided ≤ limit → v₁ .count + 2 ^ length later ≤ limit
-      second-fits h =
-          omega (
-            arith,
-            ap (λ (k : ℕ). 2 ^ k) later-length,
-            pow-suc 2 (length later),
-            visits-count asked n (a .seen) v p v₁ p₁ (a .visits),
-            ap length (a .split) ∙ length-append (a .seen) (a .rest),
-            found-le leaf one later o₁,
-          )
+    pub both-halves : (o₁ : Interpretation) → set o (getD undecided 0 0) false ≡ o₁ → (o₂ : Interpretation) → set (set o (getD undecided 0 0) false) (getD undecided 0 0) true ≡ o₂
+        → foundBy leaf undecided o ≡ foundBy leaf later o₁ ++ foundBy leaf later o₂
+    both-halves o₁ e₁ o₂ e₂ = halves (getD undecided 0 0) refl ∙ ap₂ (λ (x y : Interpretation). foundBy leaf later x ++ foundBy leaf later y) e₁ e₂
 
 -- at most one model for each setting, in the code's words
 pub leaf-one : (book rows atoms : List ℕ) (n : ℕ) → Searchable book rows atoms n → (o : Interpretation) → length (leafOf book rows n atoms o) ≤ 1
@@ -124,3 +106,8 @@ leaf-one book rows atoms n w o =
 
 pub count-fits : (c k : ℕ) → c + 2 ^ k ≤ limit → c < limit
 count-fits c k h = omega (arith, pow-pos k)
+
+-- a half has half of the settings
+pub half-fits : (c d k : ℕ) → (k ≡ 0 → ⊥) → d ≤ c + 2 ^ (k - 1) → c + 2 ^ k ≤ limit → d + 2 ^ (k - 1) ≤ limit
+half-fits c d zero some h b = absurd (some refl)
+half-fits c d (suc k) some h b = let z : suc k - 1 ≡ k = omega arith in omega (arith, ap (λ (x : ℕ). 2 ^ x) z, pow-suc 2 k)

@@ -2,11 +2,11 @@
 use mathlib.Core.Path.{_≡_, refl, sym, ap, subst, _∙_}
 use mathlib.Core.Logic.{_⊎_, inl, inr}
 use mathlib.Core.Bool.{Bool, true, false}
-use mathlib.Core.List.{List, []}
+use mathlib.Core.List.{List, [], _++_}
 use Prim.Native.Nat.{ℕ, _+_, _-_, _/_, _^_, _<_, _≤_}
 use native.Mathlib.Omega.{arith}
 use lib.Bits.{bitOr}
-use lib.ListN.{length, getD, set, take, drop, length-drop}
+use lib.ListN.{length, getD, set, take, drop, length-drop, length-append}
 use Rattle.base.specs.Bounds.{maxAtoms}
 use Rattle.models.specs.StableModels.{Interpretation}
 use Rattle.table.specs.Tabled.{tabled}
@@ -19,10 +19,13 @@ use Rattle.plan.specs.declared.Sizes.{Sizes}
 use Rattle.plan.proofs.PartLaws.{part-length}
 use Rattle.leaf.specs.Found.{atSetting, foundBy}
 use Rattle.leaf.specs.Searchable.{Searchable}
+use Rattle.leaf.proofs.FoundLaws.{found-le}
 use Rattle.search.specs.declared.Visit.{Visit}
 use Rattle.search.specs.Decided.{Decided, undecided, Turned}
-use Rattle.search.specs.Visits.{Kept, Searched}
+use Rattle.search.specs.Visits.{RoomFor, Kept, Searched, Joins}
 use Rattle.search.proofs.QuickLaws as quick
+use Rattle.search.proofs.KeptLaws.{room-less, room-same}
+use Rattle.search.proofs.VisitLaws.{searched-count, seen-few, kept-after, searched-joined}
 use Rattle.search.proofs.StepLaws as steps
 
 pub undecided-length : (atoms : List ℕ) (left : ℕ) → left ≤ length atoms → length (undecided atoms left) ≡ left
@@ -74,7 +77,7 @@ module _ {book rows atoms : List ℕ} {n : ℕ} (w : Searchable book rows atoms 
     later = take (length U - 1) (drop 1 U)
 
     later-size : length later ≡ left - 1
-    later-size = omega (arith, steps.later-length [] n leaf U (settingOf atoms standing) not-none, size)
+    later-size = omega (arith, steps.later-length leaf U (settingOf atoms standing) not-none, size)
 
     shift : length atoms - length U ≡ i
     shift = ap (λ (k : ℕ). length atoms - k) size ∙ sym ei
@@ -97,41 +100,87 @@ module _ {book rows atoms : List ℕ} {n : ℕ} (w : Searchable book rows atoms 
     pub turned-second : Turned atoms (left - 1) (bitOr standing (single i)) denied
     turned-second = turn-with (bitOr standing (single i)) denied second-decided
 
-    second-half : foundBy leaf later (settingOf atoms standing) ≡ foundBy leaf (undecided atoms (left - 1)) (settingOf atoms standing)
-    second-half = ap (λ (l : List ℕ). foundBy leaf l (settingOf atoms standing)) (later-is (settingOf atoms standing) standing (bitOr denied (single i)) first-decided)
+    later-same : later ≡ undecided atoms (left - 1)
+    later-same = later-is (settingOf atoms standing) standing (bitOr denied (single i)) first-decided
 
-    other-half : foundBy leaf later (settingOf atoms (bitOr standing (single i))) ≡ foundBy leaf (undecided atoms (left - 1)) (settingOf atoms (bitOr standing (single i)))
-    other-half = ap (λ (l : List ℕ). foundBy leaf l (settingOf atoms (bitOr standing (single i)))) (later-is (settingOf atoms standing) standing (bitOr denied (single i)) first-decided)
+    -- the models of the two halves
+    abbrev pub firstHalf : List Interpretation
+    firstHalf = foundBy leaf (undecided atoms (left - 1)) (settingOf atoms standing)
+
+    abbrev pub secondHalf : List Interpretation
+    secondHalf = foundBy leaf (undecided atoms (left - 1)) (settingOf atoms (bitOr standing (single i)))
+
+    -- the two halves are the whole
+    pub halves-are : foundBy leaf U (settingOf atoms standing) ≡ firstHalf ++ secondHalf
+    halves-are =
+        steps.both-halves leaf U (settingOf atoms standing) not-none (settingOf atoms standing) (quick.first-half atoms (quick.listed-once w) (w .atoms-few) U standing denied (t .decided) not-none low)
+        (settingOf atoms (bitOr standing (single i))) (subst (λ (k : ℕ). set (set (settingOf atoms standing) (getD U 0 0) false) (getD U 0 0) true ≡ settingOf atoms (bitOr standing (single k))) shift (quick.second-half atoms (quick.listed-once w) (w .atoms-few) U standing denied (t .decided) not-none low))
+        ∙ ap (λ (l : List ℕ). foundBy leaf l (settingOf atoms standing) ++ foundBy leaf l (settingOf atoms (bitOr standing (single i)))) later-same
+
+    halves-count : length (foundBy leaf U (settingOf atoms standing)) ≡ length firstHalf + length secondHalf
+    halves-count = ap length halves-are ∙ length-append firstHalf secondHalf
+
+    half-few : (o : Interpretation) → length (foundBy leaf (undecided atoms (left - 1)) o) ≤ 2 ^ (left - 1)
+    half-few o =
+        let f : length (foundBy leaf (undecided atoms (left - 1)) o) ≤ 2 ^ length (undecided atoms (left - 1)) = found-le leaf (steps.leaf-one book rows atoms n w) (undecided atoms (left - 1)) o in
+        subst (λ (k : ℕ). length (foundBy leaf (undecided atoms (left - 1)) o) ≤ 2 ^ k) (undecided-length atoms (left - 1) (omega (arith, t .few))) f
 
     pub first-fits : (c : ℕ) → c + 2 ^ left ≤ steps.limit → c + 2 ^ (left - 1) ≤ steps.limit
-    first-fits c h =
-        subst (λ (k : ℕ). c + 2 ^ k ≤ steps.limit) later-size
-        (steps.first-fits [] n leaf U (settingOf atoms standing) not-none c (subst (λ (k : ℕ). c + 2 ^ k ≤ steps.limit) (sym size) h))
+    first-fits c h = steps.half-fits c c left some (omega arith) h
 
-    module _ (asked : List ℕ) (v : Visit) (p : List ℕ) (v₁ : Visit) (p₁ : List ℕ) (a : Searched asked n (foundBy leaf (undecided atoms (left - 1)) (settingOf atoms standing)) v p v₁ p₁) where
-      as-later : Searched asked n (foundBy leaf later (settingOf atoms standing)) v p v₁ p₁
-      as-later = subst (λ (ms : List Interpretation). Searched asked n ms v p v₁ p₁) (sym second-half) a
+    module _ (asked : List ℕ) (v : Visit) (p : List ℕ) (k : Kept asked n (length (foundBy leaf U (settingOf atoms standing))) v p) where
+      halves-kept : Kept asked n (length firstHalf + length secondHalf) v p
+      halves-kept = subst (λ (x : ℕ). Kept asked n x v p) halves-count k
 
-      one : (x : Interpretation) → length (leaf x) ≤ 1
-      one = steps.leaf-one book rows atoms n w
+      pub first-kept : Kept asked n (length firstHalf) v p
+      first-kept = record {
+        asks = k .asks;
+        room = room-less (v .goal) n (v .count + length firstHalf) (v .count + (length firstHalf + length secondHalf)) p (omega arith) (halves-kept .room);
+        light = k .light;
+      }
 
-      pub second-kept : Kept asked n v p → Kept asked n v₁ p₁
-      second-kept k = steps.second-kept asked n leaf U (settingOf atoms standing) not-none one (settingOf atoms standing) v p v₁ p₁ as-later k
+      module _ (v₁ : Visit) (p₁ : List ℕ) (a : Searched asked n firstHalf v p v₁ p₁) where
+        pub second-kept : length p₁ ≡ length p → Kept asked n (length secondHalf) v₁ p₁
+        second-kept l = kept-after asked n firstHalf v p v₁ p₁ a (length secondHalf) l halves-kept
 
-      pub second-fits : v .count + 2 ^ left ≤ steps.limit → v₁ .count + 2 ^ (left - 1) ≤ steps.limit
-      second-fits h =
-          subst (λ (k : ℕ). v₁ .count + 2 ^ k ≤ steps.limit) later-size
-          (steps.second-fits asked n leaf U (settingOf atoms standing) not-none one (settingOf atoms standing) v p v₁ p₁ as-later (subst (λ (k : ℕ). v .count + 2 ^ k ≤ steps.limit) (sym size) h))
+        pub second-fits : v .count + 2 ^ left ≤ steps.limit → v₁ .count + 2 ^ (left - 1) ≤ steps.limit
+        second-fits h = steps.half-fits (v .count) (v₁ .count) left some (omega (arith, searched-count asked n firstHalf v p v₁ p₁ a, seen-few asked n firstHalf v p v₁ p₁ a, half-few (settingOf atoms standing))) h
 
-      -- the two halves are the whole
-      pub both-halves : (v₂ : Visit) (p₂ : List ℕ) → Searched asked n (foundBy leaf (undecided atoms (left - 1)) (settingOf atoms (bitOr standing (single i)))) v₁ p₁ v₂ p₂
-          → Searched asked n (foundBy leaf U (settingOf atoms standing)) v p v₂ p₂
-      both-halves v₂ p₂ b =
-          steps.both-halves asked n leaf U (settingOf atoms standing) not-none (settingOf atoms standing) (quick.first-half atoms (quick.listed-once w) (w .atoms-few) U standing denied (t .decided) not-none low)
-          (settingOf atoms (bitOr standing (single i))) (subst (λ (k : ℕ). set (set (settingOf atoms standing) (getD U 0 0) false) (getD U 0 0) true ≡ settingOf atoms (bitOr standing (single k))) shift (quick.second-half atoms (quick.listed-once w) (w .atoms-few) U standing denied (t .decided) not-none low))
-          v p v₁ p₁ v₂ p₂ as-later (subst (λ (ms : List Interpretation). Searched asked n ms v₁ p₁ v₂ p₂) (sym other-half) b)
+        module _ (v₂ : Visit) (p₂ : List ℕ) (b : Searched asked n secondHalf v₁ p₁ v₂ p₂) where
+          end-low : v₂ .count ≤ v .count + (length firstHalf + length secondHalf)
+          end-low = omega (
+            arith,
+            searched-count asked n firstHalf v p v₁ p₁ a,
+            seen-few asked n firstHalf v p v₁ p₁ a,
+            searched-count asked n secondHalf v₁ p₁ v₂ p₂ b,
+            seen-few asked n secondHalf v₁ p₁ v₂ p₂ b,
+          )
+
+          both-room : RoomFor (v .goal) n (v₂ .count) p
+          both-room = room-less (v .goal) n (v₂ .count) (v .count + (length firstHalf + length secondHalf)) p end-low (halves-kept .room)
+
+          -- what `join` asks
+          pub join-counts : v .count + 2 ^ left ≤ steps.limit → (v .count ≤ v₁ .count) × (v₁ .count ≤ v₂ .count) × (v₂ .count ≤ steps.limit)
+          join-counts h = (
+            omega (arith, searched-count asked n firstHalf v p v₁ p₁ a),
+            omega (arith, searched-count asked n secondHalf v₁ p₁ v₂ p₂ b),
+            omega (arith, second-fits h, searched-count asked n secondHalf v₁ p₁ v₂ p₂ b, seen-few asked n secondHalf v₁ p₁ v₂ p₂ b, half-few (settingOf atoms (bitOr standing (single i)))),
+          )
+
+          pub join-room : length p₂ ≡ length p → RoomFor (v .goal) n (v₂ .count) p₂
+          join-room l = room-same (v .goal) n (v₂ .count) p p₂ l both-room
+
+          pub both-searched : (p₃ : List ℕ) → Joins (v .goal) n (v .count) (v₁ .count) (v₂ .count) p₂ p₃ → Searched asked n (foundBy leaf U (settingOf atoms standing)) v p v₂ p₃
+          both-searched p₃ j =
+              subst (λ (ms : List Interpretation). Searched asked n ms v p v₂ p₃) (sym halves-are) (searched-joined asked n firstHalf secondHalf v p v₁ p₁ v₂ p₂ p₃ a b both-room j)
 
   -- no atom is left: the setting itself
-  pub leaf-searched : left ≡ 0 → (asked : List ℕ) (v : Visit) (p : List ℕ) (v′ : Visit) (p′ : List ℕ) → Searched asked n (leaf (settingOf atoms standing)) v p v′ p′
-      → Searched asked n (foundBy leaf U (settingOf atoms standing)) v p v′ p′
-  leaf-searched e asked v p v′ p′ s = steps.leaf-searched asked n leaf U (settingOf atoms standing) (undecided-length atoms left (t .few) ∙ e) v p v′ p′ s
+  module _ (e : left ≡ 0) (asked : List ℕ) (v : Visit) (p : List ℕ) where
+    leaf-is : foundBy leaf U (settingOf atoms standing) ≡ leaf (settingOf atoms standing)
+    leaf-is = steps.found-at-leaf leaf U (settingOf atoms standing) (undecided-length atoms left (t .few) ∙ e)
+
+    pub leaf-kept : Kept asked n (length (foundBy leaf U (settingOf atoms standing))) v p → Kept asked n (length (leaf (settingOf atoms standing))) v p
+    leaf-kept k = subst (λ (ms : List Interpretation). Kept asked n (length ms) v p) leaf-is k
+
+    pub leaf-searched : (v′ : Visit) (p′ : List ℕ) → Searched asked n (leaf (settingOf atoms standing)) v p v′ p′ → Searched asked n (foundBy leaf U (settingOf atoms standing)) v p v′ p′
+    leaf-searched v′ p′ s = subst (λ (ms : List Interpretation). Searched asked n ms v p v′ p′) (sym leaf-is) s

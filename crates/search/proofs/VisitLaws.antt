@@ -1,173 +1,214 @@
--- Searches one after the other are one search, and what a search leaves behind. Assumes nothing.
-use mathlib.Core.Path.{_≡_, refl, sym, ap, subst, _∙_}
+-- Searches one after the other are one search, what a search leaves behind, and the counters in the code's cases. Assumes nothing.
+use mathlib.Core.Path.{_≡_, refl, sym, ap, ap₂, subst, _∙_}
 use mathlib.Core.Bool.{Bool, true, false, false≢true}
-use mathlib.Core.List.{List, [], _∷_, _++_, map, append-assoc, append-nil}
+use mathlib.Core.List.{List, [], _∷_, _++_, append-assoc, append-nil}
 use Prim.Native.Nat.{ℕ, _+_, _-_, _≤_, _<_}
 use native.Mathlib.Omega.{arith}
 use borrow.Author.Tests.{lt-ltb, le-ltb}
 use lib.Dec.{ltb}
-use lib.ListN.{length, take, drop}
+use lib.ListN.{length, take, drop, length-append}
 use Rattle.format.specs.Book.{u16At}
-use Rattle.insertion.specs.Runs.{Whole, Least}
-use Rattle.insertion.proofs.KeptLaws.{least-none, least-append}
-use Rattle.records.specs.Written.{LeastFor}
 use Rattle.models.specs.StableModels.{Interpretation, atomHolds}
-use Rattle.models.specs.Listing.{bitValue, recordSize, recordOf}
+use Rattle.models.specs.Listing.{bitValue}
+use Rattle.records.proofs.PackLaws.{bit-le}
 use Rattle.search.specs.declared.Goal.{Goal}
-use Rattle.search.specs.declared.Goal.the-variants.{All, First, Settle}
+use Rattle.search.specs.declared.Goal.the-variants as goals
 use Rattle.search.specs.declared.Visit.{Visit}
-use Rattle.search.specs.Visits.{Asks, weightOf, totalOf, keyOf, keySize, reaches, stopped, Kept, Met, Visits, done, next, Searched}
+use Rattle.search.specs.Visits.{Asks, weightOf, totalOf, keptBy, RoomFor, reaches, stopped, Kept, visited, Searched, Joins}
+use Rattle.search.proofs.KeptLaws.{room-less, room-same, kept-none}
 
-module _ (asked : List ℕ) (n : ℕ) where
-  visits-append : (ms ns : List Interpretation) (v : Visit) (p : List ℕ) (v₁ : Visit) (p₁ : List ℕ) (v₂ : Visit) (p₂ : List ℕ)
-      → Visits asked n ms v p v₁ p₁ → Visits asked n ns v₁ p₁ v₂ p₂ → Visits asked n (ms ++ ns) v p v₂ p₂
-  visits-append l ns v₀ p₀ v₁ p₁ v₂ p₂ (done v p) y = y
-  visits-append l ns v₀ p₀ v₃ p₃ v₂ p₂ (next m xs v p u q v₁ p₁ a x) y = next m (xs ++ ns) v p u q v₂ p₂ a (visits-append xs ns u q v₁ p₁ v₂ p₂ x y)
-
-  -- where the goal was reached, nothing more is met
-  record Still (ms : List Interpretation) (v : Visit) (p : List ℕ) (v′ : Visit) (p′ : List ℕ) : Type 0 where
-    none : ms ≡ []
-    visit : v′ ≡ v
-    part : p′ ≡ p
-
-  visits-still : (ms : List Interpretation) (v : Visit) (p : List ℕ) (v′ : Visit) (p′ : List ℕ) → stopped v ≡ true → Visits asked n ms v p v′ p′ → Still ms v p v′ p′
-  visits-still l v₀ p₀ v₃ p₃ e (done v p) = record { none = refl; visit = refl; part = refl }
-  visits-still l v₀ p₀ v₃ p₃ e (next m xs v p u q v′ p′ a x) = absurd (false≢true (sym (a .going) ∙ e))
-
-  pub searched-none : (v : Visit) (p : List ℕ) → Searched asked n [] v p v p
-  searched-none v p = record { seen = []; rest = []; split = refl; visits = done v p; whole = λ _. refl }
-
-  pub searched-stopped : (ms : List Interpretation) (v : Visit) (p : List ℕ) → stopped v ≡ true → Searched asked n ms v p v p
-  searched-stopped ms v p e = record { seen = []; rest = ms; split = refl; visits = done v p; whole = λ f. absurd (false≢true (sym f ∙ e)) }
-
-  pub searched-one : (m : Interpretation) (v : Visit) (p : List ℕ) (v′ : Visit) (p′ : List ℕ) → Met asked n m v p v′ p′ → Searched asked n (m ∷ []) v p v′ p′
-  searched-one m v p v′ p′ a = record { seen = m ∷ []; rest = []; split = refl; visits = next m [] v p v′ p′ v′ p′ a (done v′ p′); whole = λ _. refl }
-
-  pub searched-append : (ms ns : List Interpretation) (v : Visit) (p : List ℕ) (v₁ : Visit) (p₁ : List ℕ) (v₂ : Visit) (p₂ : List ℕ)
-      → Searched asked n ms v p v₁ p₁ → Searched asked n ns v₁ p₁ v₂ p₂ → Searched asked n (ms ++ ns) v p v₂ p₂
-  searched-append ms ns v p v₁ p₁ v₂ p₂ a b = go (stopped v₁) refl
-    where
-      go : (c : Bool) → stopped v₁ ≡ c → Searched asked n (ms ++ ns) v p v₂ p₂
-      go false e = record {
-        seen = a .seen ++ b .seen;
-        rest = b .rest;
-        split = ap (λ (x : List Interpretation). x ++ ns) (a .split ∙ ap (λ (x : List Interpretation). a .seen ++ x) (a .whole e) ∙ append-nil (a .seen))
-            ∙ ap (λ (x : List Interpretation). a .seen ++ x) (b .split) ∙ sym (append-assoc (a .seen) (b .seen) (b .rest));
-        visits = visits-append (a .seen) (b .seen) v p v₁ p₁ v₂ p₂ (a .visits) (b .visits);
-        whole = b .whole;
-      }
-      go true e =
-          let s : Still (b .seen) v₁ p₁ v₂ p₂ = visits-still (b .seen) v₁ p₁ v₂ p₂ e (b .visits) in
-          record {
-            seen = a .seen;
-            rest = a .rest ++ ns;
-            split = ap (λ (x : List Interpretation). x ++ ns) (a .split) ∙ append-assoc (a .seen) (a .rest) ns;
-            visits = subst (λ (u : Visit). Visits asked n (a .seen) v p u p₂) (sym (s .visit)) (subst (λ (q : List ℕ). Visits asked n (a .seen) v p v₁ q) (sym (s .part)) (a .visits));
-            whole = λ f. absurd (false≢true (sym f ∙ ap stopped (s .visit) ∙ e));
-          }
-
-bit-le : (c : Bool) → bitValue c 1 ≤ 1
-unfolding bitValue
-bit-le true = omega arith
-bit-le false = omega arith
+-- ---- the counters
+total-append : (w : Interpretation → ℕ) (xs ys : List Interpretation) → totalOf w (xs ++ ys) ≡ totalOf w xs + totalOf w ys
+unfolding totalOf
+total-append w [] ys = omega arith
+total-append w (x ∷ xs) ys = omega (arith, total-append w xs ys)
 
 pub weight-le : (goal : Goal) (asked : List ℕ) (m : Interpretation) → weightOf goal asked m ≤ 1
 unfolding weightOf
-weight-le All asked m = omega arith
-weight-le First asked m = omega arith
-weight-le Settle asked m = bit-le (atomHolds m (u16At asked 0))
+weight-le goals.List asked m = omega arith
+weight-le (goals.Count most) asked m = omega arith
+weight-le goals.First asked m = omega arith
+weight-le goals.Settle asked m = bit-le (atomHolds m (u16At asked 0))
+weight-le goals.Sums asked m = omega arith
 
--- every goal keeps records
-pub key-record : (goal : Goal) (asked : List ℕ) (n : ℕ) (m : Interpretation) → keyOf goal asked n m ≡ recordOf n m
-unfolding keyOf
-key-record All asked n m = refl
-key-record First asked n m = refl
-key-record Settle asked n m = refl
+total-le : (goal : Goal) (asked : List ℕ) (ms : List Interpretation) → totalOf (weightOf goal asked) ms ≤ length ms
+unfolding totalOf
+total-le goal asked [] = omega arith
+total-le goal asked (m ∷ ms) = omega (arith, weight-le goal asked m, total-le goal asked ms)
 
-pub size-record : (goal : Goal) (n : ℕ) → keySize goal n ≡ recordSize n
-unfolding keySize
-size-record All n = refl
-size-record First n = refl
-size-record Settle n = refl
+module _ (asked : List ℕ) where
+  pub visited-none : (v : Visit) → visited asked [] v ≡ v
+  unfolding totalOf
+  visited-none v =
+      let c : v .count + 0 ≡ v .count = omega arith in
+      let w : v .weight + 0 ≡ v .weight = omega arith in
+      ap₂ (λ (x y : ℕ). record { goal = v .goal; count = x; weight = y }) c w
 
+  pub visited-one : (m : Interpretation) (v : Visit) (x : ℕ) → x ≡ weightOf (v .goal) asked m → record { goal = v .goal; count = v .count + 1; weight = v .weight + x } ≡ visited asked (m ∷ []) v
+  unfolding totalOf
+  visited-one m v x e = let z : v .weight + x ≡ v .weight + (weightOf (v .goal) asked m + 0) = omega (arith, e) in ap (λ (y : ℕ). record { goal = v .goal; count = v .count + 1; weight = y }) z
+
+  visited-append : (xs ys : List Interpretation) (v : Visit) → visited asked ys (visited asked xs v) ≡ visited asked (xs ++ ys) v
+  visited-append xs ys v =
+      let c : v .count + length xs + length ys ≡ v .count + length (xs ++ ys) = omega (arith, length-append xs ys) in
+      let w : v .weight + totalOf (weightOf (v .goal) asked) xs + totalOf (weightOf (v .goal) asked) ys ≡ v .weight + totalOf (weightOf (v .goal) asked) (xs ++ ys) = omega (arith, total-append (weightOf (v .goal) asked) xs ys) in
+      ap₂ (λ (x y : ℕ). record { goal = v .goal; count = x; weight = y }) c w
+
+-- ---- what a search leaves behind
 module _ (asked : List ℕ) (n : ℕ) where
-  met-kept : (m : Interpretation) (v : Visit) (p : List ℕ) (v′ : Visit) (p′ : List ℕ) → Met asked n m v p v′ p′ → Kept asked n v p → Kept asked n v′ p′
-  met-kept m v p v′ p′ a k = record {
-    asks = subst (λ (g : Goal). Asks g asked) (sym (a .goal)) (k .asks);
-    whole = subst (λ (g : Goal). Whole (keySize g n) (v′ .lo) (v′ .hi) p′) (sym (a .goal)) (a .least .whole);
-    light = omega (arith, a .count, a .weight, k .light, weight-le (v .goal) asked m);
+  pub searched-none : (v : Visit) (p : List ℕ) → Searched asked n [] v p v p
+  searched-none v p = record {
+    seen = [];
+    rest = [];
+    split = refl;
+    visit-is = sym (visited-none asked v);
+    part-is = sym (kept-none (v .goal) n (v .count) p);
+    whole = λ _. refl;
+    still = λ _. refl;
   }
 
-  pub visits-kept : (ms : List Interpretation) (v : Visit) (p : List ℕ) (v′ : Visit) (p′ : List ℕ) → Visits asked n ms v p v′ p′ → Kept asked n v p → Kept asked n v′ p′
-  visits-kept l v₀ p₀ v₃ p₃ (done v p) k = k
-  visits-kept l v₀ p₀ v₃ p₃ (next m xs v p u q v′ p′ a x) k = visits-kept xs u q v′ p′ x (met-kept m v p u q a k)
+  pub searched-stopped : (ms : List Interpretation) (v : Visit) (p : List ℕ) → stopped v ≡ true → Searched asked n ms v p v p
+  searched-stopped ms v p e = record {
+    seen = [];
+    rest = ms;
+    split = refl;
+    visit-is = sym (visited-none asked v);
+    part-is = sym (kept-none (v .goal) n (v .count) p);
+    whole = λ f. absurd (false≢true (sym f ∙ e));
+    still = λ _. refl;
+  }
 
-  pub visits-goal : (ms : List Interpretation) (v : Visit) (p : List ℕ) (v′ : Visit) (p′ : List ℕ) → Visits asked n ms v p v′ p′ → v′ .goal ≡ v .goal
-  visits-goal l v₀ p₀ v₃ p₃ (done v p) = refl
-  visits-goal l v₀ p₀ v₃ p₃ (next m xs v p u q v′ p′ a x) = visits-goal xs u q v′ p′ x ∙ a .goal
+  pub searched-one : (m : Interpretation) (v : Visit) (p : List ℕ) (v′ : Visit) (p′ : List ℕ) → stopped v ≡ false
+      → (v′ ≡ visited asked (m ∷ []) v) × (p′ ≡ keptBy (v .goal) n (v .count) (m ∷ []) p) → Searched asked n (m ∷ []) v p v′ p′
+  searched-one m v p v′ p′ e a = record {
+    seen = m ∷ [];
+    rest = [];
+    split = refl;
+    visit-is = a .0;
+    part-is = a .1;
+    whole = λ _. refl;
+    still = λ f. absurd (false≢true (sym e ∙ f));
+  }
 
-  pub visits-count : (ms : List Interpretation) (v : Visit) (p : List ℕ) (v′ : Visit) (p′ : List ℕ) → Visits asked n ms v p v′ p′ → v′ .count ≡ v .count + length ms
-  visits-count l v₀ p₀ v₃ p₃ (done v p) = omega arith
-  visits-count l v₀ p₀ v₃ p₃ (next m xs v p u q v′ p′ a x) = omega (arith, visits-count xs u q v′ p′ x, a .count)
+  module _ (ms : List Interpretation) (v : Visit) (p : List ℕ) (v₁ : Visit) (p₁ : List ℕ) (a : Searched asked n ms v p v₁ p₁) where
+    pub searched-goal : v₁ .goal ≡ v .goal
+    searched-goal = ap (λ (u : Visit). u .goal) (a .visit-is)
 
-  -- what they weigh together
-  pub visits-weight : (ms : List Interpretation) (v : Visit) (p : List ℕ) (v′ : Visit) (p′ : List ℕ) → Visits asked n ms v p v′ p′
-      → v′ .weight ≡ v .weight + totalOf (weightOf (v .goal) asked) ms
-  unfolding totalOf
-  visits-weight l v₀ p₀ v₃ p₃ (done v p) = omega arith
-  visits-weight l v₀ p₀ v₃ p₃ (next m xs v p u q v′ p′ a x) =
-      let h : totalOf (weightOf (u .goal) asked) xs ≡ totalOf (weightOf (v .goal) asked) xs = ap (λ (g : Goal). totalOf (weightOf g asked) xs) (a .goal) in
-      omega (arith, visits-weight xs u q v′ p′ x, a .weight, h)
+    pub searched-count : v₁ .count ≡ v .count + length (a .seen)
+    searched-count = ap (λ (u : Visit). u .count) (a .visit-is)
 
-  -- of the keys held before and of all that were met, the least are held
-  pub visits-least : (ms : List Interpretation) (v : Visit) (p : List ℕ) (v′ : Visit) (p′ : List ℕ) → Visits asked n ms v p v′ p′ → Kept asked n v p
-      → Least (keySize (v .goal) n) (map (keyOf (v .goal) asked n) ms) (v .lo) (v .hi) p (v′ .lo) (v′ .hi) p′
-  visits-least l v₀ p₀ v₃ p₃ (done v p) k = least-none (k .whole)
-  visits-least l v₀ p₀ v₃ p₃ (next m xs v p u q v′ p′ a x) k =
-      least-append (keySize (v .goal) n) (keyOf (v .goal) asked n m ∷ []) (map (keyOf (v .goal) asked n) xs) (v .lo) (v .hi) p (u .lo) (u .hi) q (v′ .lo) (v′ .hi) p′ (a .least)
-      (subst (λ (g : Goal). Least (keySize g n) (map (keyOf g asked n) xs) (u .lo) (u .hi) q (v′ .lo) (v′ .hi) p′) (a .goal)
-      (visits-least xs u q v′ p′ x (met-kept m v p u q a k)))
+    pub searched-weight : v₁ .weight ≡ v .weight + totalOf (weightOf (v .goal) asked) (a .seen)
+    searched-weight = ap (λ (u : Visit). u .weight) (a .visit-is)
+
+    pub seen-few : length (a .seen) ≤ length ms
+    seen-few = omega (arith, ap length (a .split), length-append (a .seen) (a .rest))
+
+    -- what is left to meet is met from there on
+    pub kept-after : (more : ℕ) → length p₁ ≡ length p → Kept asked n (length ms + more) v p → Kept asked n more v₁ p₁
+    kept-after more l k = record {
+      asks = subst (λ (g : Goal). Asks g asked) (sym searched-goal) (k .asks);
+      room = subst (λ (g : Goal). RoomFor g n (v₁ .count + more) p₁) (sym searched-goal)
+          (room-same (v .goal) n (v₁ .count + more) p p₁ l (room-less (v .goal) n (v₁ .count + more) (v .count + (length ms + more)) p (omega (arith, searched-count, seen-few)) (k .room)));
+      light = omega (arith, searched-count, searched-weight, k .light, total-le (v .goal) asked (a .seen));
+    }
+
+  -- a search, then another, then the two runs made one
+  module _ (ms ns : List Interpretation) (v : Visit) (p : List ℕ) (v₁ : Visit) (p₁ : List ℕ) (v₂ : Visit) (p₂ p₃ : List ℕ) (a : Searched asked n ms v p v₁ p₁) (b : Searched asked n ns v₁ p₁ v₂ p₂) where
+    both-visited : v₂ ≡ visited asked (a .seen ++ b .seen) v
+    both-visited = b .visit-is ∙ ap (visited asked (b .seen)) (a .visit-is) ∙ visited-append asked (a .seen) (b .seen) v
+
+    both-kept : RoomFor (v .goal) n (v₂ .count) p → Joins (v .goal) n (v .count) (v₁ .count) (v₂ .count) p₂ p₃ → p₃ ≡ keptBy (v .goal) n (v .count) (a .seen ++ b .seen) p
+    both-kept r j =
+        j p (a .seen) (b .seen) r (searched-count ms v p v₁ p₁ a) (searched-count ns v₁ p₁ v₂ p₂ b)
+        (b .part-is ∙ ap₂ (λ (g : Goal) (q : List ℕ). keptBy g n (v₁ .count) (b .seen) q) (searched-goal ms v p v₁ p₁ a) (a .part-is))
+
+    none-after : stopped v₁ ≡ true → v₂ ≡ v₁
+    none-after e = b .visit-is ∙ ap (λ (l : List Interpretation). visited asked l v₁) (b .still e) ∙ visited-none asked v₁
+
+    none-at-all : stopped v ≡ true → a .seen ++ b .seen ≡ []
+    none-at-all e =
+        let s : a .seen ≡ [] = a .still e in
+        let u : v₁ ≡ v = a .visit-is ∙ ap (λ (l : List Interpretation). visited asked l v) s ∙ visited-none asked v in
+        ap₂ (λ (x y : List Interpretation). x ++ y) s (b .still (ap stopped u ∙ e))
+
+    pub searched-joined : RoomFor (v .goal) n (v₂ .count) p → Joins (v .goal) n (v .count) (v₁ .count) (v₂ .count) p₂ p₃ → Searched asked n (ms ++ ns) v p v₂ p₃
+    searched-joined r j = go (stopped v₁) refl
+      where
+        go : (c : Bool) → stopped v₁ ≡ c → Searched asked n (ms ++ ns) v p v₂ p₃
+        go false e = record {
+          seen = a .seen ++ b .seen;
+          rest = b .rest;
+          split = ap₂ (λ (x y : List Interpretation). x ++ y) (a .split ∙ ap (λ (x : List Interpretation). a .seen ++ x) (a .whole e) ∙ append-nil (a .seen)) (b .split)
+              ∙ sym (append-assoc (a .seen) (b .seen) (b .rest));
+          visit-is = both-visited;
+          part-is = both-kept r j;
+          whole = b .whole;
+          still = none-at-all;
+        }
+        go true e = record {
+          seen = a .seen ++ b .seen;
+          rest = a .rest ++ ns;
+          split = ap (λ (x : List Interpretation). x ++ ns) (a .split) ∙ append-assoc (a .seen) (a .rest) ns
+              ∙ ap (λ (x : List Interpretation). x ++ (a .rest ++ ns)) (sym (ap (λ (y : List Interpretation). a .seen ++ y) (b .still e) ∙ append-nil (a .seen)));
+          visit-is = both-visited;
+          part-is = both-kept r j;
+          whole = λ f. absurd (false≢true (sym f ∙ ap stopped (none-after e) ∙ e));
+          still = none-at-all;
+        }
 
 -- whether the goal is reached, as the code tests it
 module _ (v : Visit) where
-  pub first-stops : v .goal ≡ First → ltb 0 (v .count) ≡ stopped v
+  pub list-stops : v .goal ≡ goals.List → false ≡ stopped v
+  unfolding reaches
+  list-stops e = rw e refl
+
+  pub count-stops : (most : ℕ) → v .goal ≡ goals.Count most → ltb most (v .count) ≡ stopped v
+  unfolding reaches
+  count-stops most e = rw e refl
+
+  pub first-stops : v .goal ≡ goals.First → ltb 0 (v .count) ≡ stopped v
   unfolding reaches
   first-stops e = rw e refl
 
-  pub settle-stops : v .goal ≡ Settle → 0 < v .weight → ltb (v .weight) (v .count) ≡ stopped v
+  pub settle-stops : v .goal ≡ goals.Settle → 0 < v .weight → ltb (v .weight) (v .count) ≡ stopped v
   unfolding reaches
   settle-stops e h = rw (e, lt-ltb 0 (v .weight) h) refl
 
-  pub settle-goes-on : v .goal ≡ Settle → v .weight ≤ 0 → false ≡ stopped v
+  pub settle-goes-on : v .goal ≡ goals.Settle → v .weight ≤ 0 → false ≡ stopped v
   unfolding reaches
   settle-goes-on e h = rw (e, le-ltb 0 (v .weight) h) refl
 
--- what a state weighs and what is kept of it, as the code takes them from the first n facts
+  pub sums-stop : v .goal ≡ goals.Sums → false ≡ stopped v
+  unfolding reaches
+  sums-stop e = rw e refl
+
+-- what a state weighs, as the code takes it from the first n facts
 pub weighed : (goal : Goal) (asked : List ℕ) (s : Interpretation) (n x : ℕ) → x ≡ weightOf goal asked (take (n - 0) (drop 0 s)) → x ≡ weightOf goal asked (take n s)
 weighed goal asked s n x e = e ∙ (let z : n - 0 ≡ n = omega arith in ap (λ (k : ℕ). weightOf goal asked (take k s)) z)
 
-module _ (goal : Goal) (asked : List ℕ) (n : ℕ) {lo hi : ℕ} {part : List ℕ} where
-  pub whole-record : Whole (keySize goal n) lo hi part → Whole (recordSize n) lo hi part
-  whole-record w = subst (λ (k : ℕ). Whole k lo hi part) (size-record goal n) w
-
-  pub least-key : (m : Interpretation) {lo′ hi′ : ℕ} {part′ : List ℕ} → LeastFor n (m ∷ []) lo hi part lo′ hi′ part′ → Least (keySize goal n) (keyOf goal asked n m ∷ []) lo hi part lo′ hi′ part′
-  least-key m w = rw (size-record goal n, key-record goal asked n m) w
-
 -- the question of a goal, and what a model weighs, in the code's cases
 module _ (goal : Goal) (asked : List ℕ) (m : Interpretation) where
-  pub asked-two : goal ≡ Settle → Asks goal asked → 0 + 2 ≤ length asked
+  pub asked-two : goal ≡ goals.Settle → Asks goal asked → 0 + 2 ≤ length asked
   unfolding Asks
   asked-two e a = subst (λ (g : Goal). Asks g asked) e a
 
-  pub weigh-all : goal ≡ All → (0 ≡ weightOf goal asked m) × (0 ≤ 1)
+  pub weigh-list : goal ≡ goals.List → (0 ≡ weightOf goal asked m) × (0 ≤ 1)
   unfolding weightOf
-  weigh-all e = (rw e refl, omega arith)
+  weigh-list e = (rw e refl, omega arith)
 
-  pub weigh-first : goal ≡ First → (0 ≡ weightOf goal asked m) × (0 ≤ 1)
+  pub weigh-count : (most : ℕ) → goal ≡ goals.Count most → (0 ≡ weightOf goal asked m) × (0 ≤ 1)
+  unfolding weightOf
+  weigh-count most e = (rw e refl, omega arith)
+
+  pub weigh-first : goal ≡ goals.First → (0 ≡ weightOf goal asked m) × (0 ≤ 1)
   unfolding weightOf
   weigh-first e = (rw e refl, omega arith)
 
-  pub weigh-settle : goal ≡ Settle → (x b f : ℕ) → x ≡ b → b ≡ bitValue (atomHolds m f) 1 → f ≡ u16At asked 0 → (x ≡ weightOf goal asked m) × (x ≤ 1)
+  pub weigh-sums : goal ≡ goals.Sums → (0 ≡ weightOf goal asked m) × (0 ≤ 1)
+  unfolding weightOf
+  weigh-sums e = (rw e refl, omega arith)
+
+  pub weigh-settle : goal ≡ goals.Settle → (x b f : ℕ) → x ≡ b → b ≡ bitValue (atomHolds m f) 1 → f ≡ u16At asked 0 → (x ≡ weightOf goal asked m) × (x ≤ 1)
   unfolding weightOf
   weigh-settle e x b f ex eb ef =
       let q : x ≡ weightOf goal asked m = ex ∙ eb ∙ ap (λ (k : ℕ). bitValue (atomHolds m k) 1) ef ∙ sym (ap (λ (g : Goal). weightOf g asked m) e) in

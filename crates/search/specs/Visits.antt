@@ -1,81 +1,103 @@
--- What the search keeps while it meets stable models one after the other: how many there were, what they weigh together, and the gap of
--- the part that their keys go into. What a goal makes of a model is `weightOf` and `keyOf`; the recursion looks into neither.
+-- What the search keeps while it meets stable models one after the other: how many there were, what they weigh together, and what is
+-- written of them into the part. What a goal makes of models is `weightOf` and `keptBy`; the recursion looks into neither.
 -- Assumes nothing.
 use mathlib.Core.Path.{_≡_}
-use mathlib.Core.Bool.{Bool, false, _&&_}
-use mathlib.Core.List.{List, [], _∷_, _++_}
-use Prim.Native.Nat.{ℕ, _+_, _≤_}
+use mathlib.Core.Bool.{Bool, true, false, _&&_}
+use mathlib.Core.List.{List, [], _∷_, _++_, map}
+use Prim.Native.Nat.{ℕ, zero, suc, _+_, _*_, _≤_}
 use lib.Dec.{ltb}
-use lib.ListN.{length}
+use lib.ListN.{length, take, drop}
+use Rattle.base.specs.Lists.{flat}
 use Rattle.format.specs.Book.{u16At}
-use Rattle.insertion.specs.Runs.{Whole, Least}
 use Rattle.models.specs.StableModels.{Interpretation, atomHolds}
 use Rattle.models.specs.Listing.{bitValue, recordSize, recordOf}
+use Rattle.records.specs.Written.{sorted, summed}
 use Rattle.search.specs.declared.Goal.{Goal}
-use Rattle.search.specs.declared.Goal.the-variants.{All, First, Settle}
+use Rattle.search.specs.declared.Goal.the-variants as goals
 use Rattle.search.specs.declared.Visit.{Visit}
 
 -- the bytes that a goal is asked with: a fact's place, with the fact's number
 unfoldable pub Asks : Goal → List ℕ → Type 0
-Asks All asked = Unit {0}
-Asks First asked = Unit {0}
-Asks Settle asked = 2 ≤ length asked
+Asks goals.List asked = Unit {0}
+Asks (goals.Count most) asked = Unit {0}
+Asks goals.First asked = Unit {0}
+Asks goals.Settle asked = 2 ≤ length asked
+Asks goals.Sums asked = Unit {0}
 
 -- what a model weighs: for a fact's place 1 where the fact stands
 unfoldable pub weightOf : Goal → List ℕ → Interpretation → ℕ
-weightOf All asked m = 0
-weightOf First asked m = 0
-weightOf Settle asked m = bitValue (atomHolds m (u16At asked 0)) 1
+weightOf goals.List asked m = 0
+weightOf (goals.Count most) asked m = 0
+weightOf goals.First asked m = 0
+weightOf goals.Settle asked m = bitValue (atomHolds m (u16At asked 0)) 1
+weightOf goals.Sums asked m = 0
 
 -- what models weigh together
 unfoldable pub totalOf : (Interpretation → ℕ) → List Interpretation → ℕ
 totalOf w [] = 0
 totalOf w (m ∷ ms) = w m + totalOf w ms
 
--- what the part keeps of a model, in rising order: its record
-unfoldable pub keyOf : Goal → List ℕ → ℕ → Interpretation → List ℕ
-keyOf All asked n m = recordOf n m
-keyOf First asked n m = recordOf n m
-keyOf Settle asked n m = recordOf n m
+-- the records of these models, rising
+abbrev pub rising : ℕ → List Interpretation → List ℕ
+rising n ms = flat (map (recordOf n) (sorted n ms))
 
-unfoldable pub keySize : Goal → ℕ → ℕ
-keySize All n = recordSize n
-keySize First n = recordSize n
-keySize Settle n = recordSize n
+-- the record of the first model of all in front
+unfoldable pub firstKept : ℕ → ℕ → List Interpretation → List ℕ → List ℕ
+firstKept n zero (m ∷ ms) part = recordOf n m ++ drop (recordSize n) part
+firstKept n zero [] part = part
+firstKept n (suc count) ms part = part
 
--- the goal is reached: of the first model, once there is one; of a fact's place, once it stands in some but not in all
+-- What the part is once these models are met, and so many were before them. A listing's part has the records of the models before in
+-- front, and behind them those of these models, rising.
+unfoldable pub keptBy : Goal → ℕ → ℕ → List Interpretation → List ℕ → List ℕ
+keptBy goals.List n count ms part = take (count * recordSize n) part ++ (rising n ms ++ drop ((count + length ms) * recordSize n) part)
+keptBy (goals.Count most) n count ms part = part
+keptBy goals.First n count ms part = firstKept n count ms part
+keptBy goals.Settle n count ms part = part
+keptBy goals.Sums n count ms part = summed n part ms
+
+-- the part has the room that the goal needs for so many models in all
+unfoldable pub RoomFor : Goal → ℕ → ℕ → List ℕ → Type 0
+RoomFor goals.List n count part = count * recordSize n ≤ length part
+RoomFor (goals.Count most) n count part = Unit {0}
+RoomFor goals.First n count part = recordSize n ≤ length part
+RoomFor goals.Settle n count part = Unit {0}
+RoomFor goals.Sums n count part = 4 * n ≤ length part
+
+-- the goal is reached: of a count, once it is past its most; of the first model, once there is one; of a fact's place, once it stands in
+-- some but not in all
 unfoldable pub reaches : Goal → ℕ → ℕ → Bool
-reaches All count weight = false
-reaches First count weight = ltb 0 count
-reaches Settle count weight = ltb 0 weight && ltb weight count
+reaches goals.List count weight = false
+reaches (goals.Count most) count weight = ltb most count
+reaches goals.First count weight = ltb 0 count
+reaches goals.Settle count weight = ltb 0 weight && ltb weight count
+reaches goals.Sums count weight = false
 
 abbrev pub stopped : Visit → Bool
 stopped v = reaches (v .goal) (v .count) (v .weight)
 
--- what the question, the counters and the gap have to say of each other before a search and after it
-pub record Kept (asked : List ℕ) (n : ℕ) (v : Visit) (part : List ℕ) : Type 0 where
+-- what the question, the counters and the part have to say of each other before a search that meets no more than so many models
+pub record Kept (asked : List ℕ) (n more : ℕ) (v : Visit) (part : List ℕ) : Type 0 where
   pub asks : Asks (v .goal) asked
-  pub whole : Whole (keySize (v .goal) n) (v .lo) (v .hi) part
+  pub room : RoomFor (v .goal) n (v .count + more) part
   pub light : v .weight ≤ v .count
 
--- One model is met: it is counted and weighed, and of the keys held and its own the part keeps the least that it has room for.
-pub record Met (asked : List ℕ) (n : ℕ) (m : Interpretation) (v : Visit) (part : List ℕ) (v′ : Visit) (part′ : List ℕ) : Type 0 where
-  pub going : stopped v ≡ false
-  pub goal : v′ .goal ≡ v .goal
-  pub count : v′ .count ≡ v .count + 1
-  pub weight : v′ .weight ≡ v .weight + weightOf (v .goal) asked m
-  pub least : Least (keySize (v .goal) n) (keyOf (v .goal) asked n m ∷ []) (v .lo) (v .hi) part (v′ .lo) (v′ .hi) part′
+-- these models are counted and weighed
+abbrev pub visited : List ℕ → List Interpretation → Visit → Visit
+visited asked ms v = record { goal = v .goal; count = v .count + length ms; weight = v .weight + totalOf (weightOf (v .goal) asked) ms }
 
--- These models were met, one after the other.
-pub data Visits (asked : List ℕ) (n : ℕ) : List Interpretation → Visit → List ℕ → Visit → List ℕ → Type 0 where
-  done : (v : Visit) (part : List ℕ) → Visits asked n [] v part v part
-  next : (m : Interpretation) (ms : List Interpretation) (v : Visit) (part : List ℕ) (v₁ : Visit) (part₁ : List ℕ) (v₂ : Visit) (part₂ : List ℕ)
-      → Met asked n m v part v₁ part₁ → Visits asked n ms v₁ part₁ v₂ part₂ → Visits asked n (m ∷ ms) v part v₂ part₂
-
--- Of the models of a list the first were met, and all of them unless the goal was reached before.
+-- Of the models of a list the first were met, and all of them unless the goal was reached before; none where it was reached already.
 pub record Searched (asked : List ℕ) (n : ℕ) (ms : List Interpretation) (v : Visit) (part : List ℕ) (v′ : Visit) (part′ : List ℕ) : Type 0 where
   pub seen : List Interpretation
   pub rest : List Interpretation
   pub split : ms ≡ seen ++ rest
-  pub visits : Visits asked n seen v part v′ part′
+  pub visit-is : v′ ≡ visited asked seen v
+  pub part-is : part′ ≡ keptBy (v .goal) n (v .count) seen part
   pub whole : stopped v′ ≡ false → rest ≡ []
+  pub still : stopped v ≡ true → seen ≡ []
+
+-- Models were met in two runs, one after the other: the part is what it would be had they been met in one.
+abbrev pub Joins : Goal → ℕ → ℕ → ℕ → ℕ → List ℕ → List ℕ → Type 0
+Joins goal n from mid end part part′ =
+    (old : List ℕ) (xs ys : List Interpretation) → RoomFor goal n end old → mid ≡ from + length xs → end ≡ mid + length ys
+    → part ≡ keptBy goal n mid ys (keptBy goal n from xs old) → part′ ≡ keptBy goal n from (xs ++ ys) old

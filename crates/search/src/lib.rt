@@ -2,6 +2,7 @@
 ghost use mathlib.Core.Path.{_≡_};
 ghost use mathlib.Core.Logic.{_⊎_};
 ghost use mathlib.Core.Bool.{false};
+ghost use mathlib.Core.List.{[], _∷_};
 ghost use Prim.Native.Nat.{_+_, _/_, _^_, _<_, _≤_};
 ghost use lib.ListN.{length, take};
 ghost use Rattle.base.specs.Bounds.{maxAtoms, maxRules};
@@ -14,38 +15,42 @@ ghost use Rattle.plan.specs.Plan.{planSize, planAtoms, planMasks, planNogoods, 
 ghost use Rattle.leaf.specs.Found.{atSetting, foundBy};
 ghost use Rattle.leaf.specs.Searchable.{Searchable};
 ghost use Rattle.search.specs.Decided.{undecided, Turned};
-ghost use Rattle.search.specs.Visits.{Asks, weightOf, stopped, Kept, Met, Searched};
+ghost use Rattle.search.specs.Visits.{Asks, weightOf, keptBy, RoomFor, stopped, Kept, visited, Searched, Joins};
 use base::MAX_ATOMS;
 use base::MAX_NAMES;
 use base::wide;
 use format::be16;
-use insertion::Gap;
 use leaf::model_at;
+use merging::merge;
 use nogoods::has_nogood;
 use plan::MASKS;
 use plan::NOGOODS;
 use plan::REJECTING;
 use plan::Sizes;
+use records::add_state;
 use records::atom_bit;
-use records::insert_state;
+use records::put_state;
+use records::record_size;
 use rejecting::reject_at;
 use setting::headed;
 use setting::setting_of;
 
-// What the search is for: every model, one model, or whether the asked fact stands in some but not in all.
+// What the search is for: every record, how many models there are, one record, whether the asked fact stands in some but not in all,
+// or in how many models each fact stands.
 pub enum Goal {
-    All,
+    List,
+    // no further than one more than this
+    Count(usize),
     First,
     Settle,
+    Sums,
 }
 
-// What the search keeps: the models met, what they weigh together, and the gap of the part.
+// What the search keeps: the models met and what they weigh together.
 pub struct Visit {
     pub goal: Goal,
     pub count: usize,
     pub weight: usize,
-    pub lo: usize,
-    pub hi: usize,
 }
 
 // How far the search is: how many branching facts are left to decide, and of the others the bits of those that stand and of those that
@@ -62,7 +67,8 @@ pub fn stops(v: Visit) -> bool
 {
     let goal = v.goal;
     match goal {
-        Goal::All => false,
+        Goal::List => false,
+        Goal::Count(most) => most < v.count,
         Goal::First => 0 < v.count,
         Goal::Settle => {
             if 0 < v.weight {
@@ -71,6 +77,7 @@ pub fn stops(v: Visit) -> bool
                 false
             }
         }
+        Goal::Sums => false,
     }
 }
 
@@ -80,26 +87,44 @@ fn weight(goal: Goal, asked: &[u8], m: &[bool]) -> usize
     ensures { λ r. ⌜ (r ≡ weightOf goal (now (asked .entry)) (now (m .entry))) × (r ≤ 1) ⌝ }
 {
     match goal {
-        Goal::All => 0,
+        Goal::List => 0,
+        Goal::Count(most) => 0,
         Goal::First => 0,
         Goal::Settle => wide(atom_bit(m, be16(asked, 0))),
+        Goal::Sums => 0,
     }
 }
 
-// A stable model is met: it is counted and weighed, and the part keeps its record if it is among the least that fit.
+// Writes what the goal keeps of one more model: a listing's record goes behind those that are there.
+fn keep(goal: Goal, state: [bool; MAX_ATOMS], n: usize, count: usize, part: &mut [u8])
+    requires { ⌜ (n ≤ maxAtoms) × (count < 4294967296) × RoomFor goal n (count + 1) (now part) ⌝ }
+    ensures { λ _. ⌜ now (part .exit) ≡ keptBy goal n count (take n state ∷ []) (now (part .entry)) ⌝ }
+{
+    match goal {
+        Goal::List => put_state(state, n, part, count * record_size(n)),
+        Goal::Count(most) => {}
+        Goal::First => {
+            if count == 0 {
+                put_state(state, n, part, 0);
+            }
+        }
+        Goal::Settle => {}
+        Goal::Sums => add_state(&state[0..n], part),
+    }
+}
+
+// A stable model is met: it is counted, weighed and kept.
 pub fn meet(state: [bool; MAX_ATOMS], n: usize, asked: &[u8], part: &mut [u8], v: Visit) -> Visit
-    requires { ⌜ (n ≤ maxAtoms) × Kept (now asked) n v (now part) × (v .count < 4294967296) × (stopped v ≡ false) ⌝ }
-    ensures { λ r. ⌜ Met (now (asked .entry)) n (take n state) v (now (part .entry)) r (now (part .exit)) ⌝ }
+    requires { ⌜ (n ≤ maxAtoms) × Kept (now asked) n 1 v (now part) × (v .count < 4294967296) × (stopped v ≡ false) ⌝ }
+    ensures { λ r. ⌜ (r ≡ visited (now (asked .entry)) (take n state ∷ []) v) × (now (part .exit) ≡ keptBy (v .goal) n (v .count) (take n state ∷ []) (now (part .entry))) ⌝ }
 {
     let goal = v.goal;
     let more = weight(goal, asked, &state[0..n]);
-    let gap = insert_state(state, n, part, Gap { lo: v.lo, hi: v.hi });
+    keep(goal, state, n, v.count, part);
     Visit {
         goal,
         count: v.count + 1,
         weight: v.weight + more,
-        lo: gap.lo,
-        hi: gap.hi,
     }
 }
 
@@ -117,7 +142,8 @@ pub fn visit_setting(
 ) -> Visit
     requires { ⌜ Searchable (now book) (now rows) (planAtoms (now plan) (sizes .branching)) (sizes .n) ⌝ }
     requires { ⌜ Planned (now book) (now rows) (planAtoms (now plan) (sizes .branching)) (now plan) sizes ⌝ }
-    requires { ⌜ Kept (now asked) (sizes .n) v (now part) × (v .count < 4294967296) × (stopped v ≡ false) ⌝ }
+    requires { ⌜ Kept (now asked) (sizes .n) (length (atSetting (tabled (now book) (now rows) (sizes .n)) (planAtoms (now plan) (sizes .branching)) (settingOf (planAtoms (now plan) (sizes .branching)) standing))) v (now part) ⌝ }
+    requires { ⌜ (v .count < 4294967296) × (stopped v ≡ false) ⌝ }
     requires { ⌜ length (now hints) ≡ hintSize ⌝ }
     ensures { λ r. ⌜ Searched (now (asked .entry)) (sizes .n) (atSetting (tabled (now (book .entry)) (now (rows .entry)) (sizes .n)) (planAtoms (now (plan .entry)) (sizes .branching)) (settingOf (planAtoms (now (plan .entry)) (sizes .branching)) standing)) v (now (part .entry)) r (now (part .exit)) ⌝ }
 {
@@ -149,6 +175,27 @@ fn promising(plan: &[u32], sizes: Sizes, turn: Turn) -> bool
     !has_nogood(&plan[NOGOODS..forbidding], turn.standing, turn.denied)
 }
 
+// Makes of two runs of models, met one after the other, one: a listing's records of the second run, which rise, are inserted among those
+// of the first.
+fn join(goal: Goal, n: usize, from: usize, mid: usize, end: usize, part: &mut [u8])
+    requires { ⌜ (0 < n) × (n ≤ maxAtoms) × (from ≤ mid) × (mid ≤ end) × (end ≤ 4294967296) ⌝ }
+    requires { ⌜ RoomFor goal n end (now part) ⌝ }
+    ensures { λ _. ⌜ Joins goal n from mid end (now (part .entry)) (now (part .exit)) ⌝ }
+{
+    match goal {
+        Goal::List => {
+            let w = record_size(n);
+            let start = from * w;
+            let stop = end * w;
+            merge(&mut part[start..stop], (mid - from) * w, w);
+        }
+        Goal::Count(most) => {}
+        Goal::First => {}
+        Goal::Settle => {}
+        Goal::Sums => {}
+    }
+}
+
 // Goes through the settings of the branching facts that are left, each at most once, and visits the stable model of each setting, if
 // there is one. `hints` is what one filling leaves for the next. Where the quick tests say that no setting of the facts that are left
 // has a stable model, none is gone through.
@@ -166,7 +213,8 @@ pub fn search(
     requires { ⌜ Searchable (now book) (now rows) (planAtoms (now plan) (sizes .branching)) (sizes .n) ⌝ }
     requires { ⌜ Planned (now book) (now rows) (planAtoms (now plan) (sizes .branching)) (now plan) sizes ⌝ }
     requires { ⌜ Turned (planAtoms (now plan) (sizes .branching)) (turn .left) (turn .standing) (turn .denied) ⌝ }
-    requires { ⌜ Kept (now asked) (sizes .n) v (now part) × (v .count + 2 ^ turn .left ≤ 4294967296) ⌝ }
+    requires { ⌜ Kept (now asked) (sizes .n) (length (foundBy (atSetting (tabled (now book) (now rows) (sizes .n)) (planAtoms (now plan) (sizes .branching))) (undecided (planAtoms (now plan) (sizes .branching)) (turn .left)) (settingOf (planAtoms (now plan) (sizes .branching)) (turn .standing)))) v (now part) ⌝ }
+    requires { ⌜ v .count + 2 ^ turn .left ≤ 4294967296 ⌝ }
     requires { ⌜ length (now hints) ≡ hintSize ⌝ }
     ensures { λ r. ⌜ Searched (now (asked .entry)) (sizes .n) (foundBy (atSetting (tabled (now (book .entry)) (now (rows .entry)) (sizes .n)) (planAtoms (now (plan .entry)) (sizes .branching))) (undecided (planAtoms (now (plan .entry)) (sizes .branching)) (turn .left)) (settingOf (planAtoms (now (plan .entry)) (sizes .branching)) (turn .standing))) v (now (part .entry)) r (now (part .exit)) ⌝ }
 {
@@ -202,5 +250,8 @@ pub fn search(
         standing: turn.standing | bit,
         denied: turn.denied,
     };
-    search(book, rows, plan, sizes, with, hints, asked, part, half)
+    let both = search(book, rows, plan, sizes, with, hints, asked, part, half);
+    let goal = v.goal;
+    join(goal, sizes.n, v.count, half.count, both.count, part);
+    both
 }

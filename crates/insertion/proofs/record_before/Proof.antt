@@ -4,7 +4,7 @@ use mathlib.Core.Path.{_≡_, refl, sym, _∙_}
 use Prim.Native.Nat.{_-_, _≤_}
 use lib.ListN.{length, take, drop}
 use Rattle.insertion.specs.Runs.{bytesBefore}
-use Rattle.insertion.proofs.MoveLaws.{before-here, not-before-here, before-later, not-before-at-end}
+use Rattle.insertion.proofs.ByteLaws.{before-here, not-before-here, before-later, not-before-at-end}
 use borrow.Author.Needs.{needs}
 use native.Mathlib.Omega.{arith}
 use Rattle.insertion.proofs.record_before.Statement.{statement}

@@ -1,5 +1,5 @@
--- The search from no fact decided, with all of the part as its gap.
-use mathlib.Core.Path.{refl, sym, subst}
+-- The search from no fact decided.
+use mathlib.Core.Path.{sym, subst}
 use Prim.Native.Nat.{ℕ, _+_, _^_, _≤_}
 use Rattle.table.specs.Tabled.{tabled}
 use Rattle.setting.specs.Setting.{settingOf}
@@ -18,7 +18,7 @@ search-requires c κs =
     let a = c .before .before .before .before .before .before .before .args in
     let r = c .before .before .before .before .before .before .before .pre .0 in
     let count = atoms-count (r .planned) in
-    (r .table, (r .planned, (turned-start (planAtoms (a .plan .now) (a .sizes .branching)) (a .sizes .branching) (sym count), ((start-kept (r .table) (a .goal) (a .asked .now) _ (a .part .now) (c .before .before .before .before .before .before .before .pre .1 .1 .times) (c .before .before .before .before .before .before .before .pre .1 .0) refl (c .before .before .before .before .before .before .before .pre .1 .1 .eq), subst (λ (k : ℕ). 0 + 2 ^ k ≤ 4294967296) count (start-fits (r .table))), search needs))))
+    (r .table, (r .planned, (turned-start (planAtoms (a .plan .now) (a .sizes .branching)) (a .sizes .branching) (sym count), (start-kept (r .table) (a .goal) (a .asked .now) (a .sizes .branching) (sym count) (a .part .now) (c .before .before .before .before .before .before .before .pre .1 .0) (c .before .before .before .before .before .before .before .pre .1 .1), (subst (λ (k : ℕ). 0 + 2 ^ k ≤ 4294967296) count (start-fits (r .table)), search needs)))))
 
 same-length : tie.Need-same-length
 same-length c = search needs

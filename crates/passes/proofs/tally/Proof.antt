@@ -1,6 +1,5 @@
--- One pass, with a part without room (`tallied`).
+-- One pass, which writes nothing (`tallied`).
 use Rattle.passes.proofs.PassLaws.{tallied}
-use native.Mathlib.Omega.{arith}
 use borrow.Author.Needs.{needs}
 use Rattle.passes.proofs.tally.Statement.{statement}
 use Rattle.passes.proofs.tally.Tie as tie
@@ -9,10 +8,10 @@ slice-aggregate-pass : tie.Need-slice-aggregate-pass
 slice-aggregate-pass c = search needs
 
 pass-requires : tie.Need-pass-requires
-pass-requires c κs = (c .before .before .before .before .before .pre .0, (c .before .before .before .before .before .pre .1, record { times = 0; eq = omega arith }))
+pass-requires c κs = (c .before .before .before .before .before .pre .0, (c .before .before .before .before .before .pre .1 .0, c .before .before .before .before .before .pre .1 .1))
 
 returns : tie.Need-returns
-returns c = tallied (c .before .before .before .before .before .before .before .pre .0 .table) (c .before .before .before .before .before .before .before .args .goal) (c .before .before .before .before .before .before .before .args .asked .now) (c .before .before .before .before .before .before .before .pre .1) _ _ _ _ (c .before .pass .ensures)
+returns c = tallied (c .before .before .before .before .before .before .before .pre .0 .table) (c .before .pass .ensures)
 
 pub tally-spec : {M : Type 1} → statement M
 tally-spec = tie.close (tie.spec slice-aggregate-pass pass-requires returns)

@@ -1,9 +1,10 @@
 -- `place_found` meets its contract: the counts of one pass settle the fact's place. Assumes nothing.
 use Rattle.place_call.proofs.PlaceLaws.{fact-asked, refused-state, placed-nowhere, placed-in-some, placed-every}
-use mathlib.Core.List.{List}
+use mathlib.Core.List.{List, []}
 use Prim.Native.Nat.{ℕ, _≤_}
 use lib.ListN.{length}
 use Rattle.search.specs.Visits.{Asks}
+use Rattle.passes.proofs.PassLaws.{settle-room}
 use Rattle.search.specs.declared.Goal.the-variants.{Settle}
 use native.Mathlib.Omega.{arith}
 use borrow.Author.Needs.{needs}
@@ -24,7 +25,7 @@ slice-aggregate-tally : tie.Need-slice-aggregate-tally
 slice-aggregate-tally c = search needs
 
 tally-requires : tie.Need-tally-requires
-tally-requires c κs = (c .before .before .before .before .pre .0, two-asked _ (search needs))
+tally-requires c κs = (c .before .before .before .before .pre .0, (two-asked _ (search needs), settle-room _ _ []))
 
 returns : tie.Need-returns
 returns c = refused-state (c .before .before .before .before .before .before .pre .0) (c .before .tally .ensures) (c .before .before .before .before .before .before .args .fact) (fact-asked (c .before .before .before .before .before .before .args .fact) (c .before .before .before .before .before .before .pre .1)) (omega (arith, c .if1 .taken))

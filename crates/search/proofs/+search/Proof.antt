@@ -4,7 +4,7 @@ use mathlib.Core.Path.{sym, _∙_}
 use borrow.Author.Tests.{not-true}
 use Rattle.search.proofs.VisitLaws.{searched-stopped}
 use Rattle.search.proofs.StepLaws.{none-searched, count-fits}
-use Rattle.search.proofs.TurnLaws.{atoms-count, shift-is, none-promised, leaf-searched, turned-first, turned-second, first-fits, second-kept, second-fits, both-halves}
+use Rattle.search.proofs.TurnLaws.{atoms-count, shift-is, none-promised, leaf-kept, leaf-searched, turned-first, turned-second, first-kept, first-fits, second-kept, second-fits, join-counts, join-room, both-searched}
 use borrow.Author.Needs.{needs}
 use native.Mathlib.Omega.{arith}
 use Prim.Native.Nat.{ℕ, _-_, _<_}
@@ -13,6 +13,7 @@ use borrow.Fn.PlainCycle.{Measures, is, falls, and}
 use Rattle.search.proofs.search.Reads as search′
 use Rattle.search.proofs.search.Kinds as search-kinds
 use Rattle.search.proofs.+search.Lts-search as search-lts
+use Rattle.search.proofs.join.Reads as join-reads
 use Rattle.search.proofs.promising.Reads as promising-reads
 use Rattle.search.proofs.stops.Reads as stops-reads
 use Rattle.search.proofs.visit_setting.Reads as visit-setting-reads
@@ -31,7 +32,7 @@ search-below t = and 6 search-kinds.ps (falls 6 search-kinds.ps _<_ μ-search t)
 -- what each callee asks and tells
 abbrev claims : ℕ → search-lts.Claims
 claims t =
-    (stops-reads.Asked, stops-reads.Learnt, promising-reads.Asked, promising-reads.Learnt, visit-setting-reads.Asked, visit-setting-reads.Learnt, search-below t, search′.Post)
+    (stops-reads.Asked, stops-reads.Learnt, promising-reads.Asked, promising-reads.Learnt, visit-setting-reads.Asked, visit-setting-reads.Learnt, search-below t, search′.Post, join-reads.Asked, join-reads.Learnt)
 
 search-stops-requires : (t : ℕ) → search-lts.Need-stops-requires (claims t) (search-at t) search′.Post
 search-stops-requires t c κs = search needs
@@ -52,7 +53,7 @@ search-visit-setting-requires : (t : ℕ) → search-lts.Need-visit-setting-requ
 search-visit-setting-requires t c κs =
     let a = c .before .before .before .before .before .before .before .before .before .before .before .before .before .args in
     let h = c .before .before .before .before .before .before .before .before .before .before .before .before .before .pre .1 in
-    (h .0, (h .1 .0, ((h .1 .1 .1 .0 .0, count-fits (a .v .count) (a .turn .left) (h .1 .1 .1 .0 .1), sym (c .before .before .before .before .before .before .stops .ensures) ∙ c .before .before .before .before .before .if1 .left), h .1 .1 .1 .1)))
+    (h .0, (h .1 .0, (leaf-kept (h .0) (h .1 .1 .0) (c .before .before .if3 .taken) (a .asked .now) (a .v) (a .part .now) (h .1 .1 .1 .0), ((count-fits (a .v .count) (a .turn .left) (h .1 .1 .1 .1 .0), sym (c .before .before .before .before .before .before .stops .ensures) ∙ c .before .before .before .before .before .if1 .left), h .1 .1 .1 .1 .1))))
 
 search-same-length : (t : ℕ) → search-lts.Need-same-length (claims t) (search-at t) search′.Post
 search-same-length t c = search needs
@@ -75,30 +76,34 @@ search-cast-bit t c = record { fits = omega (arith, c .before .before .before .b
 search-shl-bit : (t : ℕ) → search-lts.Need-shl-bit (claims t) (search-at t) search′.Post
 search-shl-bit t c = omega (arith, c .before .before .before .before .before .before .before .before .before .before .before .before .pre .1 .1 .0 .few)
 
-search-sub-t22 : (t : ℕ) → search-lts.Need-sub-t22 (claims t) (search-at t) search′.Post
-search-sub-t22 t c = search needs
+search-sub-t24 : (t : ℕ) → search-lts.Need-sub-t24 (claims t) (search-at t) search′.Post
+search-sub-t24 t c = search needs
 
 search-search-requires : (t : ℕ) → search-lts.Need-search-requires (claims t) (search-at t) search′.Post
 search-search-requires t c κs =
     let a = c .before .before .before .before .before .before .before .before .before .before .before .before .before .before .before .args in
     let h = c .before .before .before .before .before .before .before .before .before .before .before .before .before .before .before .pre .1 in
     let some = c .before .before .before .before .if3 .left in
-    let turn = h .1 .1 .0 in
-    let i = shift-is (h .1 .0) (a .turn .left) in
-    (omega (arith, some), (h .0, (h .1 .0, (turned-first (h .0) turn some (a .sizes .branching - a .turn .left) i, ((h .1 .1 .1 .0 .0, first-fits (h .0) turn some (a .sizes .branching - a .turn .left) i (a .v .count) (h .1 .1 .1 .0 .1)), h .1 .1 .1 .1)))))
+    (omega (arith, some), (h .0, (h .1 .0, (turned-first (h .0) (h .1 .1 .0) some (a .sizes .branching - a .turn .left) (shift-is (h .1 .0) (a .turn .left)), (first-kept (h .0) (h .1 .1 .0) some (a .sizes .branching - a .turn .left) (shift-is (h .1 .0) (a .turn .left)) (a .asked .now) (a .v) (a .part .now) (h .1 .1 .1 .0), (first-fits (h .0) (h .1 .1 .0) some (a .sizes .branching - a .turn .left) (shift-is (h .1 .0) (a .turn .left)) (a .v .count) (h .1 .1 .1 .1 .0), h .1 .1 .1 .1 .1))))))
 
-search-sub-t22-2 : (t : ℕ) → search-lts.Need-sub-t22-2 (claims t) (search-at t) search′.Post
-search-sub-t22-2 t c = search needs
+search-sub-t24-2 : (t : ℕ) → search-lts.Need-sub-t24-2 (claims t) (search-at t) search′.Post
+search-sub-t24-2 t c = search needs
 
 search-search-requires-2 : (t : ℕ) → search-lts.Need-search-requires-2 (claims t) (search-at t) search′.Post
 search-search-requires-2 t c κs =
     let a = c .before .before .before .before .before .before .before .before .before .before .before .before .before .before .before .before .before .before .before .before .before .before .before .args in
     let h = c .before .before .before .before .before .before .before .before .before .before .before .before .before .before .before .before .before .before .before .before .before .before .before .pre .1 in
     let some = c .before .before .before .before .before .before .before .before .before .before .before .before .if3 .left in
-    let turn = h .1 .1 .0 in
-    let i = shift-is (h .1 .0) (a .turn .left) in
     let half = c .before .before .before .before .before .before .before .search .ensures in
-    (omega (arith, some, c .before .before .before .before .before .before .before .before .before .before .before .before .before .before .before .before .before .before .before .before .before .before .before .pre .0), (h .0, (h .1 .0, (turned-second (h .0) turn some (a .sizes .branching - a .turn .left) i, ((second-kept (h .0) turn some (a .sizes .branching - a .turn .left) i (a .asked .now) (a .v) (a .part .now) _ _ half (h .1 .1 .1 .0 .0), second-fits (h .0) turn some (a .sizes .branching - a .turn .left) i (a .asked .now) (a .v) (a .part .now) _ _ half (h .1 .1 .1 .0 .1)), search needs)))))
+    (omega (arith, some, c .before .before .before .before .before .before .before .before .before .before .before .before .before .before .before .before .before .before .before .before .before .before .before .pre .0), (h .0, (h .1 .0, (turned-second (h .0) (h .1 .1 .0) some (a .sizes .branching - a .turn .left) (shift-is (h .1 .0) (a .turn .left)), (second-kept (h .0) (h .1 .1 .0) some (a .sizes .branching - a .turn .left) (shift-is (h .1 .0) (a .turn .left)) (a .asked .now) (a .v) (a .part .now) (h .1 .1 .1 .0) _ _ half (search needs), (second-fits (h .0) (h .1 .1 .0) some (a .sizes .branching - a .turn .left) (shift-is (h .1 .0) (a .turn .left)) (a .asked .now) (a .v) (a .part .now) (h .1 .1 .1 .0) _ _ half (h .1 .1 .1 .1 .0), search needs))))))
+
+search-join-requires : (t : ℕ) → search-lts.Need-join-requires (claims t) (search-at t) search′.Post
+search-join-requires t c κs =
+    let a = c .before .before .before .before .before .before .before .before .before .before .before .before .before .before .before .before .before .before .before .before .before .before .before .before .before .before .before .before .before .args in
+    let h = c .before .before .before .before .before .before .before .before .before .before .before .before .before .before .before .before .before .before .before .before .before .before .before .before .before .before .before .before .before .pre .1 in
+    let some = c .before .before .before .before .before .before .before .before .before .before .before .before .before .before .before .before .before .before .if3 .left in
+    let counts = join-counts (h .0) (h .1 .1 .0) some (a .sizes .branching - a .turn .left) (shift-is (h .1 .0) (a .turn .left)) (a .asked .now) (a .v) (a .part .now) (h .1 .1 .1 .0) _ _ (c .before .before .before .before .before .before .before .before .before .before .before .before .before .search .ensures) _ _ (c .before .before .before .before .before .search2 .ensures) (h .1 .1 .1 .1 .0) in
+    ((h .0 .some, h .0 .few, counts .0, counts .1, counts .2), join-room (h .0) (h .1 .1 .0) some (a .sizes .branching - a .turn .left) (shift-is (h .1 .0) (a .turn .left)) (a .asked .now) (a .v) (a .part .now) (h .1 .1 .1 .0) _ _ (c .before .before .before .before .before .before .before .before .before .before .before .before .before .search .ensures) _ _ (c .before .before .before .before .before .search2 .ensures) (search needs))
 
 search-same-length-3 : (t : ℕ) → search-lts.Need-same-length-3 (claims t) (search-at t) search′.Post
 search-same-length-3 t c = search needs
@@ -108,9 +113,10 @@ search-same-length-4 t c = search needs
 
 search-returns-4 : (t : ℕ) → search-lts.Need-returns-4 (claims t) (search-at t) search′.Post
 search-returns-4 t c =
-    let a = c .before .before .before .before .before .before .before .before .before .before .before .before .before .before .before .before .before .before .before .before .before .before .before .before .before .before .before .before .args in
-    let h = c .before .before .before .before .before .before .before .before .before .before .before .before .before .before .before .before .before .before .before .before .before .before .before .before .before .before .before .before .pre .1 in
-    both-halves (h .0) (h .1 .1 .0) (c .before .before .before .before .before .before .before .before .before .before .before .before .before .before .before .before .before .if3 .left) (a .sizes .branching - a .turn .left) (shift-is (h .1 .0) (a .turn .left)) (a .asked .now) (a .v) (a .part .now) _ _ (c .before .before .before .before .before .before .before .before .before .before .before .before .search .ensures) _ _ (c .before .before .before .before .search2 .ensures)
+    let a = c .before .before .before .before .before .before .before .before .before .before .before .before .before .before .before .before .before .before .before .before .before .before .before .before .before .before .before .before .before .before .before .before .args in
+    let h = c .before .before .before .before .before .before .before .before .before .before .before .before .before .before .before .before .before .before .before .before .before .before .before .before .before .before .before .before .before .before .before .before .pre .1 in
+    let some = c .before .before .before .before .before .before .before .before .before .before .before .before .before .before .before .before .before .before .before .before .before .if3 .left in
+    both-searched (h .0) (h .1 .1 .0) some (a .sizes .branching - a .turn .left) (shift-is (h .1 .0) (a .turn .left)) (a .asked .now) (a .v) (a .part .now) (h .1 .1 .1 .0) _ _ (c .before .before .before .before .before .before .before .before .before .before .before .before .before .before .before .before .search .ensures) _ _ (c .before .before .before .before .before .before .before .before .search2 .ensures) _ (c .before .before .join .ensures)
 
 pub +search-spec : {M : Type 1} → statement M
 +search-spec = close μ-search λ t. search-lts.spec (claims t)
@@ -127,10 +133,11 @@ pub +search-spec : {M : Type 1} → statement M
     (search-sub-bit t)
     (search-cast-bit t)
     (search-shl-bit t)
-    (search-sub-t22 t)
+    (search-sub-t24 t)
     (search-search-requires t)
-    (search-sub-t22-2 t)
+    (search-sub-t24-2 t)
     (search-search-requires-2 t)
+    (search-join-requires t)
     (search-same-length-3 t)
     (search-same-length-4 t)
     (search-returns-4 t)

@@ -6,7 +6,7 @@ use Rattle.rejecting.proofs.RejectingLaws.{rejecting-named}
 use Rattle.plan.specs.Plan.{planAtoms}
 use Rattle.leaf.specs.Found.{atSetting}
 use Rattle.leaf.proofs.ModelLaws.{atoms-low}
-use Rattle.search.proofs.StepLaws.{setting-rejects, setting-met, setting-empty}
+use Rattle.search.proofs.StepLaws.{setting-rejects, setting-met, setting-kept, setting-empty}
 use borrow.Author.Needs.{needs}
 use Rattle.search.proofs.visit_setting.Statement.{statement}
 use Rattle.search.proofs.visit_setting.Tie as tie
@@ -59,10 +59,10 @@ part-model-at-end c = search needs
 model-at-requires : tie.Need-model-at-requires
 model-at-requires c κs =
     let h = c .before .before .before .before .before .before .before .before .before .before .before .before .before .before .before .before .pre in
-    (h .0, (setting-rejects (h .0) (c .before .before .before .before .before .before .before .before .before .before .before .before .before .before .before .before .args .standing) _ (c .before .before .before .before .before .before .before .setting-of .ensures) (h .1 .0 .rejecting-masks) (c .before .before .before .before .reject-at .ensures), h .1 .1 .1))
+    (h .0, (setting-rejects (h .0) (c .before .before .before .before .before .before .before .before .before .before .before .before .before .before .before .before .args .standing) _ (c .before .before .before .before .before .before .before .setting-of .ensures) (h .1 .0 .rejecting-masks) (c .before .before .before .before .reject-at .ensures), h .1 .1 .1 .1))
 
 meet-requires : tie.Need-meet-requires
-meet-requires c κs = let h = c .before .before .before .before .before .before .before .before .before .before .before .before .before .before .before .before .before .before .before .before .before .before .pre in (h .0 .few, h .1 .1 .0 .0, h .1 .1 .0 .1, h .1 .1 .0 .2)
+meet-requires c κs = let a = c .before .before .before .before .before .before .before .before .before .before .before .before .before .before .before .before .before .before .before .before .before .before .args in let h = c .before .before .before .before .before .before .before .before .before .before .before .before .before .before .before .before .before .before .before .before .before .before .pre in (h .0 .few, setting-kept (a .asked .now) (a .sizes .n) _ (c .before .before .before .before .before .model-at .result .ok) _ (ap (λ (o : Interpretation). atSetting (tabled (a .book .now) (a .rows .now) (a .sizes .n)) (planAtoms (a .plan .now) (a .sizes .branching)) o) (sym (c .before .before .before .before .before .before .before .before .before .before .before .before .before .setting-of .ensures)) ∙ c .before .before .before .before .before .model-at .ensures) (c .before .if1 .taken) (a .v) (a .part .now) (h .1 .1 .0), h .1 .1 .1 .0 .0, h .1 .1 .1 .0 .1)
 
 same-length : tie.Need-same-length
 same-length c = search needs
@@ -73,7 +73,7 @@ same-length-2 c = search needs
 returns : tie.Need-returns
 returns c =
     let a = c .before .before .before .before .before .before .before .before .before .before .before .before .before .before .before .before .before .before .before .before .before .before .before .before .before .args in
-    setting-met (a .asked .now) (a .sizes .n) _ (c .before .before .before .before .before .before .before .before .model-at .result .ok) _ (ap (λ (o : Interpretation). atSetting (tabled (a .book .now) (a .rows .now) (a .sizes .n)) (planAtoms (a .plan .now) (a .sizes .branching)) o) (sym (c .before .before .before .before .before .before .before .before .before .before .before .before .before .before .before .before .setting-of .ensures)) ∙ c .before .before .before .before .before .before .before .before .model-at .ensures) (c .before .before .before .before .if1 .taken) (a .v) (a .part .now) _ _ (c .before .before .meet .ensures)
+    setting-met (a .asked .now) (a .sizes .n) _ (c .before .before .before .before .before .before .before .before .model-at .result .ok) _ (ap (λ (o : Interpretation). atSetting (tabled (a .book .now) (a .rows .now) (a .sizes .n)) (planAtoms (a .plan .now) (a .sizes .branching)) o) (sym (c .before .before .before .before .before .before .before .before .before .before .before .before .before .before .before .before .setting-of .ensures)) ∙ c .before .before .before .before .before .before .before .before .model-at .ensures) (c .before .before .before .before .if1 .taken) (a .v) (a .part .now) _ _ (c .before .before .before .before .before .before .before .before .before .before .before .before .before .before .before .before .before .before .before .before .before .before .before .before .before .pre .1 .1 .1 .0 .1) (c .before .before .meet .ensures)
 
 same-length-3 : tie.Need-same-length-3
 same-length-3 c = search needs

@@ -1,0 +1,291 @@
+-- What each goal writes of models: nothing for none, a record or sums for one (`keep`), and for two runs of models what it writes for
+-- both together (`join`). Assumes nothing.
+use mathlib.Core.Path.{_≡_, refl, sym, ap, ap₂, subst, _∙_}
+use mathlib.Core.Logic.{_⊎_, inl, inr}
+use mathlib.Core.List.{List, [], _∷_, _++_, map, append-assoc, append-nil, List·Memᴰ·not-nil, List·Memᴰ·cases-cons}
+use Prim.Native.Nat.{ℕ, zero, suc, _+_, _-_, _*_, _≤_, _<_}
+use native.Mathlib.Nat.{mul-le-mul, mul-le-mul-right}
+use native.Mathlib.Omega.{arith}
+use borrow.Rule.Slice.PartMut.{putMid}
+use lib.ListN.{length, take, drop, length-drop, length-append, take-append-drop}
+use lib.Seq.{length-take-le, take-at, drop-at, drop-drop, drop-append-add}
+use Rattle.base.specs.Bounds.{maxAtoms, maxRecord}
+use Rattle.base.specs.Lists.{flat}
+use Rattle.base.proofs.Members.{_∈_}
+use Rattle.insertion.specs.Sorted.{insertBy, insertAll, Up}
+use Rattle.insertion.specs.Runs.{bytesBefore, Wide}
+use Rattle.insertion.proofs.ByteOrder.{bytes-le-lt, bytes-asym}
+use Rattle.insertion.proofs.SortedLaws.{insertAll-map, insertAll-keeps-up}
+use Rattle.merging.specs.Merging.{TwoRuns, Merged}
+use Rattle.merging.proofs.HalvesLaws.{merged-records}
+use Rattle.models.specs.StableModels.{Interpretation}
+use Rattle.models.specs.Listing.{recordSize, recordOf}
+use Rattle.models.proofs.RecordLaws.{record-length, records-length}
+use Rattle.records.specs.Written.{sorted, addedTo, summed}
+use Rattle.records.proofs.OrderLaws.{sorted-length}
+use Rattle.search.specs.declared.Goal.{Goal}
+use Rattle.search.specs.declared.Goal.the-variants as goals
+use Rattle.search.specs.Visits.{rising, firstKept, keptBy, RoomFor, Joins}
+
+-- ---- the room that a goal needs
+-- less room for fewer models, and as much in a part of the same length
+pub room-less : (goal : Goal) (n a b : ℕ) (part : List ℕ) → a ≤ b → RoomFor goal n b part → RoomFor goal n a part
+unfolding RoomFor
+room-less goals.List n a b part h r = let q : a * recordSize n ≤ b * recordSize n = mul-le-mul-right (recordSize n) h in omega (arith, q, r)
+room-less (goals.Count most) n a b part h r = tt
+room-less goals.First n a b part h r = r
+room-less goals.Settle n a b part h r = tt
+room-less goals.Sums n a b part h r = r
+
+pub room-same : (goal : Goal) (n a : ℕ) (part part′ : List ℕ) → length part′ ≡ length part → RoomFor goal n a part → RoomFor goal n a part′
+unfolding RoomFor
+room-same goals.List n a part part′ e r = omega (arith, e, r)
+room-same (goals.Count most) n a part part′ e r = tt
+room-same goals.First n a part part′ e r = omega (arith, e, r)
+room-same goals.Settle n a part part′ e r = tt
+room-same goals.Sums n a part part′ e r = omega (arith, e, r)
+
+-- a record's place, and the bytes of as many records as there may be, in numbers that fit
+pub times-fit : (count w : ℕ) → count ≤ 4294967296 → w ≤ maxRecord → count * w ≤ 4294967296 * maxRecord
+times-fit count w h b = mul-le-mul h b
+
+module _ (goal : Goal) (n count : ℕ) where
+  pub place-fits : (w : ℕ) (part : List ℕ) → goal ≡ goals.List → w ≡ recordSize n → RoomFor goal n (count + 1) part → count * w + recordSize n ≤ length part
+  unfolding RoomFor
+  place-fits w part e ew r =
+      let q : (count + 1) * recordSize n ≤ length part = subst (λ (g : Goal). RoomFor g n (count + 1) part) e r in
+      let z : (count + 1) * recordSize n ≡ count * recordSize n + recordSize n = omega arith in
+      omega (arith, q, z, ap (λ (k : ℕ). count * k) ew)
+
+  pub front-fits : (part : List ℕ) → goal ≡ goals.First → RoomFor goal n (count + 1) part → 0 + recordSize n ≤ length part
+  unfolding RoomFor
+  front-fits part e r = let q : recordSize n ≤ length part = subst (λ (g : Goal). RoomFor g n (count + 1) part) e r in omega (arith, q)
+
+  pub sums-fit : (s : Interpretation) (part : List ℕ) → goal ≡ goals.Sums → length s ≡ maxAtoms → n ≤ maxAtoms → RoomFor goal n (count + 1) part
+      → (length (take (n - 0) (drop 0 s)) ≤ maxAtoms) × (4 * length (take (n - 0) (drop 0 s)) ≤ length part)
+  unfolding RoomFor
+  sums-fit s part e l h r =
+      let q : 4 * n ≤ length part = subst (λ (g : Goal). RoomFor g n (count + 1) part) e r in
+      let k : length (take (n - 0) (drop 0 s)) ≡ n - 0 = length-take-le (n - 0) s (omega arith) in
+      (omega (arith, k), omega (arith, k, q))
+
+-- the sums as the code adds them, from the first n facts
+pub sums-of : (n : ℕ) (s : Interpretation) (part : List ℕ) → length s ≡ maxAtoms → n ≤ maxAtoms
+    → addedTo (length (take (n - 0) (drop 0 s))) part (take (n - 0) (drop 0 s)) ≡ addedTo n part (take n s)
+sums-of n s part l h =
+    let z : n - 0 ≡ n = omega arith in
+    let k : length (take n s) ≡ n = length-take-le n s (omega arith) in
+    rw (z, k) refl
+
+-- ---- no model
+pub kept-none : (goal : Goal) (n count : ℕ) (part : List ℕ) → keptBy goal n count [] part ≡ part
+unfolding keptBy sorted insertAll flat firstKept summed
+kept-none goals.List n count part = let z : count + 0 ≡ count = omega arith in rw z (take-append-drop (count * recordSize n) part)
+kept-none (goals.Count most) n count part = refl
+kept-none goals.First n zero part = refl
+kept-none goals.First n (suc count) part = refl
+kept-none goals.Settle n count part = refl
+kept-none goals.Sums n count part = refl
+
+-- ---- one model
+module _ (goal : Goal) (n count : ℕ) (m : Interpretation) (part : List ℕ) where
+  pub keep-listed : goal ≡ goals.List → (w : ℕ) → w ≡ recordSize n → (new : List ℕ) → new ≡ take (count * w) part ++ (recordOf n m ++ drop (count * w + recordSize n) part)
+      → new ≡ keptBy goal n count (m ∷ []) part
+  unfolding keptBy sorted insertAll insertBy flat
+  keep-listed e w ew new f =
+      let z : (count + 1) * recordSize n ≡ count * recordSize n + recordSize n = omega arith in
+      f ∙ rw (e, ew, z, append-nil (recordOf n m)) refl
+
+  pub keep-first : goal ≡ goals.First → count ≡ 0 → (new : List ℕ) → new ≡ take 0 part ++ (recordOf n m ++ drop (0 + recordSize n) part) → new ≡ keptBy goal n count (m ∷ []) part
+  unfolding keptBy firstKept
+  keep-first e z new f = let y : 0 + recordSize n ≡ recordSize n = omega arith in f ∙ rw (e, z, y) refl
+
+  pub keep-later : goal ≡ goals.First → (count ≡ 0 → ⊥) → part ≡ keptBy goal n count (m ∷ []) part
+  unfolding keptBy firstKept
+  keep-later e h = rw e (go count h)
+    where
+      go : (k : ℕ) → (k ≡ 0 → ⊥) → part ≡ firstKept n k (m ∷ []) part
+      go zero h = absurd (h refl)
+      go (suc k) h = refl
+
+  pub keep-count : (most : ℕ) → goal ≡ goals.Count most → part ≡ keptBy goal n count (m ∷ []) part
+  unfolding keptBy
+  keep-count most e = rw e refl
+
+  pub keep-settle : goal ≡ goals.Settle → part ≡ keptBy goal n count (m ∷ []) part
+  unfolding keptBy
+  keep-settle e = rw e refl
+
+  pub keep-sums : goal ≡ goals.Sums → (new : List ℕ) → new ≡ addedTo n part m → new ≡ keptBy goal n count (m ∷ []) part
+  unfolding keptBy summed
+  keep-sums e new f = f ∙ rw e refl
+
+-- ---- two runs of models
+first-append : (n count : ℕ) (xs ys : List Interpretation) (part : List ℕ) → firstKept n (count + length xs) ys (firstKept n count xs part) ≡ firstKept n count (xs ++ ys) part
+unfolding firstKept
+first-append n zero [] ys part = refl
+first-append n zero (x ∷ xs) ys part = let z : 0 + suc (length xs) ≡ suc (length xs) = omega arith in rw z refl
+first-append n (suc count) xs ys part = let z : suc count + length xs ≡ suc (count + length xs) = omega arith in rw z refl
+
+sums-append : (n : ℕ) (xs ys : List Interpretation) (part : List ℕ) → summed n (summed n part xs) ys ≡ summed n part (xs ++ ys)
+unfolding summed
+sums-append n [] ys part = refl
+sums-append n (x ∷ xs) ys part = sums-append n xs ys (addedTo n part x)
+
+module _ (goal : Goal) (n from mid end : ℕ) (part : List ℕ) where
+  pub joins-count : (most : ℕ) → goal ≡ goals.Count most → Joins goal n from mid end part part
+  unfolding keptBy
+  joins-count most e old xs ys room em ee f = f ∙ rw e refl
+
+  pub joins-first : goal ≡ goals.First → Joins goal n from mid end part part
+  unfolding keptBy
+  joins-first e old xs ys room em ee f = f ∙ rw (e, em) (first-append n from xs ys old)
+
+  pub joins-settle : goal ≡ goals.Settle → Joins goal n from mid end part part
+  unfolding keptBy
+  joins-settle e old xs ys room em ee f = f ∙ rw e refl
+
+  pub joins-sums : goal ≡ goals.Sums → Joins goal n from mid end part part
+  unfolding keptBy
+  joins-sums e old xs ys room em ee f = f ∙ rw e (sums-append n xs ys old)
+
+-- ---- two runs of records
+records-wide : (n : ℕ) (ms : List Interpretation) → Wide (recordSize n) (map (recordOf n) ms)
+records-wide n [] r k = absurd (List·Memᴰ·not-nil k)
+records-wide n (m ∷ ms) r k = go (records-wide n ms r) (List·Memᴰ·cases-cons k)
+  where
+    go : (r ∈ map (recordOf n) ms → length r ≡ recordSize n) → (r ≡ recordOf n m) ⊎ r ∈ map (recordOf n) ms → length r ≡ recordSize n
+    go f (inl e) = ap length e ∙ record-length n m
+    go f (inr j) = f j
+
+map-append : {A B : Type 0} (f : A → B) (xs ys : List A) → map f (xs ++ ys) ≡ map f xs ++ map f ys
+map-append f [] ys = refl
+map-append f (x ∷ xs) ys = ap (λ (l : List _). f x ∷ l) (map-append f xs ys)
+
+module _ (n : ℕ) where
+  as-inserted : (ms : List Interpretation) → map (recordOf n) (sorted n ms) ≡ insertAll bytesBefore (map (recordOf n) ms) []
+  unfolding sorted
+  as-inserted ms = insertAll-map (recordOf n) bytesBefore ms []
+
+  sorted-up : (ms : List Interpretation) → Up bytesBefore (map (recordOf n) (sorted n ms))
+  sorted-up ms = subst (λ (l : List (List ℕ)). Up bytesBefore l) (sym (as-inserted ms)) (insertAll-keeps-up bytesBefore bytes-le-lt bytes-asym (map (recordOf n) ms) [] tt)
+
+  rising-length : (ms : List Interpretation) → length (rising n ms) ≡ length ms * recordSize n
+  rising-length ms = records-length n (sorted n ms) ∙ ap (λ (k : ℕ). k * recordSize n) (sorted-length n ms)
+
+  -- the records of the one among those of the other, rising
+  rising-both : (xs ys : List Interpretation) → flat (insertAll bytesBefore (map (recordOf n) (sorted n ys)) (map (recordOf n) (sorted n xs))) ≡ rising n (xs ++ ys)
+  rising-both xs ys =
+      ap flat (ap₂ (insertAll bytesBefore) (as-inserted ys) (as-inserted xs) ∙ merged-records (map (recordOf n) xs) (map (recordOf n) ys)
+      ∙ ap (λ (l : List (List ℕ)). insertAll bytesBefore l []) (sym (map-append (recordOf n) xs ys)) ∙ sym (as-inserted (xs ++ ys)))
+
+  module _ (from mid end : ℕ) (old : List ℕ) (xs ys : List Interpretation) (room : end * recordSize n ≤ length old) (em : mid ≡ from + length xs) (ee : end ≡ mid + length ys) where
+    abbrev w : ℕ
+    w = recordSize n
+
+    mid-at : mid * w ≡ from * w + length xs * w
+    mid-at = ap (λ (k : ℕ). k * w) em ∙ omega arith
+
+    end-at : end * w ≡ mid * w + length ys * w
+    end-at = ap (λ (k : ℕ). k * w) ee ∙ omega arith
+
+    abbrev A : List ℕ
+    A = take (from * w) old
+
+    abbrev X : List ℕ
+    X = rising n xs
+
+    abbrev Y : List ℕ
+    Y = rising n ys
+
+    abbrev Z : List ℕ
+    Z = drop (end * w) old
+
+    A-length : length A ≡ from * w
+    A-length = length-take-le (from * w) old (omega (arith, mid-at, end-at))
+
+    front-length : length (A ++ X) ≡ mid * w
+    front-length = length-append A X ∙ omega (arith, A-length, rising-length xs, mid-at)
+
+    abbrev once : List ℕ
+    once = take (from * w) old ++ (rising n xs ++ drop ((from + length xs) * w) old)
+
+    once-is : once ≡ (A ++ X) ++ drop (mid * w) old
+    once-is = ap (λ (k : ℕ). take (from * w) old ++ (rising n xs ++ drop (k * w) old)) (sym em) ∙ sym (append-assoc A X (drop (mid * w) old))
+
+    rest-is : drop ((mid + length ys) * w) once ≡ Z
+    rest-is =
+        let e : (mid + length ys) * w ≡ length (A ++ X) + length ys * w = omega (arith, front-length) in
+        ap₂ drop e once-is ∙ drop-append-add (A ++ X) (drop (mid * w) old) (length ys * w) ∙ drop-drop (length ys * w) (mid * w) old
+        ∙ ap (λ (k : ℕ). drop k old) (sym end-at)
+
+    -- the two runs one behind the other
+    twice-is : take (mid * w) once ++ (Y ++ drop ((mid + length ys) * w) once) ≡ A ++ ((X ++ Y) ++ Z)
+    twice-is =
+        ap₂ (λ (a b : List ℕ). a ++ (Y ++ b)) (ap (take (mid * w)) once-is ∙ take-at (A ++ X) (drop (mid * w) old) (mid * w) front-length) rest-is
+        ∙ append-assoc A X (Y ++ Z) ∙ ap (λ (l : List ℕ). A ++ l) (sym (append-assoc X Y Z))
+
+    module _ (part : List ℕ) (f : part ≡ take (mid * w) once ++ (Y ++ drop ((mid + length ys) * w) once)) where
+      part-is : part ≡ A ++ ((X ++ Y) ++ Z)
+      part-is = f ∙ twice-is
+
+      both-length : length (X ++ Y) ≡ end * w - from * w
+      both-length = length-append X Y ∙ omega (arith, rising-length xs, rising-length ys, mid-at, end-at)
+
+      behind : drop (from * w) part ≡ (X ++ Y) ++ Z
+      behind = ap (drop (from * w)) part-is ∙ drop-at A ((X ++ Y) ++ Z) (from * w) A-length
+
+      lent-is : take (end * w - from * w) (drop (from * w) part) ≡ X ++ Y
+      lent-is = ap (take (end * w - from * w)) behind ∙ take-at (X ++ Y) Z (end * w - from * w) both-length
+
+      first-length : length X ≡ (mid - from) * w
+      first-length = rising-length xs ∙ ap (λ (k : ℕ). k * w) (let q : length xs ≡ mid - from = omega (arith, em) in q)
+
+      merged-is : (new : List ℕ) → Merged w ((mid - from) * w) (take (end * w - from * w) (drop (from * w) part)) new → new ≡ rising n (xs ++ ys)
+      merged-is new g =
+          g .held (map (recordOf n) (sorted n xs)) (map (recordOf n) (sorted n ys)) (records-wide n (sorted n xs)) (records-wide n (sorted n ys)) (sorted-up xs) (sorted-up ys)
+          (ap (take ((mid - from) * w)) lent-is ∙ take-at X Y ((mid - from) * w) first-length) (ap (drop ((mid - from) * w)) lent-is ∙ drop-at X Y ((mid - from) * w) first-length)
+          ∙ rising-both xs ys
+
+      pub runs-merged : (new : List ℕ) → Merged w ((mid - from) * w) (take (end * w - from * w) (drop (from * w) part)) new
+          → putMid (from * w) (end * w - from * w) part new ≡ take (from * w) old ++ (rising n (xs ++ ys) ++ drop ((from + length (xs ++ ys)) * w) old)
+      runs-merged new g =
+          let z : end ≡ from + length (xs ++ ys) = omega (arith, em, ee, length-append xs ys) in
+          ap₂ (λ (a b : List ℕ). a ++ (new ++ b)) (ap (take (from * w)) part-is ∙ take-at A ((X ++ Y) ++ Z) (from * w) A-length)
+          (ap (drop (end * w - from * w)) behind ∙ drop-at (X ++ Y) Z (end * w - from * w) both-length)
+          ∙ ap₂ (λ (l : List ℕ) (k : ℕ). A ++ (l ++ drop (k * w) old)) (merged-is new g) z
+
+times-minus : (a b w : ℕ) → a ≤ b → b * w - a * w ≡ (b - a) * w
+times-minus a b w h =
+    let e : b ≡ a + (b - a) = omega arith in
+    let q : b * w ≡ a * w + (b - a) * w = ap (λ (k : ℕ). k * w) e ∙ omega arith in
+    omega (arith, q)
+
+-- what the recursion lends to the merge
+module _ (goal : Goal) (n from mid end w : ℕ) (part : List ℕ) (is : goal ≡ goals.List) (ew : w ≡ recordSize n) (hm : from ≤ mid) (he : mid ≤ end) (room : RoomFor goal n end part) where
+  list-room : end * recordSize n ≤ length part
+  unfolding RoomFor
+  list-room = subst (λ (g : Goal). RoomFor g n end part) is room
+
+  pub end-fits : end * w ≤ length part
+  end-fits = rw ew list-room
+
+  pub start-fits : from * w ≤ end * w
+  start-fits = mul-le-mul-right w (let q : from ≤ end = omega arith in q)
+
+  pub lent-runs : 0 < n → TwoRuns w ((mid - from) * w) (take (end * w - from * w) (drop (from * w) part))
+  unfolding recordSize
+  lent-runs some =
+      let size : length (take (end * w - from * w) (drop (from * w) part)) ≡ end * w - from * w = length-take-le (end * w - from * w) (drop (from * w) part) (omega (arith, end-fits, length-drop (from * w) part)) in
+      let whole : end * w - from * w ≡ (end - from) * w = times-minus from end w (omega arith) in
+      let less : (mid - from) * w ≤ (end - from) * w = mul-le-mul-right w (let q : mid - from ≤ end - from = omega arith in q) in
+      record {
+        some = omega (arith, ew);
+        fits = omega (arith, size, whole, less);
+        first = record { times = mid - from; eq = refl };
+        all = record { times = end - from; eq = size ∙ whole };
+      }
+
+  pub joins-listed : (new : List ℕ) → Merged w ((mid - from) * w) (take (end * w - from * w) (drop (from * w) part)) new → Joins goal n from mid end part (putMid (from * w) (end * w - from * w) part new)
+  unfolding keptBy RoomFor
+  joins-listed new g old xs ys r em ee f = rw (is, ew) (runs-merged n from mid end old xs ys (subst (λ (q : Goal). RoomFor q n end old) is r) em ee part (rw is at f) new (rw ew at g))

@@ -1,0 +1,92 @@
+-- One law a goal; where records are listed, the two runs are merged (`joins-listed`).
+use Prim.Native.Nat.{_-_}
+use Rattle.search.proofs.KeptLaws.{times-fit, start-fits, end-fits, lent-runs, joins-listed, joins-count, joins-first, joins-settle, joins-sums}
+use native.Mathlib.Omega.{arith}
+use borrow.Author.Needs.{needs}
+use Rattle.search.proofs.join.Statement.{statement}
+use Rattle.search.proofs.join.Tie as tie
+
+enum-told : tie.Need-enum-told
+enum-told c = search needs
+
+record-size-requires : tie.Need-record-size-requires
+record-size-requires c κs = search needs
+
+mul-start : tie.Need-mul-start
+mul-start c = let a = c .before .before .before .before .args in let w = c .record-size in omega (arith, times-fit (a .from) (w .result) (omega (arith, c .before .before .before .before .pre .0 .2, c .before .before .before .before .pre .0 .3, c .before .before .before .before .pre .0 .4)) (w .ensures .1))
+
+mul-stop : tie.Need-mul-stop
+mul-stop c = let a = c .before .before .before .before .args in let w = c .record-size in omega (arith, times-fit (a .end) (w .result) (c .before .before .before .before .pre .0 .4) (w .ensures .1))
+
+sub-merge : tie.Need-sub-merge
+sub-merge c = let a = c .before .before .before .before .args in let w = c .record-size in start-fits (a .goal) (a .n) (a .from) (a .mid) (a .end) (w .result) (a .part .now) (c .before .enum-told .given .1) (w .ensures .0) (c .before .before .before .before .pre .0 .2) (c .before .before .before .before .pre .0 .3) (c .before .before .before .before .pre .1)
+
+part-merge-start : tie.Need-part-merge-start
+part-merge-start c = let a = c .before .before .before .before .args in let w = c .record-size in start-fits (a .goal) (a .n) (a .from) (a .mid) (a .end) (w .result) (a .part .now) (c .before .enum-told .given .1) (w .ensures .0) (c .before .before .before .before .pre .0 .2) (c .before .before .before .before .pre .0 .3) (c .before .before .before .before .pre .1)
+
+part-merge-end : tie.Need-part-merge-end
+part-merge-end c = let a = c .before .before .before .before .args in let w = c .record-size in end-fits (a .goal) (a .n) (a .from) (a .mid) (a .end) (w .result) (a .part .now) (c .before .enum-told .given .1) (w .ensures .0) (c .before .before .before .before .pre .0 .2) (c .before .before .before .before .pre .0 .3) (c .before .before .before .before .pre .1)
+
+sub-merge-2 : tie.Need-sub-merge-2
+sub-merge-2 c = search needs
+
+mul-merge : tie.Need-mul-merge
+mul-merge c = let a = c .before .before .before .before .before .args in let w = c .before .record-size in omega (arith, times-fit (a .mid - a .from) (w .result) (omega (arith, c .before .before .before .before .before .pre .0 .2, c .before .before .before .before .before .pre .0 .3, c .before .before .before .before .before .pre .0 .4)) (w .ensures .1))
+
+merge-requires : tie.Need-merge-requires
+merge-requires c κs = let a = c .before .before .before .before .before .args in let w = c .before .record-size in lent-runs (a .goal) (a .n) (a .from) (a .mid) (a .end) (w .result) (a .part .now) (c .before .before .enum-told .given .1) (w .ensures .0) (c .before .before .before .before .before .pre .0 .2) (c .before .before .before .before .before .pre .0 .3) (c .before .before .before .before .before .pre .1) (c .before .before .before .before .before .pre .0 .0)
+
+enum-known-goal : tie.Need-enum-known-goal
+enum-known-goal c = search needs
+
+enum-told-2 : tie.Need-enum-told-2
+enum-told-2 c = search needs
+
+enum-told-3 : tie.Need-enum-told-3
+enum-told-3 c = search needs
+
+enum-told-4 : tie.Need-enum-told-4
+enum-told-4 c = search needs
+
+same-length : tie.Need-same-length
+same-length c = search needs
+
+returns : tie.Need-returns
+returns c = let a = c .before .before .before .before .before .before .before .before .args in let w = c .before .before .before .before .record-size in joins-listed (a .goal) (a .n) (a .from) (a .mid) (a .end) (w .result) (a .part .now) (c .before .before .before .before .before .enum-told .given .1) (w .ensures .0) (c .before .before .before .before .before .before .before .before .pre .0 .2) (c .before .before .before .before .before .before .before .before .pre .0 .3) (c .before .before .before .before .before .before .before .before .pre .1) _ (c .before .before .merge .ensures)
+
+returns-2 : tie.Need-returns-2
+returns-2 c = let a = c .before .before .before .before .args in joins-count (a .goal) (a .n) (a .from) (a .mid) (a .end) (a .part .now) _ (c .before .goal .given .1)
+
+returns-3 : tie.Need-returns-3
+returns-3 c = let a = c .before .before .before .args in joins-first (a .goal) (a .n) (a .from) (a .mid) (a .end) (a .part .now) (c .enum-told2 .given .1)
+
+returns-4 : tie.Need-returns-4
+returns-4 c = let a = c .before .before .before .args in joins-settle (a .goal) (a .n) (a .from) (a .mid) (a .end) (a .part .now) (c .enum-told3 .given .1)
+
+returns-5 : tie.Need-returns-5
+returns-5 c = let a = c .before .before .before .args in joins-sums (a .goal) (a .n) (a .from) (a .mid) (a .end) (a .part .now) (c .enum-told4 .given .1)
+
+pub join-spec : {M : Type 1} → statement M
+join-spec =
+    tie.close
+    (tie.spec
+    enum-told
+    record-size-requires
+    mul-start
+    mul-stop
+    sub-merge
+    part-merge-start
+    part-merge-end
+    sub-merge-2
+    mul-merge
+    merge-requires
+    enum-known-goal
+    enum-told-2
+    enum-told-3
+    enum-told-4
+    same-length
+    returns
+    returns-2
+    returns-3
+    returns-4
+    returns-5)
