@@ -69,9 +69,9 @@ enum lesson_cause_number {
 enum lesson_stack_bytes {
     LESSON_CHECK_STACK = 1024,
     LESSON_TEST_STACK = 30720,
-    LESSON_LIST_STACK = 78848,
-    LESSON_ONE_STACK = 78848,
-    LESSON_PLACE_STACK = 78848
+    LESSON_LIST_STACK = 79872,
+    LESSON_ONE_STACK = 79872,
+    LESSON_PLACE_STACK = 79872
 };
 
 /* The cause that an answer names; LESSON_GRANTED where there is none. */
