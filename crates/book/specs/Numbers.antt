@@ -1,7 +1,7 @@
--- Document 01's number of each cause. Assumes nothing.
+-- The number of each cause: document 01's, and 19 of document 02, (h). Assumes nothing.
 use Prim.Native.Nat.{ℕ}
 use Rattle.book.specs.declared.Cause.{Cause}
-use Rattle.book.specs.declared.Cause.the-variants.{TooShort, WrongVersion, WrongLength, BrokenSection, OutOfRange, BadRecord, RepeatedArrow, Cycle, NoSuchLayer, BadCandidate, NoSuchFact, TooManyBranching, BufferTooShort, NoStableState}
+use Rattle.book.specs.declared.Cause.the-variants.{TooShort, WrongVersion, WrongLength, BrokenSection, OutOfRange, BadRecord, RepeatedArrow, Cycle, NoSuchLayer, NoSuchLayerOff, BadCandidate, NoSuchFact, TooManyBranching, BufferTooShort, NoStableState}
 
 abbrev pub numberOf : Cause → ℕ
 numberOf TooShort = 1
@@ -13,6 +13,7 @@ numberOf BadRecord = 6
 numberOf RepeatedArrow = 7
 numberOf Cycle = 8
 numberOf NoSuchLayer = 9
+numberOf NoSuchLayerOff = 19
 numberOf BadCandidate = 10
 numberOf NoSuchFact = 11
 numberOf TooManyBranching = 12

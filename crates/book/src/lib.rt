@@ -26,7 +26,7 @@ use format::broken_section;
 use format::literal_value;
 use format::record_end;
 
-// The causes of document 01, in the order of test; specs/Numbers.antt has their numbers.
+// The causes of documents 01 and 02, in the order of test; specs/Numbers.antt has their numbers.
 pub enum Cause {
     TooShort,
     WrongVersion,
@@ -37,6 +37,7 @@ pub enum Cause {
     RepeatedArrow,
     Cycle,
     NoSuchLayer,
+    NoSuchLayerOff,
     BadCandidate,
     NoSuchFact,
     TooManyBranching,
@@ -49,7 +50,7 @@ pub enum Verdict {
     Refused(Cause),
 }
 
-// Document 01's number of a cause.
+// The number of a cause.
 pub fn cause_number(c: Cause) -> u64
     ensures { λ r. ⌜ r ≡ numberOf c ⌝ }
 {
@@ -63,6 +64,7 @@ pub fn cause_number(c: Cause) -> u64
         Cause::RepeatedArrow => 7,
         Cause::Cycle => 8,
         Cause::NoSuchLayer => 9,
+        Cause::NoSuchLayerOff => 19,
         Cause::BadCandidate => 10,
         Cause::NoSuchFact => 11,
         Cause::TooManyBranching => 12,

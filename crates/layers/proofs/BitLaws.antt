@@ -1,16 +1,16 @@
--- Masks bit by bit: the bits of a power of two, of two masks joined, of what they share and of nothing, and one more bit in a list of
--- masks. Used by the closure and by every crate that keeps masks. Assumes nothing.
+-- Masks bit by bit: the bits of a power of two, of two masks joined, of what they share, of the first without the second and of
+-- nothing, and one more bit in a list of masks. Used by the closure and by every crate that keeps masks. Assumes nothing.
 use mathlib.Core.Path.{_≡_, refl, sym, ap, subst, _∙_}
 use mathlib.Core.Bool.{Bool, true, false, _&&_, _||_, false≢true}
 use mathlib.Core.Logic.{_⊎_, inl, inr}
 use mathlib.Core.List.{List}
-use Prim.Native.Nat.{ℕ, zero, suc, _+_, _*_, _-_, _/_, _%_, _^_, _<_, min, max}
+use Prim.Native.Nat.{ℕ, zero, suc, _+_, _*_, _-_, _/_, _%_, _^_, _<_, _≤_, min, max}
 use native.Mathlib.Omega.{arith}
 use native.Mathlib.Nat.{zero-div, div-one, div-eq-of-lt, div-self, div-div-eq-div-mul, mod-eq-of-lt, mul-comm, mul-div-cancel, pow-suc}
 use native.Mathlib.Decide.{decLt, ℕ-discrete}
 use borrow.Author.Tests.{eq-eqb, ne-eqb}
 use lib.Pow.{pow-pos, pow-lt, pow-add}
-use lib.Bits.{bitOr, bitAnd, or-step, or-shr, and-step, and-shr}
+use lib.Bits.{differ, bitOr, bitAnd, bitXor, xor-step, xor-shr, or-step, or-shr, and-step, and-shr}
 use lib.Dec.{eqb}
 use lib.ListN.{length, getD, set, replicate}
 use lib.Seq.{getD-set-same, getD-set-other}
@@ -71,6 +71,11 @@ bit-other j y n = go (decLt j y)
 pub bit-or : (a b j : ℕ) → bitOf (bitOr a b) j ≡ max (bitOf a j) (bitOf b j)
 bit-or a b j = rw (or-shr a b j) (omega (arith, or-step (a / 2 ^ j) (b / 2 ^ j)))
 
+differ-minus : (x y : ℕ) → y ≤ x → differ x y ≡ x - y
+differ-minus zero y h = omega arith
+differ-minus (suc x) zero h = omega arith
+differ-minus (suc x) (suc y) h = differ-minus x y (omega arith) ∙ omega arith
+
 module _ (a b i : ℕ) where
   pub or-cases : bitOf (bitOr a b) i ≡ 1 → (bitOf a i ≡ 1) ⊎ (bitOf b i ≡ 1)
   or-cases e = go (ℕ-discrete (bitOf a i) 1)
@@ -93,6 +98,12 @@ module _ (a b i : ℕ) where
 
   pub and-second : bitOf (bitAnd a b) i ≡ 1 → bitOf b i ≡ 1
   and-second e = omega (arith, bit-and, bit-small a i, bit-small b i)
+
+  -- of the first, what the second lacks
+  pub without : bitOf (bitXor a (bitAnd a b)) i ≡ bitOf a i - bitOf b i
+  without =
+      let q : differ (bitOf a i) (bitOf (bitAnd a b) i) ≡ bitOf a i - bitOf (bitAnd a b) i = differ-minus (bitOf a i) (bitOf (bitAnd a b) i) (omega (arith, bit-and)) in
+      rw (xor-shr a (bitAnd a b) i) (omega (arith, xor-step (a / 2 ^ i) (bitAnd a b / 2 ^ i), q, bit-and, bit-small a i, bit-small b i))
 
   pub and-both : bitOf a i ≡ 1 → bitOf b i ≡ 1 → bitOf (bitAnd a b) i ≡ 1
   and-both e f = omega (arith, bit-and)

@@ -17,7 +17,7 @@ use Rattle.models.proofs.LeastLaws.{stable-sound, stable-complete}
 use Rattle.models.proofs.InterpretationLaws.{agree-same}
 use Rattle.base.proofs.Members.{_∈_, any-at, any-of, same-test}
 
-filter-same : {A : Type 0} (p q : A → Bool) → ((x : A) → p x ≡ q x) → (xs : List A) → filter p xs ≡ filter q xs
+pub filter-same : {A : Type 0} (p q : A → Bool) → ((x : A) → p x ≡ q x) → (xs : List A) → filter p xs ≡ filter q xs
 unfolding filter
 filter-same p q h [] = refl
 filter-same {A} p q h (x ∷ xs) = ap₂ (λ (c : Bool) (ys : List A). consIf c x ys) (h x) (filter-same p q h xs)

@@ -8,3 +8,4 @@ pub mod LeafLaws
 pub mod ListingLaws
 pub mod ExampleLaws
 pub mod AlikeLaws
+pub mod SwitchedOffLaws

@@ -8,7 +8,7 @@ use Rattle.base.specs.Lists.{consIf, all, any, filter, flat, upTo}
 use Rattle.base.specs.Closure.{member, fires, extend, saturate, closure}
 use Rattle.layers.specs.Layers.{backwards, layersBelow, below}
 use Rattle.format.specs.Book.{u16At, u32At, recordsIn, records, sectionBytes, sectionEnd, sectionRecords, literalOf, literalsOf, arrowOf, ruleOf, atomCount, layerCount, ruleSection, arrowRecords, ruleRecords, arrowsOf, rulesOf, bookOf}
-use Rattle.models.specs.Program.{Program, relevant, programAt}
+use Rattle.models.specs.Program.{Program, inSet, relevant, programAt}
 use Rattle.models.specs.StableModels.{atomHolds, complement, sameLiteral, signed, holds, bodyHolds, clauseOf, overrides, rejected, default, defaults, activeRules, least, agreesAt, stable}
 use Rattle.models.specs.Branching.{canReject, branching, branchingAtoms, branchingCount}
 use Rattle.models.specs.Listing.{interpretations, stableModels, bitValue, bitsValue, packed, be16, be32, recordSize, recordOf, listingOf, listing}
@@ -111,14 +111,14 @@ sameBytes [] (y ∷ ys) = false
 sameBytes (x ∷ xs) [] = false
 sameBytes (x ∷ xs) (y ∷ ys) = let rest : Bool = sameBytes xs ys in eqb x y && rest
 
--- the program that an example's layer sees
+-- the program that an example's layer sees, with no layer switched off
 unfoldable pub seen : Example → Program
-seen e = programAt (bookOf (e .book)) (e .layer)
+seen e = programAt (bookOf (e .book)) (e .layer) 0
 
 unfoldable pub right : Example → Bool
 right e = sameBytes (listing (seen e)) (e .written) && eqb (branchingCount (seen e)) (e .branches)
 
 -- Every example of the table is right; `examples-say` of proofs/ExampleLaws.antt gives the equations.
 pub examples : T (all right table)
-unfolding framed section bytesOf p notP q notQ ruleIn arrow bookB table sameBytes seen right consIf all any filter flat upTo member fires extend saturate closure backwards layersBelow below u16At u32At recordsIn records sectionBytes sectionEnd sectionRecords literalOf literalsOf arrowOf ruleOf atomCount layerCount ruleSection arrowRecords ruleRecords arrowsOf rulesOf bookOf relevant programAt atomHolds complement sameLiteral signed holds bodyHolds clauseOf overrides rejected default defaults activeRules least agreesAt stable canReject branching branchingAtoms branchingCount interpretations stableModels bitValue bitsValue packed be16 be32 recordSize recordOf listingOf listing
+unfolding framed section bytesOf p notP q notQ ruleIn arrow bookB table sameBytes seen right consIf all any filter flat upTo member fires extend saturate closure backwards layersBelow below u16At u32At recordsIn records sectionBytes sectionEnd sectionRecords literalOf literalsOf arrowOf ruleOf atomCount layerCount ruleSection arrowRecords ruleRecords arrowsOf rulesOf bookOf inSet relevant programAt atomHolds complement sameLiteral signed holds bodyHolds clauseOf overrides rejected default defaults activeRules least agreesAt stable canReject branching branchingAtoms branchingCount interpretations stableModels bitValue bitsValue packed be16 be32 recordSize recordOf listingOf listing
 examples = tt

@@ -1,11 +1,12 @@
 -- What a driven layer sees of a book. Every later definition takes this, and not the whole book: what happens at a layer
 -- follows from the number of facts, the relevant rules, and which of their layers lie below which. Assumes nothing.
-use mathlib.Core.Bool.{Bool, _||_}
+use mathlib.Core.Bool.{Bool, not, _&&_, _||_}
 use mathlib.Core.List.{List}
 use Prim.Native.Nat.{ℕ}
 use lib.Dec.{eqb}
 use Rattle.base.specs.Lists.{filter}
 use Rattle.layers.specs.Layers as layers
+use Rattle.layers.specs.Masks.{bitOf}
 use Rattle.format.specs.Book.{Rule, Book}
 
 pub record Program : Type 0 where
@@ -14,10 +15,15 @@ pub record Program : Type 0 where
   pub rules : List Rule
   pub below : ℕ → ℕ → Bool
 
--- Document 01: a rule is relevant at the driven layer if its layer is that layer or below it.
-unfoldable pub relevant : Book → ℕ → Rule → Bool
-relevant b layer r = eqb (r .layer) layer || layers.below (b .arrows) (r .layer) layer
+-- Document 02, (h): bit i of the set is layer i's, and a layer whose bit is set is switched off for one drive.
+unfoldable pub inSet : ℕ → ℕ → Bool
+inSet off i = eqb (bitOf off i) 1
+
+-- Document 01: a rule is relevant at the driven layer if its layer is that layer or below it; document 02, (h): and is not switched
+-- off. Paths through a layer that is switched off still count.
+unfoldable pub relevant : Book → ℕ → ℕ → Rule → Bool
+relevant b layer off r = (eqb (r .layer) layer || layers.below (b .arrows) (r .layer) layer) && not (inSet off (r .layer))
 
 -- the book as the driven layer sees it: its relevant rules, in their order
-unfoldable pub programAt : Book → ℕ → Program
-programAt b layer = record { atoms = b .atoms; rules = filter (relevant b layer) (b .rules); below = layers.below (b .arrows) }
+unfoldable pub programAt : Book → ℕ → ℕ → Program
+programAt b layer off = record { atoms = b .atoms; rules = filter (relevant b layer off) (b .rules); below = layers.below (b .arrows) }

@@ -2,12 +2,13 @@
 -- that they are those of the layers below. Assumes nothing.
 use mathlib.Core.Path.{_≡_, refl, sym, ap, ap₂, subst, _∙_}
 use mathlib.Core.Logic.{⊎-elim}
-use mathlib.Core.Bool.{Bool, _||_}
+use mathlib.Core.Bool.{Bool, not, _&&_, _||_}
 use mathlib.Core.List.{List, [], _∷_, _++_, map, List·Memᴰ·head, List·Memᴰ·tail, Memᴰ·of-map}
 use Prim.Native.Nat.{ℕ, _*_, _-_, _/_, _%_, _^_, _<_}
 use native.Mathlib.Decide.{ℕ-discrete}
 use native.Mathlib.Omega.{arith}
-use lib.Bits.{bitOr}
+use borrow.Author.Tests.{eq-eqb, ne-eqb}
+use lib.Bits.{bitOr, bitAnd, bitXor}
 use lib.Dec.{T, eqb, eqb-refl, eqb→eq}
 use lib.ListN.{length, getD, take, drop, length-take}
 use lib.Seq.{take-append-seam}
@@ -17,7 +18,7 @@ use Rattle.base.specs.Lists.{consIf, filter}
 use Rattle.layers.specs.Layers.{below}
 use Rattle.layers.specs.Masks.{bitOf}
 use Rattle.format.specs.Book.{Literal, Rule, ruleOf, records, bookOf}
-use Rattle.models.specs.Program.{Program, relevant, programAt}
+use Rattle.models.specs.Program.{Program, inSet, relevant, programAt}
 use Rattle.models.specs.StableModels.{complement, sameLiteral, overrides}
 use Rattle.base.proofs.Members.{_∈_, and-left, and-right, and-both, or-cases, or-left, or-right, same-test}
 use Rattle.layers.proofs.BitLaws as bits
@@ -43,24 +44,27 @@ pub overrides-heads : (P : Program) (t r : Rule) → T (overrides P t r) → t .
 unfolding overrides
 overrides-heads P t r o = literal-same (t .head) (complement (r .head)) (and-right (P .below (r .layer) (t .layer)) (sameLiteral (t .head) (complement (r .head))) o)
 
--- the mask of the relevant layers: the driven layer, and those below it
-module _ (book : List ℕ) (first : ℕ) (lower : List ℕ) (w : Prepared book first lower) (layer : ℕ) (h : layer < maxLayers) where
+-- the mask of the layers that a drive goes by: the driven layer, and those below it
+module _ (book : List ℕ) (first : ℕ) (lower : List ℕ) (w : Prepared book first lower) (layer off : ℕ) (h : layer < maxLayers) where
+  abbrev layerMask : ℕ
+  layerMask = bitOr (getD lower layer 0) (1 * 2 ^ layer % 4294967296)
+
+  -- of the relevant ones: without those that are switched off
   abbrev pub relevantMask : ℕ
-  relevantMask = bitOr (getD lower layer 0) (1 * 2 ^ layer % 4294967296)
+  relevantMask = bitXor layerMask (bitAnd layerMask off)
 
   rule-low : (r : Rule) → r ∈ bookOf book .rules → r .layer < maxLayers
   rule-low r k =
       let v : (x : List ℕ) × x ∈ records (drop first book) × (ruleOf x ≡ r) = Memᴰ·of-map ruleOf (records (drop first book)) (subst (λ (rs : List Rule). r ∈ rs) (w .rules-are) k) in
       subst (λ (x : Rule). x .layer < maxLayers) (v .2) (w .rule-records .each (v .0) (v .1) .layer-low)
 
-  mask-relevant : (r : Rule) → r ∈ bookOf book .rules → inMask relevantMask r ≡ relevant (bookOf book) layer r
-  unfolding inMask relevant
-  mask-relevant r k =
-      same-test (eqb (bitOf relevantMask (r .layer)) 1) (eqb (r .layer) layer || below (bookOf book .arrows) (r .layer) layer)
+  mask-layers : (r : Rule) → r ∈ bookOf book .rules → eqb (bitOf layerMask (r .layer)) 1 ≡ (eqb (r .layer) layer || below (bookOf book .arrows) (r .layer) layer)
+  mask-layers r k =
+      same-test (eqb (bitOf layerMask (r .layer)) 1) (eqb (r .layer) layer || below (bookOf book .arrows) (r .layer) layer)
       (λ t. ⊎-elim
       (λ e. or-right (eqb (r .layer) layer) (below (bookOf book .arrows) (r .layer) layer) (w .lower-sound (r .layer) layer h e))
       (λ e. or-left (eqb (r .layer) layer) (below (bookOf book .arrows) (r .layer) layer) (itself (ℕ-discrete layer (r .layer)) (rw (bits.pow-fits layer h) at e)))
-      (bits.or-cases (getD lower layer 0) (1 * 2 ^ layer % 4294967296) (r .layer) (eqb→eq (bitOf relevantMask (r .layer)) 1 t)))
+      (bits.or-cases (getD lower layer 0) (1 * 2 ^ layer % 4294967296) (r .layer) (eqb→eq (bitOf layerMask (r .layer)) 1 t)))
       (λ t. subst (λ (x : ℕ). T (eqb x 1)) (sym (⊎-elim
       (λ e. bits.or-right (getD lower layer 0) (1 * 2 ^ layer % 4294967296) (r .layer) (own (eqb→eq (r .layer) layer e)))
       (λ e. bits.or-left (getD lower layer 0) (1 * 2 ^ layer % 4294967296) (r .layer) (w .lower-full (r .layer) layer (rule-low r k) h e))
@@ -73,25 +77,41 @@ module _ (book : List ℕ) (first : ℕ) (lower : List ℕ) (w : Prepared book f
       own : r .layer ≡ layer → bitOf (1 * 2 ^ layer % 4294967296) (r .layer) ≡ 1
       own e = rw (bits.pow-fits layer h, e) (bits.bit-same layer)
 
-  rules-relevant : filter (inMask relevantMask) (map ruleOf (records (drop first book))) ≡ programOf book layer .rules
+  mask-relevant : (r : Rule) → r ∈ bookOf book .rules → inMask relevantMask r ≡ relevant (bookOf book) layer off r
+  unfolding inMask relevant inSet
+  mask-relevant r k =
+      split (ℕ-discrete x 1) (ℕ-discrete y 1) ∙ ap (λ (c : Bool). c && not (eqb y 1)) (mask-layers r k)
+    where
+      x : ℕ
+      x = bitOf layerMask (r .layer)
+
+      y : ℕ
+      y = bitOf off (r .layer)
+
+      split : Dec (x ≡ 1) → Dec (y ≡ 1) → eqb (bitOf relevantMask (r .layer)) 1 ≡ (eqb x 1 && not (eqb y 1))
+      split (yes e) (yes f) = rw (bits.without layerMask off (r .layer), e, f) refl
+      split (yes e) (no f) = rw (bits.without layerMask off (r .layer), e, ne-eqb y 1 f) (eq-eqb (1 - y) 1 (omega (arith, bits.bit-small off (r .layer))))
+      split (no e) d = rw (bits.without layerMask off (r .layer), ne-eqb x 1 e) (ne-eqb (x - y) 1 (λ z. omega (arith, bits.bit-small layerMask (r .layer))))
+
+  rules-relevant : filter (inMask relevantMask) (map ruleOf (records (drop first book))) ≡ programOf book layer off .rules
   unfolding programAt
   rules-relevant =
       ap (filter (inMask relevantMask)) (sym (w .rules-are))
-      ∙ filter-same (inMask relevantMask) (relevant (bookOf book) layer) (bookOf book .rules) mask-relevant
+      ∙ filter-same (inMask relevantMask) (relevant (bookOf book) layer off) (bookOf book .rules) mask-relevant
 
   module _ (rows : List ℕ) (fits : RowsFit book rows) (rs : rowsOf book rows ≡ filter (inMask relevantMask) (map ruleOf (records (drop first book))))
       (un : Overridden rows lower rows (rowCount rows)) where
-    row-full : (j : ℕ) → j < rowCount rows → (x : ℕ) → x < rowCount rows → T (overrides (programOf book layer) (rowAt book rows j) (rowAt book rows x)) → bitOf (overridden rows j) (rowAt book rows x .layer) ≡ 1
+    row-full : (j : ℕ) → j < rowCount rows → (x : ℕ) → x < rowCount rows → T (overrides (programOf book layer off) (rowAt book rows j) (rowAt book rows x)) → bitOf (overridden rows j) (rowAt book rows x .layer) ≡ 1
     unfolding rowAt programAt
     row-full j b x k o =
         un .full j b (rowLayer rows x) (headName rows x)
-        (sym (complement-twice (literalNamed (headName rows x))) ∙ ap complement (sym (overrides-heads (programOf book layer) (rowAt book rows j) (rowAt book rows x) o)))
+        (sym (complement-twice (literalNamed (headName rows x))) ∙ ap complement (sym (overrides-heads (programOf book layer off) (rowAt book rows j) (rowAt book rows x) o)))
         (record { row = x; before = k; name-is = refl; layer-is = refl })
-        (w .lower-full (rowLayer rows x) (rowLayer rows j) (fits .bounded .layer-low x k) (fits .bounded .layer-low j b) (overrides-below (programOf book layer) (rowAt book rows j) (rowAt book rows x) o))
+        (w .lower-full (rowLayer rows x) (rowLayer rows j) (fits .bounded .layer-low x k) (fits .bounded .layer-low j b) (overrides-below (programOf book layer off) (rowAt book rows j) (rowAt book rows x) o))
 
     -- a set bit is the layer of a row that is overridden
     row-exact : (j : ℕ) → j < rowCount rows → (i : ℕ) → bitOf (overridden rows j) i ≡ 1
-        → (r : Rule) × r ∈ rowsOf book rows × (r .layer ≡ i) × T (overrides (programOf book layer) (rowAt book rows j) r)
+        → (r : Rule) × r ∈ rowsOf book rows × (r .layer ≡ i) × T (overrides (programOf book layer off) (rowAt book rows j) r)
     unfolding rowAt programAt overrides
     row-exact j b i z =
         let o : OpposedAt rows (headName rows j) i = un .opposed j b i z in
@@ -106,7 +126,7 @@ module _ (book : List ℕ) (first : ℕ) (lower : List ℕ) (w : Prepared book f
               (subst (λ (t : Literal). T (sameLiteral (literalNamed (headName rows j)) t)) e (literal-refl (literalNamed (headName rows j)))),
         )
 
-    tabulates : Tabulates (programOf book layer) book rows
+    tabulates : Tabulates (programOf book layer off) book rows
     unfolding rowAt programAt
     tabulates = record {
       fits = fits;
@@ -114,7 +134,7 @@ module _ (book : List ℕ) (first : ℕ) (lower : List ℕ) (w : Prepared book f
       sound = λ j b i z. w .lower-sound i (rowLayer rows j) (fits .bounded .layer-low j b) (un .sound j b i z);
       full = λ j b r k o.
           let v : (x : ℕ) × (x < rowCount rows) × (rowAt book rows x ≡ r) = row-of book rows r k in
-          subst (λ (t : Rule). bitOf (overridden rows j) (t .layer) ≡ 1) (v .2) (row-full j b (v .0) (v .1) (subst (λ (t : Rule). T (overrides (programOf book layer) (rowAt book rows j) t)) (sym (v .2)) o));
+          subst (λ (t : Rule). bitOf (overridden rows j) (t .layer) ≡ 1) (v .2) (row-full j b (v .0) (v .1) (subst (λ (t : Rule). T (overrides (programOf book layer off) (rowAt book rows j) t)) (sym (v .2)) o));
       exact = row-exact;
     }
 
@@ -141,15 +161,15 @@ module _ (book : List ℕ) (first mask : ℕ) (rows : List ℕ) (k : ℕ) (w : R
         ap (λ (n : ℕ). take n (part ++ drop (rowSize * k - 0) rows)) (sym (part-size ∙ minus-zero (rowSize * k)))
         ∙ take-append-seam part (drop (rowSize * k - 0) rows)
 
-    pub table-made : (lower : List ℕ) (p : Prepared book first lower) (layer : ℕ) (h : layer < maxLayers) → mask ≡ relevantMask book first lower p layer h
+    pub table-made : (lower : List ℕ) (p : Prepared book first lower) (layer off : ℕ) (h : layer < maxLayers) → mask ≡ relevantMask book first lower p layer off h
         → Overridden (take (rowSize * k - 0) rows) lower part (rowCount (take (rowSize * k - 0) rows))
-        → TableMade (programOf book layer) book (putMid 0 (rowSize * k - 0) rows part) k
-    table-made lower p layer h em o = record {
+        → TableMade (programOf book layer off) book (putMid 0 (rowSize * k - 0) rows part) k
+    table-made lower p layer off h em o = record {
       room = w .room;
       size = same-len-mid 0 (rowSize * k - 0) rows part (r .size) ∙ w .size;
       table =
-          subst (Tabulates (programOf book layer) book) (sym in-front)
-          (tabulates book first lower p layer h part (fits-same same (w .fits))
+          subst (Tabulates (programOf book layer off) book) (sym in-front)
+          (tabulates book first lower p layer off h part (fits-same same (w .fits))
           (rows-same same book ∙ w .rules ∙ ap (λ (x : ℕ). filter (inMask x) (map ruleOf (records (drop first book)))) em) (overridden-same r o));
     }
 

@@ -14,9 +14,9 @@ use Rattle.models.specs.Program.{Program, programAt}
 use Rattle.models.specs.StableModels.{overrides}
 use Rattle.table.specs.Rows.{rowSize, rowCount, overridden, rowAt, rowsOf, inMask, RowsFit}
 
--- the program that a book's bytes give at a layer
-abbrev pub programOf : List ℕ → ℕ → Program
-programOf book layer = programAt (bookOf book) layer
+-- the program that a book's bytes give at a layer, with the layers of a set switched off
+abbrev pub programOf : List ℕ → ℕ → ℕ → Program
+programOf book layer off = programAt (bookOf book) layer off
 
 -- a record that has a layer and a head within the bounds
 pub record RuleRecord (r : List ℕ) : Type 0 where

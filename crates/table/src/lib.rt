@@ -208,20 +208,24 @@ pub fn overridden_layers(rows: &mut [u16], lower: [u32; MAX_LAYERS])
     }
 }
 
-// Writes the table of the program at a layer, of the rules of that layer and of those below it, and says how many there are.
+// Writes the table of the program at a layer, of the rules of that layer and of those below it that are not switched off, and says how
+// many there are.
 pub fn rule_table(
     book: &[u8],
     first: usize,
     layer: usize,
+    off: u32,
     lower: [u32; MAX_LAYERS],
     rows: &mut [u16],
 ) -> usize
     requires { ⌜ Prepared (now book) first lower ⌝ }
     requires { ⌜ layer < maxLayers ⌝ }
     requires { ⌜ length (now rows) ≡ rowSize * maxRules ⌝ }
-    ensures { λ r. ⌜ TableMade (programOf (now (book .entry)) layer) (now (book .entry)) (now (rows .exit)) r ⌝ }
+    ensures { λ r. ⌜ TableMade (programOf (now (book .entry)) layer off) (now (book .entry)) (now (rows .exit)) r ⌝ }
 {
-    let count = make_rows(book, first, lower[layer] | (1 << (layer as u32)), rows);
+    let under = lower[layer];
+    let all = under | (1 << (layer as u32));
+    let count = make_rows(book, first, all ^ (all & off), rows);
     overridden_layers(&mut rows[0..ROW_SIZE * count], lower);
     count
 }

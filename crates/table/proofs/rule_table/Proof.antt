@@ -1,22 +1,22 @@
--- The rows are those of the relevant rules, since the mask has the driven layer and those below it; their masks are written in front
--- of what is left of the array.
+-- The rows are those of the relevant rules, since the mask has the driven layer and those below it, without the layers that are
+-- switched off; their masks are written in front of what is left of the array.
 use mathlib.Core.Path.{refl}
 use Rattle.table.proofs.TableLaws.{lent-bounded, table-made}
 use borrow.Author.Needs.{needs}
 use Rattle.table.proofs.rule_table.Statement.{statement}
 use Rattle.table.proofs.rule_table.Tie as tie
 
-mul-make-rows : tie.Need-mul-make-rows
-mul-make-rows c = search needs
+mul-under : tie.Need-mul-under
+mul-under c = search needs
 
-array-read-make-rows : tie.Need-array-read-make-rows
-array-read-make-rows c = search needs
+array-read-under : tie.Need-array-read-under
+array-read-under c = search needs
 
-cast-make-rows : tie.Need-cast-make-rows
-cast-make-rows c = search needs
+cast-all : tie.Need-cast-all
+cast-all c = search needs
 
-shl-make-rows : tie.Need-shl-make-rows
-shl-make-rows c = search needs
+shl-all : tie.Need-shl-all
+shl-all c = search needs
 
 make-rows-requires : tie.Need-make-rows-requires
 make-rows-requires c κs = search needs
@@ -44,16 +44,16 @@ returns c =
     let s = c .before .before .before .before .before .before .before .before .before .before in
     let w = c .before .before .before .before .before .before .make-rows in
     let o = c .before .before .overridden-layers in
-    table-made (s .args .book .now) (s .args .first) _ _ (w .result) (w .ensures) _ (o .ensures .0) (s .args .t4) (s .pre .0) (s .args .layer) (s .pre .1 .0) refl (o .ensures .1)
+    table-made (s .args .book .now) (s .args .first) _ _ (w .result) (w .ensures) _ (o .ensures .0) (s .args .t5) (s .pre .0) (s .args .layer) (s .args .off) (s .pre .1 .0) refl (o .ensures .1)
 
 pub rule-table-spec : {M : Type 1} → statement M
 rule-table-spec =
     tie.close
     (tie.spec
-    mul-make-rows
-    array-read-make-rows
-    cast-make-rows
-    shl-make-rows
+    mul-under
+    array-read-under
+    cast-all
+    shl-all
     make-rows-requires
     mul-overridden-layers
     sub-overridden-layers
