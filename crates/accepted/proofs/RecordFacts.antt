@@ -90,23 +90,23 @@ module _ (s : List ℕ) (e : IsAccepted s) where
       omega (arith, section-length s 8 (w .arrows), section-length s (ruleSection s) (w .rules), w .arrows .count, w .rules .count, g .arrows-few, g .rules-few, w .second, w .ends)
 
   -- a rule of the program at a layer stands for a record of the book
-  rule-from : (layer : ℕ) (r : Rule) → r ∈ programOf s layer .rules → (x : List ℕ) × x ∈ ruleRecords s × (ruleOf x ≡ r)
+  rule-from : (layer off : ℕ) (r : Rule) → r ∈ programOf s layer off .rules → (x : List ℕ) × x ∈ ruleRecords s × (ruleOf x ≡ r)
   unfolding programAt bookOf rulesOf
-  rule-from layer r k = Memᴰ·of-map ruleOf (ruleRecords s) (filter-from (relevant (bookOf s) layer) (rulesOf s) k .0)
+  rule-from layer off r k = Memᴰ·of-map ruleOf (ruleRecords s) (filter-from (relevant (bookOf s) layer off) (rulesOf s) k .0)
 
   -- every literal of the program at a layer names a fact of the book
-  pub accepted-formed : (layer : ℕ) → WellFormed (programOf s layer)
+  pub accepted-formed : (layer off : ℕ) → WellFormed (programOf s layer off)
   unfolding programAt bookOf
-  accepted-formed layer = record {
+  accepted-formed layer off = record {
     heads = λ r k.
-        let v : (x : List ℕ) × x ∈ ruleRecords s × (ruleOf x ≡ r) = rule-from layer r k in
+        let v : (x : List ℕ) × x ∈ ruleRecords s × (ruleOf x ≡ r) = rule-from layer off r k in
         subst (λ (t : Rule). t .head .atom < atomCount s) (v .2) (good-rule (v .0) (v .1) .head-low);
     bodies = λ r k l i.
-        let v : (x : List ℕ) × x ∈ ruleRecords s × (ruleOf x ≡ r) = rule-from layer r k in
+        let v : (x : List ℕ) × x ∈ ruleRecords s × (ruleOf x ≡ r) = rule-from layer off r k in
         good-rule (v .0) (v .1) .body-low l (subst (λ (t : Rule). l ∈ t .body) (sym (v .2)) i);
   }
 
 -- the book's facts are those of its program at any layer
-pub program-atoms : (book : List ℕ) (layer n : ℕ) → n ≡ bookOf book .atoms → n ≡ programOf book layer .atoms
+pub program-atoms : (book : List ℕ) (layer off n : ℕ) → n ≡ bookOf book .atoms → n ≡ programOf book layer off .atoms
 unfolding programAt
-program-atoms book layer n e = e
+program-atoms book layer off n e = e

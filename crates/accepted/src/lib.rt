@@ -11,7 +11,7 @@ ghost use Rattle.table.specs.Table.{programOf, TableMade};
 ghost use Rattle.book.specs.Causes.{firstOf};
 ghost use Rattle.book.specs.Checks.{Checks};
 ghost use Rattle.accepted.specs.Accepted.{IsAccepted};
-ghost use Rattle.accepted.specs.Driven.{layerTests};
+ghost use Rattle.accepted.specs.Driven.{hasAbsentLayer, drivenTests, layerTests};
 use base::MAX_LAYERS;
 use book::Cause;
 use book::Checked;
@@ -29,21 +29,54 @@ pub fn atom_count(book: &[u8]) -> usize
     header.atoms
 }
 
-// Writes the table of the rules that count at a layer, from each layer's mask of the layers below it, and says how many there are.
-pub fn prepare(book: &[u8], layer: usize, lower: [u32; MAX_LAYERS], rows: &mut [u16]) -> usize
+// Writes the table of the rules that count at a layer, with the layers of a set switched off, from each layer's mask of the layers below
+// it, and says how many there are.
+pub fn prepare(
+    book: &[u8],
+    layer: usize,
+    off: u32,
+    lower: [u32; MAX_LAYERS],
+    rows: &mut [u16],
+) -> usize
     requires { ⌜ IsAccepted (now book) ⌝ }
     requires { ⌜ layer < bookOf (now book) .layers ⌝ }
     requires { ⌜ LowerMasks (arrowsOf (now book)) lower ⌝ }
     requires { ⌜ length (now rows) ≡ rowSize * maxRules ⌝ }
-    ensures { λ r. ⌜ TableMade (programOf (now (book .entry)) layer) (now (book .entry)) (now (rows .exit)) r ⌝ }
+    ensures { λ r. ⌜ TableMade (programOf (now (book .entry)) layer off) (now (book .entry)) (now (rows .exit)) r ⌝ }
 {
     let header = read_header(book);
-    rule_table(book, header.rules + 6, layer, lower, rows)
+    rule_table(book, header.rules + 6, layer, off, lower, rows)
 }
 
-// Accepted, with the masks, or refused for the first of causes 1 to 9 that applies: what every call that drives a layer asks first.
-pub fn check_layer(book: &[u8], layer: u32) -> Checked
-    ensures { λ r. ⌜ Checks (firstOf (layerTests (now (book .entry)) layer)) (now (book .entry)) (r .verdict) (r .lower) ⌝ }
+// Whether the set has a layer that a book of so many layers lacks. A book of MAX_LAYERS lacks none: every set is lawful there, and 32 bits
+// are never shifted by 32.
+fn has_absent_layer(layers: usize, off: u32) -> bool
+    ensures { λ r. ⌜ r ≡ hasAbsentLayer layers off ⌝ }
+{
+    if layers < MAX_LAYERS {
+        return off >> (layers as u32) != 0;
+    }
+    false
+}
+
+// The first of causes 9 and 19 that applies, or accepted.
+fn check_driven(layers: usize, layer: usize, off: u32) -> Verdict
+    ensures { λ r. ⌜ r ≡ firstOf (drivenTests layers layer off) ⌝ }
+{
+    let past = layers <= layer;
+    let absent = has_absent_layer(layers, off);
+    if past {
+        return Verdict::Refused(Cause::NoSuchLayer);
+    }
+    if absent {
+        return Verdict::Refused(Cause::NoSuchLayerOff);
+    }
+    Verdict::Accepted
+}
+
+// Accepted, with the masks, or refused for the first of causes 1 to 9 and 19 that applies: what every call that drives a layer asks first.
+pub fn check_layer(book: &[u8], layer: u32, off: u32) -> Checked
+    ensures { λ r. ⌜ Checks (firstOf (layerTests (now (book .entry)) layer off)) (now (book .entry)) (r .verdict) (r .lower) ⌝ }
 {
     let checked = check_book(book);
     let lower = checked.lower;
@@ -55,14 +88,8 @@ pub fn check_layer(book: &[u8], layer: u32) -> Checked
         },
         Verdict::Accepted => {
             let header = read_header(book);
-            if header.layers <= layer as usize {
-                return Checked {
-                    verdict: Verdict::Refused(Cause::NoSuchLayer),
-                    lower,
-                };
-            }
             Checked {
-                verdict: Verdict::Accepted,
+                verdict: check_driven(header.layers, layer as usize, off),
                 lower,
             }
         }

@@ -33,20 +33,20 @@ use Rattle.leaf.proofs.FoundLaws.{branching-small}
 use Rattle.passes.specs.Limit.{hasTooManyBranching}
 use Rattle.passes.specs.SetUp.{Ready, lentRows}
 
-module _ (book : List ℕ) (layer : ℕ) (ok : IsAccepted book) {rows : List ℕ} {rules : ℕ} (made : TableMade (programOf book layer) book rows rules)
+module _ (book : List ℕ) (layer off : ℕ) (ok : IsAccepted book) {rows : List ℕ} {rules : ℕ} (made : TableMade (programOf book layer off) book rows rules)
     (n : ℕ) (e : n ≡ bookOf book .atoms) where
   abbrev P : Program
-  P = programOf book layer
+  P = programOf book layer off
 
   abbrev Q : Program
   Q = tabled book (lentRows rows rules) n
 
   -- the driven layer's program and the one that its table stands for are alike
   pub set-up-alike : Alike P Q
-  set-up-alike = lent-alike made (program-atoms book layer n e)
+  set-up-alike = lent-alike made (program-atoms book layer off n e)
 
   formed : WellFormed Q
-  formed = alike-formed set-up-alike (accepted-formed book ok layer)
+  formed = alike-formed set-up-alike (accepted-formed book ok layer off)
 
   pub lent-few : rowCount (lentRows rows rules) ≤ maxRules
   lent-few =
@@ -86,7 +86,7 @@ module _ (book : List ℕ) (layer : ℕ) (ok : IsAccepted book) {rows : List ℕ
         made-ready {plan′} {s} p en eg some few = record {
           table = subst (λ (k : ℕ). Searchable book (lentRows rows rules) (planAtoms plan′ (s .branching)) k) (sym en) (record {
             formed = formed;
-            table = lent-tabled made (program-atoms book layer n e);
+            table = lent-tabled made (program-atoms book layer off n e);
             listed = p .atoms-are ∙ in-front;
             rows-few = lent-few;
             atoms-few = omega (arith, ap length (p .atoms-are), length-take-le (g - 0) listed (omega (arith, listed-size)));

@@ -40,10 +40,12 @@ pub struct Driven {
     pub sizes: Sizes,
 }
 
-// Writes the table of the rules that count at a layer, and the plan of a search, which has its branching facts in front.
+// Writes the table of the rules that count at a layer, with the layers of a set switched off, and the plan of a search, which has its
+// branching facts in front.
 pub fn set_up(
     book: &[u8],
     layer: usize,
+    off: u32,
     lower: [u32; MAX_LAYERS],
     rows: &mut [u16],
     plan: &mut [u32],
@@ -52,10 +54,10 @@ pub fn set_up(
     requires { ⌜ layer < bookOf (now book) .layers ⌝ }
     requires { ⌜ LowerMasks (arrowsOf (now book)) lower ⌝ }
     requires { ⌜ (length (now rows) ≡ rowSize * maxRules) × (length (now plan) ≡ planSize) ⌝ }
-    ensures { λ r. ⌜ SetUp (programOf (now (book .entry)) layer) (now (book .entry)) (now (rows .exit)) (now (plan .exit)) (r .rules) (r .few) (r .sizes) ⌝ }
+    ensures { λ r. ⌜ SetUp (programOf (now (book .entry)) layer off) (now (book .entry)) (now (rows .exit)) (now (plan .exit)) (r .rules) (r .few) (r .sizes) ⌝ }
 {
     let n = atom_count(book);
-    let rules = prepare(book, layer, lower, rows);
+    let rules = prepare(book, layer, off, lower, rows);
     let g = branching_atoms(
         book,
         &rows[0..ROW_SIZE * rules],

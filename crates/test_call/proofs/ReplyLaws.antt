@@ -47,36 +47,36 @@ pub stable-over : {P : Program} {book rows : List ℕ} {count : ℕ} → TableMa
 stable-over {P} made {n} e s m q r t =
     t ∙ sym (alike-stable (lent-alike made e) (take (n - 0) m) (lent-size n s m q ∙ e)) ∙ ap (λ (o : Interpretation). stable P o) (lent-state n s m q)
 
-module _ (book : List ℕ) (layer : ℕ) (candidate : List ℕ) where
+module _ (book : List ℕ) (layer off : ℕ) (candidate : List ℕ) where
   -- the verdict on the book and the layer, as the code holds it
-  module _ (v : Verdict) (e : v ≡ firstOf (layerTests book layer)) where
-    pub layer-refused : (c : Cause) → v ≡ Refused c → reply.Refused c ≡ testReply book layer candidate
+  module _ (v : Verdict) (e : v ≡ firstOf (layerTests book layer off)) where
+    pub layer-refused : (c : Cause) → v ≡ Refused c → reply.Refused c ≡ testReply book layer off candidate
     unfolding testReply testTests replyOf
     layer-refused c q =
-        sym (ap (λ (w : Verdict). replyOf w (stable (programOf book layer) (interpretationOf (bookOf book .atoms) candidate)))
-        (first-refused (layerTests book layer) (record { cause = BadCandidate; applies = isBadCandidate (bookOf book .atoms) candidate } ∷ []) c (sym e ∙ q)))
+        sym (ap (λ (w : Verdict). replyOf w (stable (programOf book layer off) (interpretationOf (bookOf book .atoms) candidate)))
+        (first-refused (layerTests book layer off) (record { cause = BadCandidate; applies = isBadCandidate (bookOf book .atoms) candidate } ∷ []) c (sym e ∙ q)))
 
     module _ (q : v ≡ Accepted) (n : ℕ) (en : n ≡ bookOf book .atoms) (t : Bool) (et : t ≡ isBadCandidate n candidate) where
-      ten : firstOf (testTests book layer candidate) ≡ verdictIf t (Refused BadCandidate) Accepted
+      ten : firstOf (testTests book layer off candidate) ≡ verdictIf t (Refused BadCandidate) Accepted
       unfolding testTests firstOf
       ten =
-          first-append (layerTests book layer) (record { cause = BadCandidate; applies = isBadCandidate (bookOf book .atoms) candidate } ∷ []) (sym e ∙ q)
+          first-append (layerTests book layer off) (record { cause = BadCandidate; applies = isBadCandidate (bookOf book .atoms) candidate } ∷ []) (sym e ∙ q)
           ∙ ap (λ (b : Bool). verdictIf b (Refused BadCandidate) Accepted) (ap (λ (k : ℕ). isBadCandidate k candidate) (sym en) ∙ sym et)
 
-      answer : (r : Bool) → r ≡ stable (programOf book layer) (interpretationOf n candidate) → testReply book layer candidate ≡ replyOf (verdictIf t (Refused BadCandidate) Accepted) r
+      answer : (r : Bool) → r ≡ stable (programOf book layer off) (interpretationOf n candidate) → testReply book layer off candidate ≡ replyOf (verdictIf t (Refused BadCandidate) Accepted) r
       unfolding testReply
-      answer r er = ap₂ replyOf ten (ap (λ (k : ℕ). stable (programOf book layer) (interpretationOf k candidate)) (sym en) ∙ sym er)
+      answer r er = ap₂ replyOf ten (ap (λ (k : ℕ). stable (programOf book layer off) (interpretationOf k candidate)) (sym en) ∙ sym er)
 
-      pub candidate-refused : t ≡ true → reply.Refused BadCandidate ≡ testReply book layer candidate
+      pub candidate-refused : t ≡ true → reply.Refused BadCandidate ≡ testReply book layer off candidate
       unfolding replyOf verdictIf
-      candidate-refused f = sym (answer (stable (programOf book layer) (interpretationOf n candidate)) refl ∙ rw f refl)
+      candidate-refused f = sym (answer (stable (programOf book layer off) (interpretationOf n candidate)) refl ∙ rw f refl)
 
-      module _ (f : t ≡ false) (r : Bool) (er : r ≡ stable (programOf book layer) (interpretationOf n candidate)) where
-        pub answered-yes : r ≡ true → reply.Stable ≡ testReply book layer candidate
+      module _ (f : t ≡ false) (r : Bool) (er : r ≡ stable (programOf book layer off) (interpretationOf n candidate)) where
+        pub answered-yes : r ≡ true → reply.Stable ≡ testReply book layer off candidate
         unfolding replyOf verdictIf
         answered-yes g = sym (answer r er ∙ rw (f, g) refl)
 
-        pub answered-no : r ≡ false → reply.NotStable ≡ testReply book layer candidate
+        pub answered-no : r ≡ false → reply.NotStable ≡ testReply book layer off candidate
         unfolding replyOf verdictIf
         answered-no g = sym (answer r er ∙ rw (f, g) refl)
 
@@ -84,11 +84,11 @@ module _ (book : List ℕ) (layer : ℕ) (candidate : List ℕ) where
   abbrev state : Interpretation
   state = interpretationOf (bookOf book .atoms) candidate
 
-  state-size : length state ≡ programOf book layer .atoms
-  state-size = program-atoms book layer (length state) (read-length (bookOf book .atoms) candidate)
+  state-size : length state ≡ programOf book layer off .atoms
+  state-size = program-atoms book layer off (length state) (read-length (bookOf book .atoms) candidate)
 
-  state-stable : T (stable (programOf book layer) state) → StableModel (programOf book layer) state
-  state-stable t = stable-sound (programOf book layer) state state-size t
+  state-stable : T (stable (programOf book layer off) state) → StableModel (programOf book layer off) state
+  state-stable t = stable-sound (programOf book layer off) state state-size t
 
   answer-from : (v : Verdict) (b : Bool) (r : TestReply) → replyOf v b ≡ r → ((c : Cause) → r ≡ reply.Refused c → ⊥) → v ≡ Accepted
   unfolding replyOf
@@ -107,26 +107,26 @@ module _ (book : List ℕ) (layer : ℕ) (candidate : List ℕ) where
 
   -- "yes" or "no" with no cause, and the test's answer
   answered : (r : TestReply) (b : Bool) → ((c : Cause) → r ≡ reply.Refused c → ⊥) → ((x : Bool) → replyOf Accepted x ≡ r → x ≡ b)
-      → testReply book layer candidate ≡ r → NoCause book layer candidate × (stable (programOf book layer) state ≡ b)
+      → testReply book layer off candidate ≡ r → NoCause book layer off candidate × (stable (programOf book layer off) state ≡ b)
   unfolding testReply
   answered r b n f e =
-      let a : firstOf (testTests book layer candidate) ≡ Accepted = answer-from (firstOf (testTests book layer candidate)) (stable (programOf book layer) state) r e n in
-      (accepted-none (testTests book layer candidate) .0 a, f (stable (programOf book layer) state) (ap (λ (v : Verdict). replyOf v (stable (programOf book layer) state)) (sym a) ∙ e))
+      let a : firstOf (testTests book layer off candidate) ≡ Accepted = answer-from (firstOf (testTests book layer off candidate)) (stable (programOf book layer off) state) r e n in
+      (accepted-none (testTests book layer off candidate) .0 a, f (stable (programOf book layer off) state) (ap (λ (v : Verdict). replyOf v (stable (programOf book layer off) state)) (sym a) ∙ e))
 
-  answers : (b : Bool) → NoCause book layer candidate → stable (programOf book layer) state ≡ b → testReply book layer candidate ≡ replyOf Accepted b
+  answers : (b : Bool) → NoCause book layer off candidate → stable (programOf book layer off) state ≡ b → testReply book layer off candidate ≡ replyOf Accepted b
   unfolding testReply
-  answers b n e = ap₂ replyOf (accepted-none (testTests book layer candidate) .1 n) e
+  answers b n e = ap₂ replyOf (accepted-none (testTests book layer off candidate) .1 n) e
 
-  pub yes-exactly : YesExactly book layer candidate
+  pub yes-exactly : YesExactly book layer off candidate
   unfolding replyOf
   yes-exactly = (
     λ e. let w = answered reply.Stable true (λ c q. let z : _≡_ {A = ℕ} 0 1 = cc in omega arith) yes-from e in (w .0, state-stable (subst T (sym (w .1)) tt)),
-    λ w. answers true (w .0) (passed (stable (programOf book layer) state) (stable-complete (programOf book layer) state (w .1))),
+    λ w. answers true (w .0) (passed (stable (programOf book layer off) state) (stable-complete (programOf book layer off) state (w .1))),
   )
 
-  pub no-exactly : NoExactly book layer candidate
+  pub no-exactly : NoExactly book layer off candidate
   unfolding replyOf
   no-exactly = (
-    λ e. let w = answered reply.NotStable false (λ c q. let z : _≡_ {A = ℕ} 0 1 = cc in omega arith) no-from e in (w .0, λ m. subst T (w .1) (stable-complete (programOf book layer) state m)),
-    λ w. answers false (w .0) (failed (stable (programOf book layer) state) (λ t. w .1 (state-stable t))),
+    λ e. let w = answered reply.NotStable false (λ c q. let z : _≡_ {A = ℕ} 0 1 = cc in omega arith) no-from e in (w .0, λ m. subst T (w .1) (stable-complete (programOf book layer off) state m)),
+    λ w. answers false (w .0) (failed (stable (programOf book layer off) state) (λ t. w .1 (state-stable t))),
   )

@@ -1,4 +1,4 @@
-// The call that tests a candidate: the first of causes 1 to 10 that applies, or whether the candidate's state is stable at the
+// The call that tests a candidate: the first of causes 1 to 10 and 19 that applies, or whether the candidate's state is stable at the
 // driven layer. It writes nothing.
 ghost use mathlib.Core.Path.{_≡_};
 ghost use mathlib.Core.Bool.{false};
@@ -38,6 +38,7 @@ pub enum TestReply {
 fn candidate_stable(
     book: &[u8],
     layer: usize,
+    off: u32,
     lower: [u32; MAX_LAYERS],
     candidate: &[u8],
     n: usize,
@@ -47,20 +48,20 @@ fn candidate_stable(
     requires { ⌜ LowerMasks (arrowsOf (now book)) lower ⌝ }
     requires { ⌜ (n ≡ bookOf (now book) .atoms) × (n ≤ maxAtoms) ⌝ }
     requires { ⌜ isBadCandidate n (now candidate) ≡ false ⌝ }
-    ensures { λ r. ⌜ r ≡ stable (programOf (now (book .entry)) layer) (interpretationOf n (now (candidate .entry))) ⌝ }
+    ensures { λ r. ⌜ r ≡ stable (programOf (now (book .entry)) layer off) (interpretationOf n (now (candidate .entry))) ⌝ }
 {
     let m = read_candidate(candidate, n);
     let mut rows: [u16; ROWS] = [0; ROWS];
-    let count = prepare(book, layer, lower, &mut rows);
+    let count = prepare(book, layer, off, lower, &mut rows);
     let mut hints: [u16; HINTS] = [0; HINTS];
     is_stable(book, &rows[0..ROW_SIZE * count], &m[0..n], n, &mut hints)
 }
 
 // Tests a candidate.
-pub fn test(book: &[u8], layer: u32, candidate: &[u8]) -> TestReply
-    ensures { λ r. ⌜ r ≡ testReply (now (book .entry)) layer (now (candidate .entry)) ⌝ }
+pub fn test(book: &[u8], layer: u32, off: u32, candidate: &[u8]) -> TestReply
+    ensures { λ r. ⌜ r ≡ testReply (now (book .entry)) layer off (now (candidate .entry)) ⌝ }
 {
-    let checked = check_layer(book, layer);
+    let checked = check_layer(book, layer, off);
     let lower = checked.lower;
     let v = checked.verdict;
     match v {
@@ -70,7 +71,7 @@ pub fn test(book: &[u8], layer: u32, candidate: &[u8]) -> TestReply
             if bad_candidate(candidate, n) {
                 return TestReply::Refused(Cause::BadCandidate);
             }
-            if candidate_stable(book, layer as usize, lower, candidate, n) {
+            if candidate_stable(book, layer as usize, off, lower, candidate, n) {
                 return TestReply::Stable;
             }
             TestReply::NotStable

@@ -39,7 +39,7 @@ branching-atoms-requires : tie.Need-branching-atoms-requires
 branching-atoms-requires c κs =
     let a = c .before .before .before .before .before .before .before .before .before .before .before .args in
     let n = c .before .before .before .before .before .before .before .atom-count in
-    (lent-tabled (c .before .before .before .before .before .prepare .ensures) (program-atoms (a .book .now) (a .layer) (n .result) (n .ensures .0)), (n .ensures .2, search needs))
+    (lent-tabled (c .before .before .before .before .before .prepare .ensures) (program-atoms (a .book .now) (a .layer) (a .off) (n .result) (n .ensures .0)), (n .ensures .2, search needs))
 
 same-length : tie.Need-same-length
 same-length c = search needs
@@ -56,9 +56,9 @@ returns c =
     record {
       room = made .room;
       row-size = made .size;
-      plan-size = listed-size (a .book .now) (a .layer) (c .before .before .before .before .before .before .before .before .before .before .before .before .before .before .before .pre .0) made (n .result) (n .ensures .0) l (a .plan .now) (c .before .before .before .before .before .before .before .before .before .before .before .before .before .before .before .pre .1 .1 .1 .1);
-      alike = set-up-alike (a .book .now) (a .layer) (c .before .before .before .before .before .before .before .before .before .before .before .before .before .before .before .pre .0) made (n .result) (n .ensures .0);
-      too-many = λ e. too-many (a .book .now) (a .layer) (c .before .before .before .before .before .before .before .before .before .before .before .before .before .before .before .pre .0) made (n .result) (n .ensures .0) l (c .if1 .taken);
+      plan-size = listed-size (a .book .now) (a .layer) (a .off) (c .before .before .before .before .before .before .before .before .before .before .before .before .before .before .before .pre .0) made (n .result) (n .ensures .0) l (a .plan .now) (c .before .before .before .before .before .before .before .before .before .before .before .before .before .before .before .pre .1 .1 .1 .1);
+      alike = set-up-alike (a .book .now) (a .layer) (a .off) (c .before .before .before .before .before .before .before .before .before .before .before .before .before .before .before .pre .0) made (n .result) (n .ensures .0);
+      too-many = λ e. too-many (a .book .now) (a .layer) (a .off) (c .before .before .before .before .before .before .before .before .before .before .before .before .before .before .before .pre .0) made (n .result) (n .ensures .0) l (c .if1 .taken);
       not-too-many = λ e. absurd (false≢true e);
       ready = λ e. absurd (false≢true e);
     }
@@ -81,7 +81,7 @@ make-plan-requires c κs =
     let n = c .before .before .before .before .before .before .before .before .before .before .before .before .before .before .atom-count in
     let made = c .before .before .before .before .before .before .before .before .before .before .before .before .prepare .ensures in
     let l = c .before .before .before .before .before .before .branching-atoms .ensures in
-    (lent-table made .fits, (lent-few (a .book .now) (a .layer) (c .before .before .before .before .before .before .before .before .before .before .before .before .before .before .before .before .before .before .pre .0) made (n .result) (n .ensures .0), (listed-size (a .book .now) (a .layer) (c .before .before .before .before .before .before .before .before .before .before .before .before .before .before .before .before .before .before .pre .0) made (n .result) (n .ensures .0) l (a .plan .now) (c .before .before .before .before .before .before .before .before .before .before .before .before .before .before .before .before .before .before .pre .1 .1 .1 .1), c .before .before .before .if1 .left, listed-low (a .book .now) (a .layer) (c .before .before .before .before .before .before .before .before .before .before .before .before .before .before .before .before .before .before .pre .0) made (n .result) (n .ensures .0) l (a .plan .now) (c .before .before .before .before .before .before .before .before .before .before .before .before .before .before .before .before .before .before .pre .1 .1 .1 .1) (c .before .before .before .if1 .left) (n .ensures .2))))
+    (lent-table made .fits, (lent-few (a .book .now) (a .layer) (a .off) (c .before .before .before .before .before .before .before .before .before .before .before .before .before .before .before .before .before .before .pre .0) made (n .result) (n .ensures .0), (listed-size (a .book .now) (a .layer) (a .off) (c .before .before .before .before .before .before .before .before .before .before .before .before .before .before .before .before .before .before .pre .0) made (n .result) (n .ensures .0) l (a .plan .now) (c .before .before .before .before .before .before .before .before .before .before .before .before .before .before .before .before .before .before .pre .1 .1 .1 .1), c .before .before .before .if1 .left, listed-low (a .book .now) (a .layer) (a .off) (c .before .before .before .before .before .before .before .before .before .before .before .before .before .before .before .before .before .before .pre .0) made (n .result) (n .ensures .0) l (a .plan .now) (c .before .before .before .before .before .before .before .before .before .before .before .before .before .before .before .before .before .before .pre .1 .1 .1 .1) (c .before .before .before .if1 .left) (n .ensures .2))))
 
 same-length-3 : tie.Need-same-length-3
 same-length-3 c = search needs
@@ -100,10 +100,10 @@ returns-2 c =
       room = made .room;
       row-size = made .size;
       plan-size = p .0 .size;
-      alike = rw (p .1) (set-up-alike (a .book .now) (a .layer) (c .before .before .before .before .before .before .before .before .before .before .before .before .before .before .before .before .before .before .before .before .before .pre .0) made (n .result) (n .ensures .0));
+      alike = rw (p .1) (set-up-alike (a .book .now) (a .layer) (a .off) (c .before .before .before .before .before .before .before .before .before .before .before .before .before .before .before .before .before .before .before .before .before .pre .0) made (n .result) (n .ensures .0));
       too-many = λ e. absurd (true≢false e);
-      not-too-many = λ e. not-too-many (a .book .now) (a .layer) (c .before .before .before .before .before .before .before .before .before .before .before .before .before .before .before .before .before .before .before .before .before .pre .0) made (n .result) (n .ensures .0) l (c .before .before .before .before .before .before .if1 .left);
-      ready = λ e. made-ready (a .book .now) (a .layer) (c .before .before .before .before .before .before .before .before .before .before .before .before .before .before .before .before .before .before .before .before .before .pre .0) made (n .result) (n .ensures .0) l (a .plan .now) (c .before .before .before .before .before .before .before .before .before .before .before .before .before .before .before .before .before .before .before .before .before .pre .1 .1 .1 .1) (c .before .before .before .before .before .before .if1 .left) (p .0) (p .1) (p .2) (n .ensures .1) (n .ensures .2);
+      not-too-many = λ e. not-too-many (a .book .now) (a .layer) (a .off) (c .before .before .before .before .before .before .before .before .before .before .before .before .before .before .before .before .before .before .before .before .before .pre .0) made (n .result) (n .ensures .0) l (c .before .before .before .before .before .before .if1 .left);
+      ready = λ e. made-ready (a .book .now) (a .layer) (a .off) (c .before .before .before .before .before .before .before .before .before .before .before .before .before .before .before .before .before .before .before .before .before .pre .0) made (n .result) (n .ensures .0) l (a .plan .now) (c .before .before .before .before .before .before .before .before .before .before .before .before .before .before .before .before .before .before .before .before .before .pre .1 .1 .1 .1) (c .before .before .before .before .before .before .if1 .left) (p .0) (p .1) (p .2) (n .ensures .1) (n .ensures .2);
     }
 
 pub set-up-spec : {M : Type 1} → statement M

@@ -50,8 +50,8 @@ is-stable-requires c κs =
     let h = c .before .before .before .before .before .before .before .before .before .before .before .pre in
     let m = c .before .before .before .before .before .before .before .before .read-candidate in
     let t = c .before .before .before .before .before .before .prepare .ensures in
-    let q = program-atoms (e .book .now) (e .layer) (e .n) (h .1 .1 .1 .0 .0) in (
-      alike-formed (lent-alike t q) (accepted-formed (e .book .now) (h .0) (e .layer)),
+    let q = program-atoms (e .book .now) (e .layer) (e .off) (e .n) (h .1 .1 .1 .0 .0) in (
+      alike-formed (lent-alike t q) (accepted-formed (e .book .now) (h .0) (e .layer) (e .off)),
       (lent-tabled t q, (sym (tabled-atoms _ _ (e .n)), (h .1 .1 .1 .0 .1, (lent-size (e .n) (e .candidate .now) (m .result) (m .ensures), search needs)))),
     )
 
@@ -60,7 +60,7 @@ returns c =
     let e = c .before .before .before .before .before .before .before .before .before .before .before .before .before .args in
     let h = c .before .before .before .before .before .before .before .before .before .before .before .before .before .pre in
     let m = c .before .before .before .before .before .before .before .before .before .before .read-candidate in
-    stable-over (c .before .before .before .before .before .before .before .before .prepare .ensures) (program-atoms (e .book .now) (e .layer) (e .n) (h .1 .1 .1 .0 .0)) (e .candidate .now) (m .result) (m .ensures) _ (c .before .is-stable .ensures)
+    stable-over (c .before .before .before .before .before .before .before .before .prepare .ensures) (program-atoms (e .book .now) (e .layer) (e .off) (e .n) (h .1 .1 .1 .0 .0)) (e .candidate .now) (m .result) (m .ensures) _ (c .before .is-stable .ensures)
 
 pub candidate-stable-spec : {M : Type 1} → statement M
 candidate-stable-spec =
