@@ -52,54 +52,54 @@ use Rattle.list_call.specs.Condition3.{Call, Granted, after, facts, list
 -- ---- what a granted call says
 record Told (c : Call) (k g : ℕ) : Type 0 where
   accepted : IsAccepted (c .book)
-  count : k ≡ length (stableModels (programOf (c .book) (c .layer)))
-  branch : g ≡ branchingCount (programOf (c .book) (c .layer))
+  count : k ≡ length (stableModels (programOf (c .book) (c .layer) (c .off)))
+  branch : g ≡ branchingCount (programOf (c .book) (c .layer) (c .off))
   few : g ≤ maxBranching
-  room : length (listing (programOf (c .book) (c .layer))) ≤ length (c .buffer)
-  bytes : after c ≡ listing (programOf (c .book) (c .layer)) ++ drop (length (listing (programOf (c .book) (c .layer)))) (c .buffer)
+  room : length (listing (programOf (c .book) (c .layer) (c .off))) ≤ length (c .buffer)
+  bytes : after c ≡ listing (programOf (c .book) (c .layer) (c .off)) ++ drop (length (listing (programOf (c .book) (c .layer) (c .off)))) (c .buffer)
 
 -- none of the tests of a granted call applies
-passed : (c : Call) → firstOf (listTests (c .book) (c .layer) (length (c .buffer))) ≡ Accepted → (t : Test)
-    → t ∈ (layerTests (c .book) (c .layer) ++ searchTests (programOf (c .book) (c .layer)) (length (c .buffer))) → t .applies ≡ false
+passed : (c : Call) → firstOf (listTests (c .book) (c .layer) (c .off) (length (c .buffer))) ≡ Accepted → (t : Test)
+    → t ∈ (layerTests (c .book) (c .layer) (c .off) ++ searchTests (programOf (c .book) (c .layer) (c .off)) (length (c .buffer))) → t .applies ≡ false
 unfolding listTests
-passed c q = accepted-none (layerTests (c .book) (c .layer) ++ searchTests (programOf (c .book) (c .layer)) (length (c .buffer))) .0 q
+passed c q = accepted-none (layerTests (c .book) (c .layer) (c .off) ++ searchTests (programOf (c .book) (c .layer) (c .off)) (length (c .buffer))) .0 q
 
-passed-layer : (c : Call) → firstOf (listTests (c .book) (c .layer) (length (c .buffer))) ≡ Accepted → IsAccepted (c .book)
+passed-layer : (c : Call) → firstOf (listTests (c .book) (c .layer) (c .off) (length (c .buffer))) ≡ Accepted → IsAccepted (c .book)
 passed-layer c q =
-    driven (c .book) (c .layer)
-    (accepted-none (layerTests (c .book) (c .layer)) .1 (λ t k. passed c q t (Memᴰ·append-left (searchTests (programOf (c .book) (c .layer)) (length (c .buffer))) k))) .0
+    driven (c .book) (c .layer) (c .off)
+    (accepted-none (layerTests (c .book) (c .layer) (c .off)) .1 (λ t k. passed c q t (Memᴰ·append-left (searchTests (programOf (c .book) (c .layer) (c .off)) (length (c .buffer))) k))) .0
 
-passed-branching : (c : Call) → firstOf (listTests (c .book) (c .layer) (length (c .buffer))) ≡ Accepted → branchingCount (programOf (c .book) (c .layer)) ≤ maxBranching
+passed-branching : (c : Call) → firstOf (listTests (c .book) (c .layer) (c .off) (length (c .buffer))) ≡ Accepted → branchingCount (programOf (c .book) (c .layer) (c .off)) ≤ maxBranching
 unfolding searchTests hasTooManyBranching
 passed-branching c q =
-    ltb-false maxBranching (branchingCount (programOf (c .book) (c .layer)))
-    (passed c q (record { cause = TooManyBranching; applies = hasTooManyBranching (programOf (c .book) (c .layer)) }) (Memᴰ·append-right (layerTests (c .book) (c .layer)) (List·Memᴰ·head refl)))
+    ltb-false maxBranching (branchingCount (programOf (c .book) (c .layer) (c .off)))
+    (passed c q (record { cause = TooManyBranching; applies = hasTooManyBranching (programOf (c .book) (c .layer) (c .off)) }) (Memᴰ·append-right (layerTests (c .book) (c .layer) (c .off)) (List·Memᴰ·head refl)))
 
-passed-room : (c : Call) → firstOf (listTests (c .book) (c .layer) (length (c .buffer))) ≡ Accepted → length (listing (programOf (c .book) (c .layer))) ≤ length (c .buffer)
+passed-room : (c : Call) → firstOf (listTests (c .book) (c .layer) (c .off) (length (c .buffer))) ≡ Accepted → length (listing (programOf (c .book) (c .layer) (c .off))) ≤ length (c .buffer)
 unfolding searchTests roomTests
 passed-room c q =
-    ltb-false (length (c .buffer)) (length (listing (programOf (c .book) (c .layer))))
-    (passed c q (record { cause = BufferTooShort; applies = ltb (length (c .buffer)) (length (listing (programOf (c .book) (c .layer)))) })
-    (Memᴰ·append-right (layerTests (c .book) (c .layer)) (List·Memᴰ·tail (List·Memᴰ·head refl))))
+    ltb-false (length (c .buffer)) (length (listing (programOf (c .book) (c .layer) (c .off))))
+    (passed c q (record { cause = BufferTooShort; applies = ltb (length (c .buffer)) (length (listing (programOf (c .book) (c .layer) (c .off)))) })
+    (Memᴰ·append-right (layerTests (c .book) (c .layer) (c .off)) (List·Memᴰ·tail (List·Memᴰ·head refl))))
 
 told : (c : Call) (k g : ℕ) → Granted c k g → Told c k g
 unfolding listReply listBuffer replyOf bufferOf
-told c k g e = go (firstOf (listTests (c .book) (c .layer) (length (c .buffer)))) refl e
+told c k g e = go (firstOf (listTests (c .book) (c .layer) (c .off) (length (c .buffer)))) refl e
   where
     P : Program
-    P = programOf (c .book) (c .layer)
+    P = programOf (c .book) (c .layer) (c .off)
 
-    go : (v : Verdict) → firstOf (listTests (c .book) (c .layer) (length (c .buffer))) ≡ v → replyOf v (programOf (c .book) (c .layer)) ≡ reply.Listed k g → Told c k g
+    go : (v : Verdict) → firstOf (listTests (c .book) (c .layer) (c .off) (length (c .buffer))) ≡ v → replyOf v (programOf (c .book) (c .layer) (c .off)) ≡ reply.Listed k g → Told c k g
     go (Refused x) q f = absurd (let z : _≡_ {A = ℕ} 0 1 = cc in omega arith)
     go Accepted q f =
-        let b : g ≡ branchingCount (programOf (c .book) (c .layer)) = cc in
+        let b : g ≡ branchingCount (programOf (c .book) (c .layer) (c .off)) = cc in
         record {
           accepted = passed-layer c q;
           count = cc;
           branch = b;
           few = subst (λ (x : ℕ). x ≤ maxBranching) (sym b) (passed-branching c q);
           room = passed-room c q;
-          bytes = ap (λ (v : Verdict). bufferOf v (programOf (c .book) (c .layer)) (c .buffer)) q;
+          bytes = ap (λ (v : Verdict). bufferOf v (programOf (c .book) (c .layer) (c .off)) (c .buffer)) q;
         }
 
 -- ---- records by their place
@@ -148,10 +148,10 @@ record-place n ms rest i h =
 -- ---- one granted call
 module _ (c : Call) (k g : ℕ) (w : Told c k g) where
   abbrev P : Program
-  P = programOf (c .book) (c .layer)
+  P = programOf (c .book) (c .layer) (c .off)
 
   formed : WellFormed P
-  formed = accepted-formed (c .book) (w .accepted) (c .layer)
+  formed = accepted-formed (c .book) (w .accepted) (c .layer) (c .off)
 
   atoms-facts : P .atoms ≡ facts c
   unfolding programAt
@@ -277,7 +277,7 @@ unfolding programAt
 equal-exactly c d k g j h a b =
     let v : Told c k g = told c k g a in
     let w : Told d j h = told d j h b in
-    let both = listings-decide (programOf (c .book) (c .layer)) (programOf (d .book) (d .layer)) (ranges c k g v .0) (ranges c k g v .1) (ranges d j h w .1) in
+    let both = listings-decide (programOf (c .book) (c .layer) (c .off)) (programOf (d .book) (d .layer) (d .off)) (ranges c k g v .0) (ranges c k g v .1) (ranges d j h w .1) in
     (λ e. both .0 (sym (listed-is c k g v) ∙ e ∙ listed-is d j h w), λ x. listed-is c k g v ∙ both .1 x ∙ sym (listed-is d j h w))
 
 -- the numbers of a granted answer are small

@@ -15,19 +15,20 @@ use Rattle.table.specs.Table.{programOf}
 use Rattle.list_call.specs.declared.ListReply.the-variants.{Listed}
 use Rattle.list_call.specs.Reply.{listReply, listBuffer}
 
--- a call: a book, a driven layer, and the bytes of the lent buffer before it
+-- a call: a book, a driven layer, the set of layers that are switched off, and the bytes of the lent buffer before it
 pub record Call : Type 0 where
   pub book : List ℕ
   pub layer : ℕ
+  pub off : ℕ
   pub buffer : List ℕ
 
 -- the call is granted, and its answer carries k and g
 abbrev pub Granted : Call → ℕ → ℕ → Type 0
-Granted c k g = listReply (c .book) (c .layer) (c .buffer) ≡ Listed k g
+Granted c k g = listReply (c .book) (c .layer) (c .off) (c .buffer) ≡ Listed k g
 
 -- the bytes of the buffer after the call
 abbrev pub after : Call → List ℕ
-after c = listBuffer (c .book) (c .layer) (c .buffer)
+after c = listBuffer (c .book) (c .layer) (c .off) (c .buffer)
 
 abbrev pub facts : Call → ℕ
 facts c = bookOf (c .book) .atoms
@@ -40,16 +41,17 @@ listed c k = take (11 + k * recordSize (facts c)) (after c)
 abbrev pub recordAt : Call → ℕ → List ℕ
 recordAt c i = take (recordSize (facts c)) (drop (11 + i * recordSize (facts c)) (after c))
 
--- a stable model of the call's book at its layer, as Leite, Alferes and Pereira define it
+-- a stable model of the call's book at its layer under its set, as Leite, Alferes and Pereira define it
 abbrev pub Model : Call → Interpretation → Type 0
-Model c m = StableModel (programOf (c .book) (c .layer)) m
+Model c m = StableModel (programOf (c .book) (c .layer) (c .off)) m
 
--- as many facts, and the same set of stable models at the two layers
+-- as many facts, and the same set of stable models at the two layers, each under its own set
 abbrev pub SameModels : Call → Call → Type 0
 SameModels c d = (facts c ≡ facts d) × ((m : Interpretation) → Model c m ↔ Model d m)
 
 -- (i) "Where both listings are granted, they are equal byte for byte exactly when both books have the same number of facts and
--- the same set of stable models at those layers."
+-- the same set of stable models at those layers." Document 02, (h): "Two listings under two sets compare as before, each under its
+-- own set."
 abbrev pub EqualExactly : Type 0
 EqualExactly = (c d : Call) (k g j h : ℕ) → Granted c k g → Granted d j h → (listed c k ≡ listed d j) ↔ SameModels c d
 
@@ -74,7 +76,7 @@ pub record Lists (c : Call) (k g : ℕ) : Type 0 where
   -- (iv) "and it is at most 2 to the power g"
   pub bounded : k ≤ 2 ^ g
   -- (v) "Here g is the number of the book's branching facts at that layer, the count that the answer carries."
-  pub branching-is : g ≡ branchingCount (programOf (c .book) (c .layer))
+  pub branching-is : g ≡ branchingCount (programOf (c .book) (c .layer) (c .off))
 
 abbrev pub ListsExactly : Type 0
 ListsExactly = (c : Call) (k g : ℕ) → Granted c k g → Lists c k g

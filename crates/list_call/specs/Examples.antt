@@ -1,5 +1,5 @@
 -- Document 01's starred classroom examples, of the call itself: the table of crates/models/specs/Examples.antt says what the call
--- answers and which bytes it leaves, in every buffer that has room. proofs/ExampleLaws.antt proves it. Assumes nothing.
+-- answers with nothing switched off and which bytes it leaves, in every buffer that has room. proofs/ExampleLaws.antt proves it. Assumes nothing.
 use mathlib.Core.Path.{_≡_}
 use mathlib.Core.List.{List, _++_, List·Memᴰ}
 use Prim.Native.Nat.{ℕ, _≤_}
@@ -19,8 +19,8 @@ stateCount e = u32At (e .written) 7
 -- example's bytes stand in front, and the bytes past them are as they were.
 pub record ExampleAnswered (e : Example) : Type 0 where
   pub accepted : verdict (e .book) ≡ Accepted
-  pub answer : (buffer : List ℕ) → length (e .written) ≤ length buffer → listReply (e .book) (e .layer) buffer ≡ Listed (stateCount e) (e .branches)
-  pub bytes : (buffer : List ℕ) → length (e .written) ≤ length buffer → listBuffer (e .book) (e .layer) buffer ≡ e .written ++ drop (length (e .written)) buffer
+  pub answer : (buffer : List ℕ) → length (e .written) ≤ length buffer → listReply (e .book) (e .layer) 0 buffer ≡ Listed (stateCount e) (e .branches)
+  pub bytes : (buffer : List ℕ) → length (e .written) ≤ length buffer → listBuffer (e .book) (e .layer) 0 buffer ≡ e .written ++ drop (length (e .written)) buffer
 
 abbrev pub ExamplesAnswered : Type 0
 ExamplesAnswered = (e : Example) → List·Memᴰ e table → ExampleAnswered e

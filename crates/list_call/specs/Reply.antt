@@ -26,8 +26,8 @@ unfoldable pub searchTests : Program → ℕ → List Test
 searchTests P room = record { cause = TooManyBranching; applies = hasTooManyBranching P } ∷ roomTests P room
 
 -- the causes of the book and of the driven layer, then 12 and 13
-unfoldable pub listTests : List ℕ → ℕ → ℕ → List Test
-listTests book layer room = layerTests book layer ++ searchTests (programOf book layer) room
+unfoldable pub listTests : List ℕ → ℕ → ℕ → ℕ → List Test
+listTests book layer off room = layerTests book layer off ++ searchTests (programOf book layer off) room
 
 -- a refusal, or k and g
 unfoldable pub replyOf : Verdict → Program → ListReply
@@ -39,11 +39,11 @@ unfoldable pub bufferOf : Verdict → Program → List ℕ → List ℕ
 bufferOf (Refused c) P old = old
 bufferOf Accepted P old = listing P ++ drop (length (listing P)) old
 
-unfoldable pub listReply : List ℕ → ℕ → List ℕ → ListReply
-listReply book layer old = replyOf (firstOf (listTests book layer (length old))) (programOf book layer)
+unfoldable pub listReply : List ℕ → ℕ → ℕ → List ℕ → ListReply
+listReply book layer off old = replyOf (firstOf (listTests book layer off (length old))) (programOf book layer off)
 
-unfoldable pub listBuffer : List ℕ → ℕ → List ℕ → List ℕ
-listBuffer book layer old = bufferOf (firstOf (listTests book layer (length old))) (programOf book layer) old
+unfoldable pub listBuffer : List ℕ → ℕ → ℕ → List ℕ → List ℕ
+listBuffer book layer off old = bufferOf (firstOf (listTests book layer off (length old))) (programOf book layer off) old
 
 -- the answer and the buffer that a verdict comes to
 pub record Answers (v : Verdict) (P : Program) (old : List ℕ) (r : ListReply) (new : List ℕ) : Type 0 where

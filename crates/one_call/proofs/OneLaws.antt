@@ -121,17 +121,17 @@ module _ {P Q : Program} (a : Alike P Q) where
       }
 
 -- a granted answer carries a g of at most 20
-pub granted-small : (book : List ℕ) (layer : ℕ) (old : List ℕ) (g : ℕ) → oneReply book layer old ≡ reply.Written g → g ≤ maxBranching
+pub granted-small : (book : List ℕ) (layer off : ℕ) (old : List ℕ) (g : ℕ) → oneReply book layer off old ≡ reply.Written g → g ≤ maxBranching
 unfolding oneReply replyOf oneTests searchTests hasTooManyBranching
-granted-small book layer old g e = go (firstOf (oneTests book layer (length old))) refl e
+granted-small book layer off old g e = go (firstOf (oneTests book layer off (length old))) refl e
   where
-    go : (v : Verdict) → firstOf (oneTests book layer (length old)) ≡ v → replyOf v (programOf book layer) ≡ reply.Written g → g ≤ maxBranching
+    go : (v : Verdict) → firstOf (oneTests book layer off (length old)) ≡ v → replyOf v (programOf book layer off) ≡ reply.Written g → g ≤ maxBranching
     go (Refused c) q f = let z : _≡_ {A = ℕ} 0 1 = cc in absurd (omega arith)
     go Accepted q f =
-        let b : g ≡ branchingCount (programOf book layer) = cc in
+        let b : g ≡ branchingCount (programOf book layer off) = cc in
         omega (
           arith,
           b,
-          ltb-false maxBranching (branchingCount (programOf book layer))
-              (accepted-none (oneTests book layer (length old)) .0 q (record { cause = TooManyBranching; applies = hasTooManyBranching (programOf book layer) }) (Memᴰ·append-right (layerTests book layer) (List·Memᴰ·head refl))),
+          ltb-false maxBranching (branchingCount (programOf book layer off))
+              (accepted-none (oneTests book layer off (length old)) .0 q (record { cause = TooManyBranching; applies = hasTooManyBranching (programOf book layer off) }) (Memᴰ·append-right (layerTests book layer off) (List·Memᴰ·head refl))),
         )

@@ -30,8 +30,8 @@ unfoldable pub searchTests : Program → ℕ → List Test
 searchTests P room = record { cause = TooManyBranching; applies = hasTooManyBranching P } ∷ roomTests P room
 
 -- the causes of the book and of the driven layer, then 12, 13 and 14
-unfoldable pub oneTests : List ℕ → ℕ → ℕ → List Test
-oneTests book layer room = layerTests book layer ++ searchTests (programOf book layer) room
+unfoldable pub oneTests : List ℕ → ℕ → ℕ → ℕ → List Test
+oneTests book layer off room = layerTests book layer off ++ searchTests (programOf book layer off) room
 
 -- a refusal, or g
 unfoldable pub replyOf : Verdict → Program → OneReply
@@ -49,11 +49,11 @@ abbrev pub BufferOf : Verdict → Program → List ℕ → List ℕ → Type 0
 BufferOf (Refused c) P old new = new ≡ old
 BufferOf Accepted P old new = Holds P old new
 
-unfoldable pub oneReply : List ℕ → ℕ → List ℕ → OneReply
-oneReply book layer old = replyOf (firstOf (oneTests book layer (length old))) (programOf book layer)
+unfoldable pub oneReply : List ℕ → ℕ → ℕ → List ℕ → OneReply
+oneReply book layer off old = replyOf (firstOf (oneTests book layer off (length old))) (programOf book layer off)
 
-abbrev pub OneBuffer : List ℕ → ℕ → List ℕ → List ℕ → Type 0
-OneBuffer book layer old new = BufferOf (firstOf (oneTests book layer (length old))) (programOf book layer) old new
+abbrev pub OneBuffer : List ℕ → ℕ → ℕ → List ℕ → List ℕ → Type 0
+OneBuffer book layer off old new = BufferOf (firstOf (oneTests book layer off (length old))) (programOf book layer off) old new
 
 -- the answer and the buffer that a verdict comes to
 pub record Answers (v : Verdict) (P : Program) (old : List ℕ) (r : OneReply) (new : List ℕ) : Type 0 where

@@ -210,29 +210,29 @@ all-fails {A} p xs e = go (decLt (length (filter p xs)) (length xs))
     go (yes h) = one-fails p xs h
     go (no h) = absurd (subst T e (all-of p xs (pass-all p xs (omega arith))))
 
-module _ (book : List ℕ) (layer fact : ℕ) where
+module _ (book : List ℕ) (layer off fact : ℕ) where
   abbrev Q : Program
-  Q = programOf book layer
+  Q = programOf book layer off
 
   abbrev has : Interpretation → Bool
   has m = atomHolds m fact
 
-  told : (p : Place) → Answers book layer fact p → NoCause book layer fact × (placeIn Q fact ≡ p)
+  told : (p : Place) → Answers book layer off fact p → NoCause book layer off fact × (placeIn Q fact ≡ p)
   unfolding placeReply replyOf
-  told p e = go (firstOf (placeTests book layer fact)) refl e
+  told p e = go (firstOf (placeTests book layer off fact)) refl e
     where
-      go : (v : Verdict) → firstOf (placeTests book layer fact) ≡ v → replyOf v Q fact ≡ reply.Placed p (branchingCount Q) → NoCause book layer fact × (placeIn Q fact ≡ p)
+      go : (v : Verdict) → firstOf (placeTests book layer off fact) ≡ v → replyOf v Q fact ≡ reply.Placed p (branchingCount Q) → NoCause book layer off fact × (placeIn Q fact ≡ p)
       go (Refused c) q f = let z : _≡_ {A = ℕ} 0 1 = cc in absurd (omega arith)
-      go Accepted q f = (accepted-none (placeTests book layer fact) .0 q, cc)
+      go Accepted q f = (accepted-none (placeTests book layer off fact) .0 q, cc)
 
-  tells : (p : Place) → NoCause book layer fact → placeIn Q fact ≡ p → Answers book layer fact p
+  tells : (p : Place) → NoCause book layer off fact → placeIn Q fact ≡ p → Answers book layer off fact p
   unfolding placeReply replyOf
-  tells p n e = ap (λ (v : Verdict). replyOf v Q fact) (accepted-none (placeTests book layer fact) .1 n) ∙ ap (λ (x : Place). reply.Placed x (branchingCount Q)) e
+  tells p n e = ap (λ (v : Verdict). replyOf v Q fact) (accepted-none (placeTests book layer off fact) .1 n) ∙ ap (λ (x : Place). reply.Placed x (branchingCount Q)) e
 
-  pub some-model : SomeModel book layer fact
+  pub some-model : SomeModel book layer off fact
   unfolding placeTests factTests searchTests stateTests
   some-model n =
-      some-state Q (n (record { cause = NoStableState; applies = hasNoStableState Q }) (Memᴰ·append-right (layerTests book layer) (List·Memᴰ·tail (List·Memᴰ·tail (List·Memᴰ·head refl)))))
+      some-state Q (n (record { cause = NoStableState; applies = hasNoStableState Q }) (Memᴰ·append-right (layerTests book layer off) (List·Memᴰ·tail (List·Memᴰ·tail (List·Memᴰ·head refl)))))
 
   every-from : placeIn Q fact ≡ Every → (m : Interpretation) → StableModel Q m → T (has m)
   unfolding placeIn
@@ -250,16 +250,16 @@ module _ (book : List ℕ) (layer fact : ℕ) where
       go (inl t) = absurd (not-nowhere (all has (stableModels Q)) (ap (λ (b : Bool). placeBy (all has (stableModels Q)) b) (sym (passed (any has (stableModels Q)) (any-of has (models-into Q m s) t))) ∙ e))
       go (inr f) = f
 
-  pub every-exactly : EveryExactly book layer fact
+  pub every-exactly : EveryExactly book layer off fact
   every-exactly = (λ e. let w = told Every e in (w .0, every-from (w .1)), λ w. tells Every (w .0) (place-every Q fact (w .1)))
 
-  pub nowhere-exactly : NowhereExactly book layer fact
+  pub nowhere-exactly : NowhereExactly book layer off fact
   nowhere-exactly = (
     λ e. let w = told Nowhere e in (w .0, nowhere-from (w .1)),
     λ w. let s = some-model (w .0) in tells Nowhere (w .0) (place-nowhere Q fact (s .0) (s .1) (w .1)),
   )
 
-  pub in-some-exactly : InSomeExactly book layer fact
+  pub in-some-exactly : InSomeExactly book layer off fact
   unfolding placeIn
   in-some-exactly = (
     λ e.
@@ -272,11 +272,11 @@ module _ (book : List ℕ) (layer fact : ℕ) where
   )
 
   -- a granted answer carries a g of at most 20
-  pub granted-small : (p : Place) (g : ℕ) → placeReply book layer fact ≡ reply.Placed p g → g ≤ maxBranching
+  pub granted-small : (p : Place) (g : ℕ) → placeReply book layer off fact ≡ reply.Placed p g → g ≤ maxBranching
   unfolding placeReply replyOf placeTests factTests searchTests hasTooManyBranching
-  granted-small p g e = go (firstOf (placeTests book layer fact)) refl e
+  granted-small p g e = go (firstOf (placeTests book layer off fact)) refl e
     where
-      go : (v : Verdict) → firstOf (placeTests book layer fact) ≡ v → replyOf v Q fact ≡ reply.Placed p g → g ≤ maxBranching
+      go : (v : Verdict) → firstOf (placeTests book layer off fact) ≡ v → replyOf v Q fact ≡ reply.Placed p g → g ≤ maxBranching
       go (Refused c) q f = let z : _≡_ {A = ℕ} 0 1 = cc in absurd (omega arith)
       go Accepted q f =
           let b : g ≡ branchingCount Q = cc in
@@ -284,5 +284,5 @@ module _ (book : List ℕ) (layer fact : ℕ) where
             arith,
             b,
             ltb-false maxBranching (branchingCount Q)
-                (accepted-none (placeTests book layer fact) .0 q (record { cause = TooManyBranching; applies = hasTooManyBranching Q }) (Memᴰ·append-right (layerTests book layer) (List·Memᴰ·tail (List·Memᴰ·head refl)))),
+                (accepted-none (placeTests book layer off fact) .0 q (record { cause = TooManyBranching; applies = hasTooManyBranching Q }) (Memᴰ·append-right (layerTests book layer off) (List·Memᴰ·tail (List·Memᴰ·head refl)))),
           )

@@ -39,8 +39,8 @@ unfoldable pub factTests : Program → ℕ → List Test
 factTests P fact = record { cause = NoSuchFact; applies = isNoSuchFact P fact } ∷ searchTests P
 
 -- the causes of the book and of the driven layer, then 11, 12 and 14
-unfoldable pub placeTests : List ℕ → ℕ → ℕ → List Test
-placeTests book layer fact = layerTests book layer ++ factTests (programOf book layer) fact
+unfoldable pub placeTests : List ℕ → ℕ → ℕ → ℕ → List Test
+placeTests book layer off fact = layerTests book layer off ++ factTests (programOf book layer off) fact
 
 -- from whether all have the fact, and whether any has
 unfoldable pub placeBy : Bool → Bool → Place
@@ -58,21 +58,21 @@ replyOf (Refused c) P fact = reply.Refused c
 replyOf Accepted P fact = reply.Placed (placeIn P fact) (branchingCount P)
 
 -- the first cause that applies; where none does, the fact's place with g
-unfoldable pub placeReply : List ℕ → ℕ → ℕ → PlaceReply
-placeReply book layer fact = replyOf (firstOf (placeTests book layer fact)) (programOf book layer) fact
+unfoldable pub placeReply : List ℕ → ℕ → ℕ → ℕ → PlaceReply
+placeReply book layer off fact = replyOf (firstOf (placeTests book layer off fact)) (programOf book layer off) fact
 
 -- What each place says of the stable models of the inductive definition; proofs/PlaceLaws.antt proves these for all bytes.
-module _ (book : List ℕ) (layer fact : ℕ) where
+module _ (book : List ℕ) (layer off fact : ℕ) where
   -- none of the causes applies; that there is a stable model is one of them (`some-model`)
   abbrev pub NoCause : Type 0
-  NoCause = (t : Test) → List·Memᴰ t (placeTests book layer fact) → t .applies ≡ false
+  NoCause = (t : Test) → List·Memᴰ t (placeTests book layer off fact) → t .applies ≡ false
 
   abbrev pub Model : Interpretation → Type 0
-  Model m = StableModel (programOf book layer) m
+  Model m = StableModel (programOf book layer off) m
 
   -- the answer is this place, with the number of the branching facts
   abbrev pub Answers : Place → Type 0
-  Answers p = placeReply book layer fact ≡ reply.Placed p (branchingCount (programOf book layer))
+  Answers p = placeReply book layer off fact ≡ reply.Placed p (branchingCount (programOf book layer off))
 
   abbrev pub SomeModel : Type 0
   SomeModel = NoCause → (m : Interpretation) × Model m
