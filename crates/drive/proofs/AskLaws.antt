@@ -118,24 +118,24 @@ module _ {P : Program} {book rows plan : List ℕ} {rules : ℕ} {few : Bool} {s
   answered q f h {old} x = rw (own-left P n e (length old) q f (up .not-too-many h)) (answers-over q (up .alike) x)
 
 -- ---- the call
-module _ (q : Question) (book : List ℕ) (layer : ℕ) (old : List ℕ) (v : Verdict) (e : v ≡ firstOf (layerTests book layer)) where
-  pub call-refused : (c : Cause) → v ≡ Refused c → {r : Answer} → r ≡ refusalOf q c → Asked q book layer old r old
-  call-refused c h z = refused-as q c (programOf book layer) old z (first-refused (layerTests book layer) (askedTests q (programOf book layer) (length old)) c (sym e ∙ h))
+module _ (q : Question) (book : List ℕ) (layer off : ℕ) (old : List ℕ) (v : Verdict) (e : v ≡ firstOf (layerTests book layer off)) where
+  pub call-refused : (c : Cause) → v ≡ Refused c → {r : Answer} → r ≡ refusalOf q c → Asked q book layer off old r old
+  call-refused c h z = refused-as q c (programOf book layer off) old z (first-refused (layerTests book layer off) (askedTests q (programOf book layer off) (length old)) c (sym e ∙ h))
 
-  pub call-answered : v ≡ Accepted → {r : Answer} {new : List ℕ} → Answers q (firstOf (askedTests q (programOf book layer) (length old))) (programOf book layer) old r new
-      → Asked q book layer old r new
-  call-answered h a = rw (first-append (layerTests book layer) (askedTests q (programOf book layer) (length old)) (sym e ∙ h)) a
+  pub call-answered : v ≡ Accepted → {r : Answer} {new : List ℕ} → Answers q (firstOf (askedTests q (programOf book layer off) (length old))) (programOf book layer off) old r new
+      → Asked q book layer off old r new
+  call-answered h a = rw (first-append (layerTests book layer off) (askedTests q (programOf book layer off) (length old)) (sym e ∙ h)) a
 
 -- ---- what the promise of `ask` says to each call
-module _ (book : List ℕ) (layer : ℕ) (old new : List ℕ) (r : Answer) where
-  pub list-told : Asked question.List book layer old r new → (r ≡ Listing (list.listReply book layer old)) × (new ≡ list.listBuffer book layer old)
+module _ (book : List ℕ) (layer off : ℕ) (old new : List ℕ) (r : Answer) where
+  pub list-told : Asked question.List book layer off old r new → (r ≡ Listing (list.listReply book layer off old)) × (new ≡ list.listBuffer book layer off old)
   unfolding askedTests replyBy list.listReply list.listBuffer list.listTests
   list-told a = (a .reply-is, a .buffer-is)
 
-  pub one-told : Asked question.One book layer old r new → (r ≡ State (one.oneReply book layer old)) × one.OneBuffer book layer old new
+  pub one-told : Asked question.One book layer off old r new → (r ≡ State (one.oneReply book layer off old)) × one.OneBuffer book layer off old new
   unfolding askedTests replyBy one.oneReply one.oneTests
   one-told a = (a .reply-is, a .buffer-is)
 
-  pub place-told : (fact : ℕ) → Asked (question.Place fact) book layer old r new → r ≡ Standing (place.placeReply book layer fact)
+  pub place-told : (fact : ℕ) → Asked (question.Place fact) book layer off old r new → r ≡ Standing (place.placeReply book layer off fact)
   unfolding askedTests replyBy place.placeReply place.placeTests
   place-told fact a = a .reply-is

@@ -63,7 +63,7 @@ pub record Answers (q : Question) (v : Verdict) (P : Program) (old : List ℕ) (
   pub reply-is : r ≡ replyBy q v P
   pub buffer-is : BufferBy q v P old new
 
--- the first cause that applies, from 1 on; where none does, what the question asks for at the driven layer
-abbrev pub Asked : Question → List ℕ → ℕ → List ℕ → Answer → List ℕ → Type 0
-Asked q book layer old r new =
-    Answers q (firstOf (layerTests book layer ++ askedTests q (programOf book layer) (length old))) (programOf book layer) old r new
+-- the first cause that applies, from 1 on; where none does, what the question asks for at the driven layer under the set
+abbrev pub Asked : Question → List ℕ → ℕ → ℕ → List ℕ → Answer → List ℕ → Type 0
+Asked q book layer off old r new =
+    Answers q (firstOf (layerTests book layer off ++ askedTests q (programOf book layer off) (length old))) (programOf book layer off) old r new

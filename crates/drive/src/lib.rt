@@ -88,10 +88,12 @@ fn find_answer(
 
 const ROWS: usize = ROW_SIZE * MAX_RULES;
 
-// The answer at a layer, once causes 1 to 9 are ruled out: what does not depend on a setting is worked out here.
+// The answer at a layer, with the layers of a set switched off, once causes 1 to 9 and 19 are ruled out: what does not depend on a
+// setting is worked out here.
 fn drive(
     book: &[u8],
     layer: usize,
+    off: u32,
     lower: [u32; MAX_LAYERS],
     question: Question,
     buffer: &mut [u8],
@@ -99,7 +101,7 @@ fn drive(
     requires { ⌜ IsAccepted (now book) ⌝ }
     requires { ⌜ layer < bookOf (now book) .layers ⌝ }
     requires { ⌜ LowerMasks (arrowsOf (now book)) lower ⌝ }
-    ensures { λ r. ⌜ Answers question (firstOf (askedTests question (programOf (now (book .entry)) layer) (length (now (buffer .entry))))) (programOf (now (book .entry)) layer) (now (buffer .entry)) r (now (buffer .exit)) ⌝ }
+    ensures { λ r. ⌜ Answers question (firstOf (askedTests question (programOf (now (book .entry)) layer off) (length (now (buffer .entry))))) (programOf (now (book .entry)) layer off) (now (buffer .entry)) r (now (buffer .exit)) ⌝ }
 {
     let n = atom_count(book);
     if asks_no_fact(question, n) {
@@ -107,7 +109,7 @@ fn drive(
     }
     let mut rows: [u16; ROWS] = [0; ROWS];
     let mut plan: [u32; PLAN] = [0; PLAN];
-    let driven = set_up(book, layer, lower, &mut rows, &mut plan);
+    let driven = set_up(book, layer, off, lower, &mut rows, &mut plan);
     let count = driven.rules;
     let sizes = driven.sizes;
     if driven.few {
@@ -123,15 +125,16 @@ fn drive(
     refusal(question, Cause::TooManyBranching)
 }
 
-// Answers a question about the book at the driven layer. A refusal leaves every byte of the buffer.
-pub fn ask(book: &[u8], layer: u32, question: Question, buffer: &mut [u8]) -> Answer
-    ensures { λ r. ⌜ Asked question (now (book .entry)) layer (now (buffer .entry)) r (now (buffer .exit)) ⌝ }
+// Answers a question about the book at the driven layer, with the layers of a set switched off. A refusal leaves every byte of the
+// buffer.
+pub fn ask(book: &[u8], layer: u32, off: u32, question: Question, buffer: &mut [u8]) -> Answer
+    ensures { λ r. ⌜ Asked question (now (book .entry)) layer off (now (buffer .entry)) r (now (buffer .exit)) ⌝ }
 {
-    let checked = check_layer(book, layer);
+    let checked = check_layer(book, layer, off);
     let lower = checked.lower;
     let v = checked.verdict;
     match v {
         Verdict::Refused(c) => refusal(question, c),
-        Verdict::Accepted => drive(book, layer as usize, lower, question, buffer),
+        Verdict::Accepted => drive(book, layer as usize, off, lower, question, buffer),
     }
 }

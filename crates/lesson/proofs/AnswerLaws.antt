@@ -21,24 +21,24 @@ use Rattle.drive.specs.declared.Answer.{Answer}
 use Rattle.drive.specs.declared.Answer.the-variants.{Listing, State, Standing}
 use Rattle.lesson.specs.Answers.{placeBits, placeAnswer, Fits}
 
-pub list-small : (book : List ℕ) (layer : ℕ) (buffer : List ℕ) (r : ListReply) (k g : ℕ) → r ≡ listReply book layer buffer → r ≡ Listed k g → (k ≤ 2 ^ maxBranching) × (g ≤ maxBranching)
-list-small book layer buffer r k g e q = granted-small (record { book = book; layer = layer; buffer = buffer }) k g (sym e ∙ q)
+pub list-small : (book : List ℕ) (layer off : ℕ) (buffer : List ℕ) (r : ListReply) (k g : ℕ) → r ≡ listReply book layer off buffer → r ≡ Listed k g → (k ≤ 2 ^ maxBranching) × (g ≤ maxBranching)
+list-small book layer off buffer r k g e q = granted-small (record { book = book; layer = layer; off = off; buffer = buffer }) k g (sym e ∙ q)
 
-pub one-small : (book : List ℕ) (layer : ℕ) (buffer : List ℕ) (r : OneReply) (g : ℕ) → r ≡ oneReply book layer buffer → r ≡ Written g → g ≤ maxBranching
-one-small book layer buffer r g e q = one-laws.granted-small book layer buffer g (sym e ∙ q)
+pub one-small : (book : List ℕ) (layer off : ℕ) (buffer : List ℕ) (r : OneReply) (g : ℕ) → r ≡ oneReply book layer off buffer → r ≡ Written g → g ≤ maxBranching
+one-small book layer off buffer r g e q = one-laws.granted-small book layer off buffer g (sym e ∙ q)
 
-pub place-small : (book : List ℕ) (layer fact : ℕ) (r : PlaceReply) (p : Place) (g : ℕ) → r ≡ placeReply book layer fact → r ≡ Placed p g → g ≤ maxBranching
-place-small book layer fact r p g e q = place-laws.granted-small book layer fact p g (sym e ∙ q)
+pub place-small : (book : List ℕ) (layer off fact : ℕ) (r : PlaceReply) (p : Place) (g : ℕ) → r ≡ placeReply book layer off fact → r ≡ Placed p g → g ≤ maxBranching
+place-small book layer off fact r p g e q = place-laws.granted-small book layer off fact p g (sym e ∙ q)
 
 pub placed-number : (r : PlaceReply) (p : Place) (g bits : ℕ) → r ≡ Placed p g → bits ≡ placeBits p → bits + g * 256 ≡ placeAnswer r
 placed-number r p g bits q b = ap (λ (x : ℕ). x + g * 256) b ∙ sym (ap placeAnswer q)
 
 -- ---- the same, of what `ask` answers
-pub list-fits : (book : List ℕ) (layer : ℕ) (buffer : List ℕ) {a : Answer} → a ≡ Listing (listReply book layer buffer) → Fits a
-list-fits book layer buffer e = rw e (λ k g q. list-small book layer buffer (listReply book layer buffer) k g refl q)
+pub list-fits : (book : List ℕ) (layer off : ℕ) (buffer : List ℕ) {a : Answer} → a ≡ Listing (listReply book layer off buffer) → Fits a
+list-fits book layer off buffer e = rw e (λ k g q. list-small book layer off buffer (listReply book layer off buffer) k g refl q)
 
-pub one-fits : (book : List ℕ) (layer : ℕ) (buffer : List ℕ) {a : Answer} → a ≡ State (oneReply book layer buffer) → Fits a
-one-fits book layer buffer e = rw e (λ g q. one-small book layer buffer (oneReply book layer buffer) g refl q)
+pub one-fits : (book : List ℕ) (layer off : ℕ) (buffer : List ℕ) {a : Answer} → a ≡ State (oneReply book layer off buffer) → Fits a
+one-fits book layer off buffer e = rw e (λ g q. one-small book layer off buffer (oneReply book layer off buffer) g refl q)
 
-pub place-fits : (book : List ℕ) (layer fact : ℕ) {a : Answer} → a ≡ Standing (placeReply book layer fact) → Fits a
-place-fits book layer fact e = rw e (λ p g q. place-small book layer fact (placeReply book layer fact) p g refl q)
+pub place-fits : (book : List ℕ) (layer off fact : ℕ) {a : Answer} → a ≡ Standing (placeReply book layer off fact) → Fits a
+place-fits book layer off fact e = rw e (λ p g q. place-small book layer off fact (placeReply book layer off fact) p g refl q)

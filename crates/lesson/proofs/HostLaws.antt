@@ -12,7 +12,7 @@ use Rattle.base.specs.Bounds.{maxBranching}
 use Rattle.book.specs.Causes.{verdict}
 use Rattle.book.specs.Numbers.{numberOf}
 use Rattle.book.specs.declared.Cause.{Cause}
-use Rattle.book.specs.declared.Cause.the-variants.{TooShort, WrongVersion, WrongLength, BrokenSection, OutOfRange, BadRecord, RepeatedArrow, Cycle, NoSuchLayer, BadCandidate, NoSuchFact, TooManyBranching, BufferTooShort, NoStableState}
+use Rattle.book.specs.declared.Cause.the-variants.{TooShort, WrongVersion, WrongLength, BrokenSection, OutOfRange, BadRecord, RepeatedArrow, Cycle, NoSuchLayer, NoSuchLayerOff, BadCandidate, NoSuchFact, TooManyBranching, BufferTooShort, NoStableState}
 use Rattle.book.specs.declared.Verdict.{Verdict}
 use Rattle.book.specs.declared.Verdict.the-variants.{Accepted, Refused}
 use Rattle.list_call.specs.Condition3.{Call, Granted}
@@ -36,11 +36,12 @@ use Rattle.lesson.specs.Host.{lessonGranted, lessonIsStable, lessonBranc
 use Rattle.lesson.proofs.AnswerLaws.{list-small, one-small, place-small}
 
 -- ---- the numbers of the causes
+-- those of 1 to 14
 causes : List Cause
 causes = TooShort ∷ WrongVersion ∷ WrongLength ∷ BrokenSection ∷ OutOfRange ∷ BadRecord ∷ RepeatedArrow ∷ Cycle ∷ NoSuchLayer ∷ BadCandidate ∷ NoSuchFact ∷ TooManyBranching ∷ BufferTooShort ∷ NoStableState ∷ []
 
 causeNumbered : ℕ → Cause
-causeNumbered n = getD causes (n - 1) NoStableState
+causeNumbered n = getD causes (n - 1) NoSuchLayerOff
 
 -- a number's cause is its own, and it is from 1 to 255
 numbered : (c : Cause) → (causeNumbered (numberOf c) ≡ c) × T (ltb 0 (numberOf c)) × T (ltb (numberOf c) 256)
@@ -54,6 +55,7 @@ numbered BadRecord = (refl, tt, tt)
 numbered RepeatedArrow = (refl, tt, tt)
 numbered Cycle = (refl, tt, tt)
 numbered NoSuchLayer = (refl, tt, tt)
+numbered NoSuchLayerOff = (refl, tt, tt)
 numbered BadCandidate = (refl, tt, tt)
 numbered NoSuchFact = (refl, tt, tt)
 numbered TooManyBranching = (refl, tt, tt)
@@ -195,16 +197,16 @@ place-meant (place.Refused c) = meant-refused placed-with place.Refused c 0
 pub answers-read : AnswersRead
 answers-read = record {
   lesson-check = host-reads (λ (g more : ℕ). Accepted) Refused _ checkAnswer lessonStateCount checkTold (λ x. check-read (verdict (x .book))) check-meant;
-  lesson-test = host-reads tested reply.Refused _ testAnswer lessonIsStable testTold (λ x. test-read (testReply (x .book) (x .layer) (x .candidate))) test-meant;
+  lesson-test = host-reads tested reply.Refused _ testAnswer lessonIsStable testTold (λ x. test-read (testReply (x .book) (x .layer) (x .off) (x .candidate))) test-meant;
   lesson-list =
       host-reads listed-with list.Refused _ listAnswer lessonStateCount listTold
-      (λ x. list-read (listReply (x .book) (x .layer) (x .buffer)) (λ k g e. list-small (x .book) (x .layer) (x .buffer) (listReply (x .book) (x .layer) (x .buffer)) k g refl e)) list-meant;
+      (λ x. list-read (listReply (x .book) (x .layer) (x .off) (x .buffer)) (λ k g e. list-small (x .book) (x .layer) (x .off) (x .buffer) (listReply (x .book) (x .layer) (x .off) (x .buffer)) k g refl e)) list-meant;
   lesson-one =
       host-reads (λ (g more : ℕ). one.Written g) one.Refused _ oneAnswer lessonStateCount oneTold
-      (λ x. one-read (oneReply (x .book) (x .layer) (x .buffer)) (λ g e. one-small (x .book) (x .layer) (x .buffer) (oneReply (x .book) (x .layer) (x .buffer)) g refl e)) one-meant;
+      (λ x. one-read (oneReply (x .book) (x .layer) (x .off) (x .buffer)) (λ g e. one-small (x .book) (x .layer) (x .off) (x .buffer) (oneReply (x .book) (x .layer) (x .off) (x .buffer)) g refl e)) one-meant;
   lesson-place =
       host-reads placed-with place.Refused _ placeAnswer lessonPlaceOf placeTold
-      (λ x. place-read (placeReply (x .book) (x .layer) (x .fact)) (λ p g e. place-small (x .book) (x .layer) (x .fact) (placeReply (x .book) (x .layer) (x .fact)) p g refl e)) place-meant;
+      (λ x. place-read (placeReply (x .book) (x .layer) (x .off) (x .fact)) (λ p g e. place-small (x .book) (x .layer) (x .off) (x .fact) (placeReply (x .book) (x .layer) (x .off) (x .fact)) p g refl e)) place-meant;
 }
 
 -- ---- condition 3, of the number
@@ -216,7 +218,7 @@ granted-reply (list.Refused c) e t = absurd (false≢true (sym (ap (λ (x : Read
 
 granted-call : (c : Call) → lessonGranted (listNumber c) ≡ true → Granted c (statesRead c) (branchingRead c)
 granted-call c t =
-    granted-reply (listReply (c .book) (c .layer) (c .buffer)) (answers-read .lesson-list .reads (record { book = c .book; layer = c .layer; candidate = []; buffer = c .buffer; fact = 0 })) t
+    granted-reply (listReply (c .book) (c .layer) (c .off) (c .buffer)) (answers-read .lesson-list .reads (record { book = c .book; layer = c .layer; off = c .off; candidate = []; buffer = c .buffer; fact = 0 })) t
 
 -- Condition 3 holds with the k and the g that a host reads from the number of lesson_list.
 pub condition3-read : Condition3Read

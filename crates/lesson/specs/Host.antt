@@ -115,6 +115,7 @@ placeTold (place.Refused c) = refusedFor c 0
 pub record Given : Type 0 where
   pub book : List ℕ
   pub layer : ℕ
+  pub off : ℕ
   pub candidate : List ℕ
   pub buffer : List ℕ
   pub fact : ℕ
@@ -128,10 +129,10 @@ pub record HostReads {Reply A : Type 0} (reply : Given → Reply) (answer : Repl
 -- The five calls. So lesson_list's number gives back k and g where the reply is `Listed k g`, and the cause where it is `Refused c`.
 pub record AnswersRead : Type 0 where
   pub lesson-check : HostReads (λ x. verdict (x .book)) checkAnswer lessonStateCount checkTold
-  pub lesson-test : HostReads (λ x. testReply (x .book) (x .layer) (x .candidate)) testAnswer lessonIsStable testTold
-  pub lesson-list : HostReads (λ x. listReply (x .book) (x .layer) (x .buffer)) listAnswer lessonStateCount listTold
-  pub lesson-one : HostReads (λ x. oneReply (x .book) (x .layer) (x .buffer)) oneAnswer lessonStateCount oneTold
-  pub lesson-place : HostReads (λ x. placeReply (x .book) (x .layer) (x .fact)) placeAnswer lessonPlaceOf placeTold
+  pub lesson-test : HostReads (λ x. testReply (x .book) (x .layer) (x .off) (x .candidate)) testAnswer lessonIsStable testTold
+  pub lesson-list : HostReads (λ x. listReply (x .book) (x .layer) (x .off) (x .buffer)) listAnswer lessonStateCount listTold
+  pub lesson-one : HostReads (λ x. oneReply (x .book) (x .layer) (x .off) (x .buffer)) oneAnswer lessonStateCount oneTold
+  pub lesson-place : HostReads (λ x. placeReply (x .book) (x .layer) (x .off) (x .fact)) placeAnswer lessonPlaceOf placeTold
 
 -- Each cause has a number of its own, and none has 0.
 pub record NumbersDiffer : Type 0 where
@@ -141,7 +142,7 @@ pub record NumbersDiffer : Type 0 where
 -- ---- the buyer's third condition, of the number
 -- what lesson_list answers a call, and the k and the g that a host reads from it
 abbrev pub listNumber : Call → ℕ
-listNumber c = listAnswer (listReply (c .book) (c .layer) (c .buffer))
+listNumber c = listAnswer (listReply (c .book) (c .layer) (c .off) (c .buffer))
 
 abbrev pub statesRead : Call → ℕ
 statesRead c = lessonStateCount (listNumber c)

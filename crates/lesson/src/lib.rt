@@ -50,12 +50,13 @@ fn test_number(r: TestReply) -> u64
     }
 }
 
-// Whether a candidate is a stable state of a book at a layer, or the first of causes 1 to 10 that applies.
+// Whether a candidate is a stable state of a book at a layer, with the layers of a set switched off, or the first of causes 1 to 10 and
+// 19 that applies.
 #[no_mangle]
-pub extern "C" fn lesson_test(book: &[u8], layer: u32, candidate: &[u8]) -> u64
-    ensures { λ r. ⌜ r ≡ testAnswer (testReply (now (book .entry)) layer (now (candidate .entry))) ⌝ }
+pub extern "C" fn lesson_test(book: &[u8], layer: u32, off: u32, candidate: &[u8]) -> u64
+    ensures { λ r. ⌜ r ≡ testAnswer (testReply (now (book .entry)) layer off (now (candidate .entry))) ⌝ }
 {
-    test_number(test(book, layer, candidate))
+    test_number(test(book, layer, off, candidate))
 }
 
 // A fact's place in bits 16 and 17.
@@ -114,32 +115,32 @@ fn answer_number(a: Answer) -> u64
     }
 }
 
-// Writes the listing of a book at a layer into the buffer, or names the first of causes 1 to 9, 12 and 13 that applies and leaves
-// every byte. The answer carries k and g.
+// Writes the listing of a book at a layer, with the layers of a set switched off, into the buffer, or names the first of causes 1 to 9,
+// 19, 12 and 13 that applies and leaves every byte. The answer carries k and g.
 #[no_mangle]
-pub extern "C" fn lesson_list(book: &[u8], layer: u32, buffer: &mut [u8]) -> u64
-    ensures answer { λ r. ⌜ r ≡ listAnswer (listReply (now (book .entry)) layer (now (buffer .entry))) ⌝ }
-    ensures bytes { λ _. ⌜ now (buffer .exit) ≡ listBuffer (now (book .entry)) layer (now (buffer .entry)) ⌝ }
+pub extern "C" fn lesson_list(book: &[u8], layer: u32, off: u32, buffer: &mut [u8]) -> u64
+    ensures answer { λ r. ⌜ r ≡ listAnswer (listReply (now (book .entry)) layer off (now (buffer .entry))) ⌝ }
+    ensures bytes { λ _. ⌜ now (buffer .exit) ≡ listBuffer (now (book .entry)) layer off (now (buffer .entry)) ⌝ }
 {
-    answer_number(ask(book, layer, Question::List, buffer))
+    answer_number(ask(book, layer, off, Question::List, buffer))
 }
 
-// Writes the record of a stable state of a book at a layer into the buffer's first bytes, or names the first of causes 1 to 9, 12,
-// 13 and 14 that applies and leaves every byte. The answer carries g.
+// Writes the record of a stable state of a book at a layer, with the layers of a set switched off, into the buffer's first bytes, or
+// names the first of causes 1 to 9, 19, 12, 13 and 14 that applies and leaves every byte. The answer carries g.
 #[no_mangle]
-pub extern "C" fn lesson_one(book: &[u8], layer: u32, buffer: &mut [u8]) -> u64
-    ensures answer { λ r. ⌜ r ≡ oneAnswer (oneReply (now (book .entry)) layer (now (buffer .entry))) ⌝ }
-    ensures bytes { λ _. ⌜ OneBuffer (now (book .entry)) layer (now (buffer .entry)) (now (buffer .exit)) ⌝ }
+pub extern "C" fn lesson_one(book: &[u8], layer: u32, off: u32, buffer: &mut [u8]) -> u64
+    ensures answer { λ r. ⌜ r ≡ oneAnswer (oneReply (now (book .entry)) layer off (now (buffer .entry))) ⌝ }
+    ensures bytes { λ _. ⌜ OneBuffer (now (book .entry)) layer off (now (buffer .entry)) (now (buffer .exit)) ⌝ }
 {
-    answer_number(ask(book, layer, Question::One, buffer))
+    answer_number(ask(book, layer, off, Question::One, buffer))
 }
 
-// Whether a fact stands in every stable state of a book at a layer, in some or in none, or the first of causes 1 to 9, 11, 12 and
-// 14 that applies. The answer carries the place and g.
+// Whether a fact stands in every stable state of a book at a layer, with the layers of a set switched off, in some or in none, or the
+// first of causes 1 to 9, 19, 11, 12 and 14 that applies. The answer carries the place and g.
 #[no_mangle]
-pub extern "C" fn lesson_place(book: &[u8], layer: u32, fact: u32) -> u64
-    ensures { λ r. ⌜ r ≡ placeAnswer (placeReply (now (book .entry)) layer fact) ⌝ }
+pub extern "C" fn lesson_place(book: &[u8], layer: u32, off: u32, fact: u32) -> u64
+    ensures { λ r. ⌜ r ≡ placeAnswer (placeReply (now (book .entry)) layer off fact) ⌝ }
 {
     let mut none: [u8; 0] = [];
-    answer_number(ask(book, layer, Question::Place(fact as usize), &mut none))
+    answer_number(ask(book, layer, off, Question::Place(fact as usize), &mut none))
 }

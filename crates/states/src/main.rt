@@ -106,10 +106,10 @@ fn print_listing(reply: ListReply, listing: &[u8]) {
     }
 }
 
-// A listing is asked for, so that no other answer comes.
+// A listing is asked for, so that no other answer comes. Nothing is switched off.
 fn show(book: &[u8]) {
     let mut buffer = large_buffer();
-    let answer = ask(book, last_layer(book), Question::List, &mut buffer);
+    let answer = ask(book, last_layer(book), 0, Question::List, &mut buffer);
     match answer {
         Answer::Listing(reply) => print_listing(reply, &buffer),
         Answer::State(reply) => {}

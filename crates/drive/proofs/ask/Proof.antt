@@ -18,16 +18,16 @@ enum-told : tie.Need-enum-told
 enum-told c = search needs
 
 drive-requires : tie.Need-drive-requires
-drive-requires c κs = ready (c .before .before .before .before .before .before .before .args .book .now) (c .before .before .before .before .before .before .before .args .layer) (c .before .before .before .before .check-layer .ensures) (c .before .enum-told .given .1)
+drive-requires c κs = ready (c .before .before .before .before .before .before .before .args .book .now) (c .before .before .before .before .before .before .before .args .layer) (c .before .before .before .before .before .before .before .args .off) (c .before .before .before .before .check-layer .ensures) (c .before .enum-told .given .1)
 
 returns : tie.Need-returns
-returns c = call-refused (c .before .before .before .before .before .before .before .before .args .question) (c .before .before .before .before .before .before .before .before .args .book .now) (c .before .before .before .before .before .before .before .before .args .layer) (c .before .before .before .before .before .before .before .before .args .buffer .now) (c .before .before .before .before .before .check-layer .result .verdict) (c .before .before .before .before .before .check-layer .ensures .verdict-is) _ (c .before .before .v .given .1) (c .refusal .ensures)
+returns c = call-refused (c .before .before .before .before .before .before .before .before .args .question) (c .before .before .before .before .before .before .before .before .args .book .now) (c .before .before .before .before .before .before .before .before .args .layer) (c .before .before .before .before .before .before .before .before .args .off) (c .before .before .before .before .before .before .before .before .args .buffer .now) (c .before .before .before .before .before .check-layer .result .verdict) (c .before .before .before .before .before .check-layer .ensures .verdict-is) _ (c .before .before .v .given .1) (c .refusal .ensures)
 
 same-length : tie.Need-same-length
 same-length c = search needs
 
 returns-2 : tie.Need-returns-2
-returns-2 c = call-answered (c .before .before .before .before .before .before .before .before .before .before .args .question) (c .before .before .before .before .before .before .before .before .before .before .args .book .now) (c .before .before .before .before .before .before .before .before .before .before .args .layer) (c .before .before .before .before .before .before .before .before .before .before .args .buffer .now) (c .before .before .before .before .before .before .before .check-layer .result .verdict) (c .before .before .before .before .before .before .before .check-layer .ensures .verdict-is) (c .before .before .before .before .enum-told .given .1) (c .before .before .drive .ensures)
+returns-2 c = call-answered (c .before .before .before .before .before .before .before .before .before .before .args .question) (c .before .before .before .before .before .before .before .before .before .before .args .book .now) (c .before .before .before .before .before .before .before .before .before .before .args .layer) (c .before .before .before .before .before .before .before .before .before .before .args .off) (c .before .before .before .before .before .before .before .before .before .before .args .buffer .now) (c .before .before .before .before .before .before .before .check-layer .result .verdict) (c .before .before .before .before .before .before .before .check-layer .ensures .verdict-is) (c .before .before .before .before .enum-told .given .1) (c .before .before .drive .ensures)
 
 pub ask-spec : {M : Type 1} → statement M
 ask-spec =

@@ -22,7 +22,7 @@ refusal-requires : tie.Need-refusal-requires
 refusal-requires c κs = search needs
 
 returns : tie.Need-returns
-returns c = refused-as (c .before .before .before .before .before .before .args .question) NoSuchFact (programOf (c .before .before .before .before .before .before .args .book .now) (c .before .before .before .before .before .before .args .layer)) (c .before .before .before .before .before .before .args .buffer .now) (c .refusal .ensures) (fact-refused (programOf (c .before .before .before .before .before .before .args .book .now) (c .before .before .before .before .before .before .args .layer)) (c .before .before .before .atom-count .result) (program-atoms (c .before .before .before .before .before .before .args .book .now) (c .before .before .before .before .before .before .args .layer) (c .before .before .before .atom-count .result) (c .before .before .before .atom-count .ensures .0)) (length (c .before .before .before .before .before .before .args .buffer .now)) (c .before .before .before .before .before .before .args .question) (sym (c .before .before .asks-no-fact .ensures) ∙ c .before .if1 .taken))
+returns c = refused-as (c .before .before .before .before .before .before .args .question) NoSuchFact (programOf (c .before .before .before .before .before .before .args .book .now) (c .before .before .before .before .before .before .args .layer) (c .before .before .before .before .before .before .args .off)) (c .before .before .before .before .before .before .args .buffer .now) (c .refusal .ensures) (fact-refused (programOf (c .before .before .before .before .before .before .args .book .now) (c .before .before .before .before .before .before .args .layer) (c .before .before .before .before .before .before .args .off)) (c .before .before .before .atom-count .result) (program-atoms (c .before .before .before .before .before .before .args .book .now) (c .before .before .before .before .before .before .args .layer) (c .before .before .before .before .before .before .args .off) (c .before .before .before .atom-count .result) (c .before .before .before .atom-count .ensures .0)) (length (c .before .before .before .before .before .before .args .buffer .now)) (c .before .before .before .before .before .before .args .question) (sym (c .before .before .asks-no-fact .ensures) ∙ c .before .if1 .taken))
 
 slice-aggregate-set-up : tie.Need-slice-aggregate-set-up
 slice-aggregate-set-up c = search needs
@@ -49,19 +49,19 @@ slice-aggregate-find-answer : tie.Need-slice-aggregate-find-answer
 slice-aggregate-find-answer c = search needs
 
 find-answer-requires : tie.Need-find-answer-requires
-find-answer-requires c κs = (c .before .before .before .before .before .before .before .before .set-up .ensures .ready (c .before .before .before .before .if2 .taken), ap (λ (k : ℕ). asksNoFact (c .before .before .before .before .before .before .before .before .before .before .before .before .before .before .before .before .args .question) k) (same-count (c .before .before .before .before .before .before .before .before .set-up .ensures) (c .before .before .before .before .before .before .before .before .before .before .before .before .before .atom-count .result) (program-atoms (c .before .before .before .before .before .before .before .before .before .before .before .before .before .before .before .before .args .book .now) (c .before .before .before .before .before .before .before .before .before .before .before .before .before .before .before .before .args .layer) (c .before .before .before .before .before .before .before .before .before .before .before .before .before .atom-count .result) (c .before .before .before .before .before .before .before .before .before .before .before .before .before .atom-count .ensures .0)) (c .before .before .before .before .if2 .taken)) ∙ (sym (c .before .before .before .before .before .before .before .before .before .before .before .before .asks-no-fact .ensures) ∙ c .before .before .before .before .before .before .before .before .before .before .before .if1 .left))
+find-answer-requires c κs = (c .before .before .before .before .before .before .before .before .set-up .ensures .ready (c .before .before .before .before .if2 .taken), ap (λ (k : ℕ). asksNoFact (c .before .before .before .before .before .before .before .before .before .before .before .before .before .before .before .before .args .question) k) (same-count (c .before .before .before .before .before .before .before .before .set-up .ensures) (c .before .before .before .before .before .before .before .before .before .before .before .before .before .atom-count .result) (program-atoms (c .before .before .before .before .before .before .before .before .before .before .before .before .before .before .before .before .args .book .now) (c .before .before .before .before .before .before .before .before .before .before .before .before .before .before .before .before .args .layer) (c .before .before .before .before .before .before .before .before .before .before .before .before .before .before .before .before .args .off) (c .before .before .before .before .before .before .before .before .before .before .before .before .before .atom-count .result) (c .before .before .before .before .before .before .before .before .before .before .before .before .before .atom-count .ensures .0)) (c .before .before .before .before .if2 .taken)) ∙ (sym (c .before .before .before .before .before .before .before .before .before .before .before .before .asks-no-fact .ensures) ∙ c .before .before .before .before .before .before .before .before .before .before .before .if1 .left))
 
 same-length : tie.Need-same-length
 same-length c = search needs
 
 returns-2 : tie.Need-returns-2
-returns-2 c = answered (c .before .before .before .before .before .before .before .before .before .before .before .set-up .ensures) (c .before .before .before .before .before .before .before .before .before .before .before .before .before .before .before .before .atom-count .result) (program-atoms (c .before .before .before .before .before .before .before .before .before .before .before .before .before .before .before .before .before .before .before .args .book .now) (c .before .before .before .before .before .before .before .before .before .before .before .before .before .before .before .before .before .before .before .args .layer) (c .before .before .before .before .before .before .before .before .before .before .before .before .before .before .before .before .atom-count .result) (c .before .before .before .before .before .before .before .before .before .before .before .before .before .before .before .before .atom-count .ensures .0)) (c .before .before .before .before .before .before .before .before .before .before .before .before .before .before .before .before .before .before .before .args .question) (sym (c .before .before .before .before .before .before .before .before .before .before .before .before .before .before .before .asks-no-fact .ensures) ∙ c .before .before .before .before .before .before .before .before .before .before .before .before .before .before .if1 .left) (c .before .before .before .before .before .before .before .if2 .taken) (c .before .before .find-answer .ensures)
+returns-2 c = answered (c .before .before .before .before .before .before .before .before .before .before .before .set-up .ensures) (c .before .before .before .before .before .before .before .before .before .before .before .before .before .before .before .before .atom-count .result) (program-atoms (c .before .before .before .before .before .before .before .before .before .before .before .before .before .before .before .before .before .before .before .args .book .now) (c .before .before .before .before .before .before .before .before .before .before .before .before .before .before .before .before .before .before .before .args .layer) (c .before .before .before .before .before .before .before .before .before .before .before .before .before .before .before .before .before .before .before .args .off) (c .before .before .before .before .before .before .before .before .before .before .before .before .before .before .before .before .atom-count .result) (c .before .before .before .before .before .before .before .before .before .before .before .before .before .before .before .before .atom-count .ensures .0)) (c .before .before .before .before .before .before .before .before .before .before .before .before .before .before .before .before .before .before .before .args .question) (sym (c .before .before .before .before .before .before .before .before .before .before .before .before .before .before .before .asks-no-fact .ensures) ∙ c .before .before .before .before .before .before .before .before .before .before .before .before .before .before .if1 .left) (c .before .before .before .before .before .before .before .if2 .taken) (c .before .before .find-answer .ensures)
 
 refusal-requires-2 : tie.Need-refusal-requires-2
 refusal-requires-2 c κs = search needs
 
 returns-3 : tie.Need-returns-3
-returns-3 c = refused-as (c .before .before .before .before .before .before .before .before .before .before .before .before .before .args .question) TooManyBranching (programOf (c .before .before .before .before .before .before .before .before .before .before .before .before .before .args .book .now) (c .before .before .before .before .before .before .before .before .before .before .before .before .before .args .layer)) (c .before .before .before .before .before .before .before .before .before .before .before .before .before .args .buffer .now) (c .refusal2 .ensures) (branching-refused (programOf (c .before .before .before .before .before .before .before .before .before .before .before .before .before .args .book .now) (c .before .before .before .before .before .before .before .before .before .before .before .before .before .args .layer)) (c .before .before .before .before .before .before .before .before .before .before .atom-count .result) (program-atoms (c .before .before .before .before .before .before .before .before .before .before .before .before .before .args .book .now) (c .before .before .before .before .before .before .before .before .before .before .before .before .before .args .layer) (c .before .before .before .before .before .before .before .before .before .before .atom-count .result) (c .before .before .before .before .before .before .before .before .before .before .atom-count .ensures .0)) (length (c .before .before .before .before .before .before .before .before .before .before .before .before .before .args .buffer .now)) (c .before .before .before .before .before .before .before .before .before .before .before .before .before .args .question) (sym (c .before .before .before .before .before .before .before .before .before .asks-no-fact .ensures) ∙ c .before .before .before .before .before .before .before .before .if1 .left) (c .before .before .before .before .before .set-up .ensures .too-many (c .before .if2 .left)))
+returns-3 c = refused-as (c .before .before .before .before .before .before .before .before .before .before .before .before .before .args .question) TooManyBranching (programOf (c .before .before .before .before .before .before .before .before .before .before .before .before .before .args .book .now) (c .before .before .before .before .before .before .before .before .before .before .before .before .before .args .layer) (c .before .before .before .before .before .before .before .before .before .before .before .before .before .args .off)) (c .before .before .before .before .before .before .before .before .before .before .before .before .before .args .buffer .now) (c .refusal2 .ensures) (branching-refused (programOf (c .before .before .before .before .before .before .before .before .before .before .before .before .before .args .book .now) (c .before .before .before .before .before .before .before .before .before .before .before .before .before .args .layer) (c .before .before .before .before .before .before .before .before .before .before .before .before .before .args .off)) (c .before .before .before .before .before .before .before .before .before .before .atom-count .result) (program-atoms (c .before .before .before .before .before .before .before .before .before .before .before .before .before .args .book .now) (c .before .before .before .before .before .before .before .before .before .before .before .before .before .args .layer) (c .before .before .before .before .before .before .before .before .before .before .before .before .before .args .off) (c .before .before .before .before .before .before .before .before .before .before .atom-count .result) (c .before .before .before .before .before .before .before .before .before .before .atom-count .ensures .0)) (length (c .before .before .before .before .before .before .before .before .before .before .before .before .before .args .buffer .now)) (c .before .before .before .before .before .before .before .before .before .before .before .before .before .args .question) (sym (c .before .before .before .before .before .before .before .before .before .asks-no-fact .ensures) ∙ c .before .before .before .before .before .before .before .before .if1 .left) (c .before .before .before .before .before .set-up .ensures .too-many (c .before .if2 .left)))
 
 pub drive-spec : {M : Type 1} → statement M
 drive-spec =

@@ -11,13 +11,13 @@ ask-requires : tie.Need-ask-requires
 ask-requires c κs = search needs
 
 answer-number-requires : tie.Need-answer-number-requires
-answer-number-requires c κs = one-fits (c .before .before .before .before .before .before .args .book .now) (c .before .before .before .before .before .before .args .layer) (c .before .before .before .before .before .before .args .buffer .now) ((one-told (c .before .before .before .before .before .before .args .book .now) (c .before .before .before .before .before .before .args .layer) (c .before .before .before .before .before .before .args .buffer .now) _ _ (c .before .before .ask .ensures)) .0)
+answer-number-requires c κs = one-fits (c .before .before .before .before .before .before .args .book .now) (c .before .before .before .before .before .before .args .layer) (c .before .before .before .before .before .before .args .off) (c .before .before .before .before .before .before .args .buffer .now) ((one-told (c .before .before .before .before .before .before .args .book .now) (c .before .before .before .before .before .before .args .layer) (c .before .before .before .before .before .before .args .off) (c .before .before .before .before .before .before .args .buffer .now) _ _ (c .before .before .ask .ensures)) .0)
 
 same-length : tie.Need-same-length
 same-length c = search needs
 
 returns : tie.Need-returns
-returns c = let t = one-told (c .before .before .before .before .before .before .before .args .book .now) (c .before .before .before .before .before .before .before .args .layer) (c .before .before .before .before .before .before .before .args .buffer .now) _ _ (c .before .before .before .ask .ensures) in (c .answer-number .ensures ∙ ap answerOf (t .0), t .1)
+returns c = let t = one-told (c .before .before .before .before .before .before .before .args .book .now) (c .before .before .before .before .before .before .before .args .layer) (c .before .before .before .before .before .before .before .args .off) (c .before .before .before .before .before .before .before .args .buffer .now) _ _ (c .before .before .before .ask .ensures) in (c .answer-number .ensures ∙ ap answerOf (t .0), t .1)
 
 pub lesson-one-spec : {M : Type 1} → statement M
 lesson-one-spec = tie.close (tie.spec ask-requires answer-number-requires same-length returns)

@@ -14,10 +14,10 @@ ask-requires : tie.Need-ask-requires
 ask-requires c κs = search needs
 
 answer-number-requires : tie.Need-answer-number-requires
-answer-number-requires c κs = place-fits (c .before .before .before .before .args .book .now) (c .before .before .before .before .args .layer) (c .before .before .before .before .args .fact) (place-told (c .before .before .before .before .args .book .now) (c .before .before .before .before .args .layer) _ _ _ (c .before .before .before .before .args .fact) (c .before .ask .ensures))
+answer-number-requires c κs = place-fits (c .before .before .before .before .args .book .now) (c .before .before .before .before .args .layer) (c .before .before .before .before .args .off) (c .before .before .before .before .args .fact) (place-told (c .before .before .before .before .args .book .now) (c .before .before .before .before .args .layer) (c .before .before .before .before .args .off) _ _ _ (c .before .before .before .before .args .fact) (c .before .ask .ensures))
 
 returns : tie.Need-returns
-returns c = c .answer-number .ensures ∙ ap answerOf (place-told (c .before .before .before .before .before .args .book .now) (c .before .before .before .before .before .args .layer) _ _ _ (c .before .before .before .before .before .args .fact) (c .before .before .ask .ensures))
+returns c = c .answer-number .ensures ∙ ap answerOf (place-told (c .before .before .before .before .before .args .book .now) (c .before .before .before .before .before .args .layer) (c .before .before .before .before .before .args .off) _ _ _ (c .before .before .before .before .before .args .fact) (c .before .before .ask .ensures))
 
 pub lesson-place-spec : {M : Type 1} → statement M
 lesson-place-spec =
