@@ -39,7 +39,7 @@ module _ (layers off : ℕ) where
       any-of (λ x. leb layers x && eqb (bitOf off x) 1) (upTo-has maxLayers i h)
       (rw (le-leb layers i k, e) tt)
 
-  absent-from : T (hasAbsentLayer layers off) → (i : ℕ) × (i < maxLayers) × (layers ≤ i) × (bitOf off i ≡ 1)
+  pub absent-from : T (hasAbsentLayer layers off) → (i : ℕ) × (i < maxLayers) × (layers ≤ i) × (bitOf off i ≡ 1)
   unfolding hasAbsentLayer inSet
   absent-from t =
       let v = any-at (λ x. leb layers x && eqb (bitOf off x) 1) (upTo maxLayers) t in

@@ -3,3 +3,4 @@ pub mod RecordFacts
 pub mod PreparedLaws
 pub mod FirstLaws
 pub mod DrivenLaws
+pub mod SwitchedOffLaws

@@ -1,5 +1,5 @@
--- What the set of layers that are switched off leaves as it was: with 0 no bit is set, so every program is document 01's. And where
--- every rule's layer is off, only defaults are left, so that the empty state is the one stable state. Assumes nothing.
+-- What the set of layers that are switched off leaves as it was: the order of layers, and with 0, where no bit is set, every program. And
+-- where every rule's layer is off, only defaults are left, so that the empty state is the one stable state. Assumes nothing.
 use mathlib.Core.Path.{_≡_, refl, sym, ap, subst, _∙_}
 use mathlib.Core.Bool.{Bool, true, false, not, _&&_, _||_}
 use mathlib.Core.List.{List, [], _∷_, List·Memᴰ·head, List·Memᴰ·cases-cons, List·Memᴰ·not-nil}
@@ -24,11 +24,24 @@ use Rattle.models.proofs.AlikeLaws.{filter-same}
 use Rattle.models.proofs.InterpretationLaws.{listed}
 use Rattle.models.proofs.LeastLaws.{stable-sound, stable-complete}
 
--- ---- nothing off
+-- ---- paths kept
 none-in : (i : ℕ) → inSet 0 i ≡ false
 unfolding inSet
 none-in i = rw (zero-div (2 ^ i)) refl
 
+-- a rule's layer that is not in the set is as good as not in 0
+counts-beyond : (b : Book) (layer off : ℕ) (r : Rule) → inSet off (r .layer) ≡ false → relevant b layer off r ≡ relevant b layer 0 r
+unfolding relevant
+counts-beyond b layer off r e = rw (e, none-in (r .layer)) refl
+
+same-order : (b : Book) (layer off i j : ℕ) → programAt b layer off .below i j ≡ below (b .arrows) i j
+unfolding programAt
+same-order b layer off i j = refl
+
+pub paths-kept : PathsKept
+paths-kept = record { same-order = same-order; counts-beyond = counts-beyond }
+
+-- ---- nothing off
 and-true : (a : Bool) → (a && true) ≡ a
 and-true true = refl
 and-true false = refl
@@ -42,18 +55,6 @@ unfolding programAt wholeProgram
 program-none b layer =
     ap (λ (rs : List Rule). record { atoms = b .atoms; rules = rs; below = below (b .arrows) })
     (filter-same (relevant b layer 0) (λ r. eqb (r .layer) layer || below (b .arrows) (r .layer) layer) (relevant-none b layer) (b .rules))
-
--- a rule's layer that is not in the set is as good as not in 0
-counts-beyond : (b : Book) (layer off : ℕ) (r : Rule) → inSet off (r .layer) ≡ false → relevant b layer off r ≡ relevant b layer 0 r
-unfolding relevant
-counts-beyond b layer off r e = rw (e, none-in (r .layer)) refl
-
-same-order : (b : Book) (layer off i j : ℕ) → programAt b layer off .below i j ≡ below (b .arrows) i j
-unfolding programAt
-same-order b layer off i j = refl
-
-pub paths-kept : PathsKept
-paths-kept = record { same-order = same-order; counts-beyond = counts-beyond }
 
 pub nothing-off : NothingOff
 nothing-off = record { same-rules = relevant-none; same-program = program-none }

@@ -13,6 +13,12 @@ use Rattle.models.specs.Program.{Program, inSet, relevant, programAt}
 use Rattle.models.specs.Branching.{branchingCount}
 use Rattle.models.specs.Listing.{stableModels}
 
+-- "Paths through it still count": which layer is below which goes by all arrows, whatever the set, and a rule of a layer that is not
+-- off itself counts as with nothing off, whatever lies between.
+pub record PathsKept : Type 0 where
+  pub same-order : (b : Book) (layer off i j : ℕ) → programAt b layer off .below i j ≡ below (b .arrows) i j
+  pub counts-beyond : (b : Book) (layer off : ℕ) (r : Rule) → inSet off (r .layer) ≡ false → relevant b layer off r ≡ relevant b layer 0 r
+
 -- document 01's text: the rules of the driven layer and of the layers below it
 unfoldable pub wholeProgram : Book → ℕ → Program
 wholeProgram b layer = record {
@@ -25,12 +31,6 @@ wholeProgram b layer = record {
 pub record NothingOff : Type 0 where
   pub same-rules : (b : Book) (layer : ℕ) (r : Rule) → relevant b layer 0 r ≡ (eqb (r .layer) layer || below (b .arrows) (r .layer) layer)
   pub same-program : (b : Book) (layer : ℕ) → programAt b layer 0 ≡ wholeProgram b layer
-
--- "Paths through it still count": which layer is below which goes by all arrows, whatever the set, and a rule of a layer that is not
--- off itself counts, whatever lies between.
-pub record PathsKept : Type 0 where
-  pub same-order : (b : Book) (layer off i j : ℕ) → programAt b layer off .below i j ≡ below (b .arrows) i j
-  pub counts-beyond : (b : Book) (layer off : ℕ) (r : Rule) → inSet off (r .layer) ≡ false → relevant b layer off r ≡ relevant b layer 0 r
 
 abbrev pub EveryRuleOff : Book → ℕ → Type 0
 EveryRuleOff b off = (r : Rule) → List·Memᴰ r (b .rules) → T (inSet off (r .layer))
