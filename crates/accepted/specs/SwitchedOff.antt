@@ -1,6 +1,6 @@
--- Document 02, (h), of the calls on a driven layer. Each has tests of its own behind those of the layer, and makes its answer, or the bytes
--- of a buffer, from the first cause that applies and from the program. What the set 0 leaves as it was is said once, for all that is made
--- so; crates/lesson/specs/SwitchedOff.antt says it of each call. proofs/SwitchedOffLaws.antt proves it. Assumes nothing.
+-- Document 02, (h), of the calls on a driven layer. Each has tests of its own behind those of the layer, and makes its answer, or the
+-- bytes of a buffer, from the first cause that applies and from the program. What the set 0 leaves as it was is said once, for all that
+-- is made so; crates/lesson/specs/SwitchedOff.antt says it of each call. proofs/SwitchedOffLaws.antt proves it. Assumes nothing.
 use mathlib.Core.Path.{_≡_}
 use mathlib.Core.Bool.{false}
 use mathlib.Core.List.{List, [], _∷_, _++_}

@@ -74,7 +74,8 @@ fn check_driven(layers: usize, layer: usize, off: u32) -> Verdict
     Verdict::Accepted
 }
 
-// Accepted, with the masks, or refused for the first of causes 1 to 9 and 19 that applies: what every call that drives a layer asks first.
+// Accepted, with the masks, or refused for the first of causes 1 to 9 and 19 that applies: what every call that drives a layer asks
+// first.
 pub fn check_layer(book: &[u8], layer: u32, off: u32) -> Checked
     ensures { λ r. ⌜ Checks (firstOf (layerTests (now (book .entry)) layer off)) (now (book .entry)) (r .verdict) (r .lower) ⌝ }
 {

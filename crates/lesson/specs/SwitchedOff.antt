@@ -1,6 +1,6 @@
 -- Document 02, (h): with the set 0 every answer and every byte is what document 01 gives. For each call that takes a set: its answer and
--- its buffer are made from document 01's causes (`wholeTests`, then the call's own) and document 01's program (`wholeProgram`), in which no
--- layer can be switched off. proofs/SwitchedOffLaws.antt proves it. Assumes nothing.
+-- its buffer are made from document 01's causes (`wholeTests`, then the call's own) and document 01's program (`wholeProgram`), in which
+-- no layer can be switched off. proofs/SwitchedOffLaws.antt proves it. Assumes nothing.
 use mathlib.Core.Path.{_≡_}
 use mathlib.Core.Logic.{_↔_}
 use mathlib.Core.List.{List, [], _∷_, _++_}

@@ -1,5 +1,6 @@
 -- Document 01's starred classroom examples, of the call itself: the table of crates/models/specs/Examples.antt says what the call
--- answers with nothing switched off and which bytes it leaves, in every buffer that has room. proofs/ExampleLaws.antt proves it. Assumes nothing.
+-- answers with nothing switched off and which bytes it leaves, in every buffer that has room. proofs/ExampleLaws.antt proves it.
+-- Assumes nothing.
 use mathlib.Core.Path.{_≡_}
 use mathlib.Core.List.{List, _++_, List·Memᴰ}
 use Prim.Native.Nat.{ℕ, _≤_}
