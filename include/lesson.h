@@ -28,6 +28,13 @@
  * bit 0 being the lowest, and it is 1 where the fact stands. The bits that are
  * left over in the last byte are 0.
  *
+ * Layers can be switched off for one drive. Every call on a driven layer takes a
+ * set of them, `off`: where bit i is 1, bit 0 being the lowest, the rules of layer
+ * i do not count in this call. The order of the layers stays, so what lies beyond
+ * such a layer keeps its rank, and the driven layer may be off too. 0 switches
+ * nothing off. The book's own layers are meant: in a book of L layers the bits
+ * from L on must be 0. The book itself is not altered.
+ *
  * Every call answers with one 64-bit number. Its low byte is 0 where the call
  * is granted, and the bits above it carry what the answer carries. Where the
  * call is refused, the low byte is the number of the cause, and all other bits
@@ -40,8 +47,8 @@
 #include <stddef.h>
 #include <stdint.h>
 
-/* Why a call was refused. Each call makes the tests that concern it, in this
- * order, and names the first that applies. */
+/* Why a call was refused. Each call makes the tests that concern it, in the order
+ * in which they stand here, and names the first that applies. */
 enum lesson_cause_number {
     LESSON_GRANTED = 0,             /* not refused */
     LESSON_TOO_SHORT = 1,           /* book: fewer than 20 bytes */
@@ -55,6 +62,7 @@ enum lesson_cause_number {
     LESSON_REPEATED_ARROW = 7,      /* book: two equal arrows */
     LESSON_CYCLE = 8,               /* book: the arrows lead from a layer back to itself */
     LESSON_NO_SUCH_LAYER = 9,       /* driven layer that the book does not have */
+    LESSON_NO_SUCH_LAYER_OFF = 19,  /* set of layers with one that the book does not have */
     LESSON_BAD_CANDIDATE = 10,      /* candidate of another length, or a spare bit set */
     LESSON_NO_SUCH_FACT = 11,       /* fact that the book does not have */
     LESSON_TOO_MANY_BRANCHING = 12, /* more than 20 branching facts */
@@ -139,13 +147,15 @@ uint64_t lesson_check(const uint8_t *book, size_t book_len);
  *
  * book, book_len: the book, any bytes.
  * layer: the driven layer, counted from 0, any number.
+ * off: the set of layers that are switched off, any number.
  * candidate, candidate_len: the candidate as one record, any bytes.
  *
  * Answers yes or no in bit 16 (lesson_is_stable), or the first of
- * LESSON_TOO_SHORT to LESSON_BAD_CANDIDATE that applies.
+ * LESSON_TOO_SHORT to LESSON_NO_SUCH_LAYER, LESSON_NO_SUCH_LAYER_OFF and
+ * LESSON_BAD_CANDIDATE that applies.
  */
-uint64_t lesson_test(const uint8_t *book, size_t book_len, uint32_t layer, const uint8_t *candidate,
-                     size_t candidate_len);
+uint64_t lesson_test(const uint8_t *book, size_t book_len, uint32_t layer, uint32_t off,
+                     const uint8_t *candidate, size_t candidate_len);
 
 /*
  * Lists every stable state of a book at the driven layer. k, their number, may
@@ -153,6 +163,7 @@ uint64_t lesson_test(const uint8_t *book, size_t book_len, uint32_t layer, const
  *
  * book, book_len: the book, any bytes.
  * layer: the driven layer, counted from 0, any number.
+ * off: the set of layers that are switched off, any number.
  * buffer, buffer_len: where the listing goes, of any length. Where the call is
  * granted, its first bytes are the listing and the bytes past it are as they
  * were. The listing has 11 bytes of head, then k records:
@@ -169,11 +180,11 @@ uint64_t lesson_test(const uint8_t *book, size_t book_len, uint32_t layer, const
  *
  * Answers g in bits 8 to 15 (lesson_branching_count) and k from bit 16 on
  * (lesson_state_count), or the first of LESSON_TOO_SHORT to
- * LESSON_NO_SUCH_LAYER, LESSON_TOO_MANY_BRANCHING and LESSON_BUFFER_TOO_SHORT
- * that applies. The time grows with 2 to the power g.
+ * LESSON_NO_SUCH_LAYER, LESSON_NO_SUCH_LAYER_OFF, LESSON_TOO_MANY_BRANCHING and
+ * LESSON_BUFFER_TOO_SHORT that applies. The time grows with 2 to the power g.
  */
-uint64_t lesson_list(const uint8_t *book, size_t book_len, uint32_t layer, uint8_t *buffer,
-                     size_t buffer_len);
+uint64_t lesson_list(const uint8_t *book, size_t book_len, uint32_t layer, uint32_t off,
+                     uint8_t *buffer, size_t buffer_len);
 
 /*
  * Hands out one stable state of a book at the driven layer. Which one is the
@@ -181,16 +192,18 @@ uint64_t lesson_list(const uint8_t *book, size_t book_len, uint32_t layer, uint8
  *
  * book, book_len: the book, any bytes.
  * layer: the driven layer, counted from 0, any number.
+ * off: the set of layers that are switched off, any number.
  * buffer, buffer_len: where the state goes, of any length. Where the call is
  * granted, its first bytes are the state's record and the bytes past it are as
  * they were.
  *
  * Answers g in bits 8 to 15 (lesson_branching_count), or the first of
- * LESSON_TOO_SHORT to LESSON_NO_SUCH_LAYER and LESSON_TOO_MANY_BRANCHING to
- * LESSON_NO_STABLE_STATE that applies. The time grows with 2 to the power g.
+ * LESSON_TOO_SHORT to LESSON_NO_SUCH_LAYER, LESSON_NO_SUCH_LAYER_OFF and
+ * LESSON_TOO_MANY_BRANCHING to LESSON_NO_STABLE_STATE that applies. The time
+ * grows with 2 to the power g.
  */
-uint64_t lesson_one(const uint8_t *book, size_t book_len, uint32_t layer, uint8_t *buffer,
-                    size_t buffer_len);
+uint64_t lesson_one(const uint8_t *book, size_t book_len, uint32_t layer, uint32_t off,
+                    uint8_t *buffer, size_t buffer_len);
 
 /*
  * Says whether a fact stands in every stable state of a book at the driven
@@ -198,14 +211,17 @@ uint64_t lesson_one(const uint8_t *book, size_t book_len, uint32_t layer, uint8_
  *
  * book, book_len: the book, any bytes.
  * layer: the driven layer, counted from 0, any number.
+ * off: the set of layers that are switched off, any number.
  * fact: the fact, counted from 0, any number.
  *
  * Answers the place in bits 16 and 17 (lesson_place_of) and g in bits 8 to 15
  * (lesson_branching_count), or the first of LESSON_TOO_SHORT to
- * LESSON_NO_SUCH_LAYER, LESSON_NO_SUCH_FACT, LESSON_TOO_MANY_BRANCHING and
- * LESSON_NO_STABLE_STATE that applies. The time grows with 2 to the power g.
+ * LESSON_NO_SUCH_LAYER, LESSON_NO_SUCH_LAYER_OFF, LESSON_NO_SUCH_FACT,
+ * LESSON_TOO_MANY_BRANCHING and LESSON_NO_STABLE_STATE that applies. The time
+ * grows with 2 to the power g.
  */
-uint64_t lesson_place(const uint8_t *book, size_t book_len, uint32_t layer, uint32_t fact);
+uint64_t lesson_place(const uint8_t *book, size_t book_len, uint32_t layer, uint32_t off,
+                      uint32_t fact);
 
 #ifdef __cplusplus
 }

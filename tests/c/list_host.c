@@ -7,10 +7,10 @@ static uint8_t buffer[64];
 
 /* Lists into the first bytes of the buffer, all of it noise before. */
 static void expect(const char *what, const uint8_t *book, size_t length, uint32_t layer,
-                   size_t buffer_length, uint64_t expected)
+                   uint32_t off, size_t buffer_length, uint64_t expected)
 {
     memset(buffer, NOISE, sizeof buffer);
-    expect_answer(what, lesson_list(book, length, layer, buffer, buffer_length), expected);
+    expect_answer(what, lesson_list(book, length, layer, off, buffer, buffer_length), expected);
 }
 
 /* The buffer is these bytes and then noise to its end. */
@@ -30,9 +30,9 @@ static uint64_t counts(uint64_t branching, uint64_t states)
 }
 
 static void expect_refused(const char *what, const uint8_t *book, size_t length, uint32_t layer,
-                           size_t buffer_length, uint64_t cause)
+                           uint32_t off, size_t buffer_length, uint64_t cause)
 {
-    expect(what, book, length, layer, buffer_length, cause);
+    expect(what, book, length, layer, off, buffer_length, cause);
     expect_buffer("  and the buffer is as it was", "", 0);
 }
 
@@ -40,23 +40,33 @@ int main(void)
 {
     uint64_t answer;
 
-    expect("B at 3 in 12 bytes", B, sizeof B, 3, 12, counts(2, 1));
+    expect("B at 3 in 12 bytes", B, sizeof B, 3, 0, 12, counts(2, 1));
     expect_buffer("  and its listing", "\x01\0\0\0\x0C\0\x03\0\0\0\x01\x20", 12);
-    expect("B at 3 in 40 bytes", B, sizeof B, 3, 40, counts(2, 1));
+    expect("B at 3 in 40 bytes", B, sizeof B, 3, 0, 40, counts(2, 1));
     expect_buffer("  and its listing", "\x01\0\0\0\x0C\0\x03\0\0\0\x01\x20", 12);
-    expect("B at 1", B, sizeof B, 1, 40, counts(1, 1));
+    expect("B at 1", B, sizeof B, 1, 0, 40, counts(1, 1));
     expect_buffer("  and its listing", "\x01\0\0\0\x0C\0\x03\0\0\0\x01\xA0", 12);
-    expect("the smallest book", smallest, sizeof smallest, 0, 12, counts(0, 1));
+    expect("the smallest book", smallest, sizeof smallest, 0, 0, 12, counts(0, 1));
     expect_buffer("  and its listing", "\x01\0\0\0\x0C\0\x01\0\0\0\x01\0", 12);
-    expect_refused("B at 3 in 11 bytes", B, sizeof B, 3, 11, LESSON_BUFFER_TOO_SHORT);
-    expect_refused("B at 4", B, sizeof B, 4, 40, LESSON_NO_SUCH_LAYER);
-    expect_refused("layer before buffer", B, sizeof B, UINT32_MAX, 0, LESSON_NO_SUCH_LAYER);
-    expect_refused("B without its last byte", B, sizeof B - 1, 3, 40, LESSON_WRONG_LENGTH);
-    expect_refused("19 bytes", smallest, 19, 0, 40, LESSON_TOO_SHORT);
-    expect_refused("no book", NULL, 0, 0, 40, LESSON_TOO_SHORT);
-    expect_answer("no buffer", lesson_list(B, sizeof B, 3, NULL, 0), LESSON_BUFFER_TOO_SHORT);
+    expect("B at 3, layer 2 off", B, sizeof B, 3, 4, 40, counts(1, 1));
+    expect_buffer("  and its listing", "\x01\0\0\0\x0C\0\x03\0\0\0\x01\xA0", 12);
+    expect("B at 2, which is off", B, sizeof B, 2, 4, 40, counts(1, 1));
+    expect_buffer("  and its listing", "\x01\0\0\0\x0C\0\x03\0\0\0\x01\x80", 12);
+    expect("B at 3, all off", B, sizeof B, 3, 15, 12, counts(0, 1));
+    expect_buffer("  and its listing", "\x01\0\0\0\x0C\0\x03\0\0\0\x01\0", 12);
+    expect_refused("B at 3 in 11 bytes", B, sizeof B, 3, 0, 11, LESSON_BUFFER_TOO_SHORT);
+    expect_refused("B at 4", B, sizeof B, 4, 0, 40, LESSON_NO_SUCH_LAYER);
+    expect_refused("layer before buffer", B, sizeof B, UINT32_MAX, 0, 0, LESSON_NO_SUCH_LAYER);
+    expect_refused("layer 4 of 4 off", B, sizeof B, 3, 16, 40, LESSON_NO_SUCH_LAYER_OFF);
+    expect_refused("layer 31 of 4 off", B, sizeof B, 3, 1u << 31, 40, LESSON_NO_SUCH_LAYER_OFF);
+    expect_refused("layer before set", B, sizeof B, 4, 16, 40, LESSON_NO_SUCH_LAYER);
+    expect_refused("set before buffer", B, sizeof B, 3, UINT32_MAX, 0, LESSON_NO_SUCH_LAYER_OFF);
+    expect_refused("B without its last byte", B, sizeof B - 1, 3, 0, 40, LESSON_WRONG_LENGTH);
+    expect_refused("19 bytes", smallest, 19, 0, 0, 40, LESSON_TOO_SHORT);
+    expect_refused("no book", NULL, 0, 0, 0, 40, LESSON_TOO_SHORT);
+    expect_answer("no buffer", lesson_list(B, sizeof B, 3, 0, NULL, 0), LESSON_BUFFER_TOO_SHORT);
 
-    answer = lesson_list(B, sizeof B, 2, buffer, sizeof buffer);
+    answer = lesson_list(B, sizeof B, 2, 0, buffer, sizeof buffer);
     expect_true("lesson_branching_count", lesson_branching_count(answer) == 2);
     expect_true("lesson_state_count", lesson_state_count(answer) == 1);
     answer = counts(20, 1048576);

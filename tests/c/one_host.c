@@ -15,13 +15,13 @@ static uint8_t buffer[8];
 
 /* Asks for a state in the first bytes of the buffer, all of it noise before. */
 static void expect(const char *what, const uint8_t *book, size_t length, uint32_t layer,
-                   size_t buffer_length, uint64_t expected, uint8_t first_byte)
+                   uint32_t off, size_t buffer_length, uint64_t expected, uint8_t first_byte)
 {
     bool as_expected;
     size_t at;
 
     memset(buffer, NOISE, sizeof buffer);
-    expect_answer(what, lesson_one(book, length, layer, buffer, buffer_length), expected);
+    expect_answer(what, lesson_one(book, length, layer, off, buffer, buffer_length), expected);
     as_expected = buffer[0] == first_byte;
     for (at = 1; at < sizeof buffer; at++)
         as_expected = as_expected && buffer[at] == NOISE;
@@ -30,19 +30,29 @@ static void expect(const char *what, const uint8_t *book, size_t length, uint32_
 
 int main(void)
 {
-    expect("B at 1", B, sizeof B, 1, 1, 1 << 8, 0xA0);
-    expect("B at 2", B, sizeof B, 2, 8, 2 << 8, 0x80);
-    expect("B at 3", B, sizeof B, 3, 8, 2 << 8, 0x20);
-    expect("the smallest book", smallest, sizeof smallest, 0, 1, 0, 0x00);
-    expect("B in no bytes", B, sizeof B, 3, 0, LESSON_BUFFER_TOO_SHORT, NOISE);
-    expect("no state", without, sizeof without, 0, 8, LESSON_NO_STABLE_STATE, NOISE);
-    expect("no state in no bytes", without, sizeof without, 0, 0, LESSON_BUFFER_TOO_SHORT, NOISE);
-    expect("B at 4", B, sizeof B, 4, 8, LESSON_NO_SUCH_LAYER, NOISE);
-    expect("layer before buffer", B, sizeof B, UINT32_MAX, 0, LESSON_NO_SUCH_LAYER, NOISE);
-    expect("B without its last byte", B, sizeof B - 1, 3, 8, LESSON_WRONG_LENGTH, NOISE);
-    expect("no book", NULL, 0, 0, 8, LESSON_TOO_SHORT, NOISE);
-    expect_answer("no buffer", lesson_one(B, sizeof B, 3, NULL, 0), LESSON_BUFFER_TOO_SHORT);
+    expect("B at 1", B, sizeof B, 1, 0, 1, 1 << 8, 0xA0);
+    expect("B at 2", B, sizeof B, 2, 0, 8, 2 << 8, 0x80);
+    expect("B at 3", B, sizeof B, 3, 0, 8, 2 << 8, 0x20);
+    expect("the smallest book", smallest, sizeof smallest, 0, 0, 1, 0, 0x00);
+    expect("B at 3, layer 1 off", B, sizeof B, 3, 2, 8, 2 << 8, 0x80);
+    expect("B at 2, which is off", B, sizeof B, 2, 4, 8, 1 << 8, 0x80);
+    expect("B at 3, all off", B, sizeof B, 3, 15, 1, 0, 0x00);
+    expect("no state but for a set", without, sizeof without, 0, 1, 8, 0, 0x00);
+    expect("B in no bytes", B, sizeof B, 3, 0, 0, LESSON_BUFFER_TOO_SHORT, NOISE);
+    expect("no state", without, sizeof without, 0, 0, 8, LESSON_NO_STABLE_STATE, NOISE);
+    expect("no state in no bytes", without, sizeof without, 0, 0, 0, LESSON_BUFFER_TOO_SHORT,
+           NOISE);
+    expect("B at 4", B, sizeof B, 4, 0, 8, LESSON_NO_SUCH_LAYER, NOISE);
+    expect("layer before buffer", B, sizeof B, UINT32_MAX, 0, 0, LESSON_NO_SUCH_LAYER, NOISE);
+    expect("layer 4 of 4 off", B, sizeof B, 3, 16, 8, LESSON_NO_SUCH_LAYER_OFF, NOISE);
+    expect("layer before set", B, sizeof B, 4, 16, 8, LESSON_NO_SUCH_LAYER, NOISE);
+    expect("set before buffer", B, sizeof B, 3, 1u << 31, 0, LESSON_NO_SUCH_LAYER_OFF, NOISE);
+    expect("set before state", without, sizeof without, 0, 2, 8, LESSON_NO_SUCH_LAYER_OFF,
+           NOISE);
+    expect("B without its last byte", B, sizeof B - 1, 3, 0, 8, LESSON_WRONG_LENGTH, NOISE);
+    expect("no book", NULL, 0, 0, 0, 8, LESSON_TOO_SHORT, NOISE);
+    expect_answer("no buffer", lesson_one(B, sizeof B, 3, 0, NULL, 0), LESSON_BUFFER_TOO_SHORT);
     expect_true("lesson_branching_count",
-                lesson_branching_count(lesson_one(B, sizeof B, 3, buffer, sizeof buffer)) == 2);
+                lesson_branching_count(lesson_one(B, sizeof B, 3, 0, buffer, sizeof buffer)) == 2);
     return report();
 }

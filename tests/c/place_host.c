@@ -20,9 +20,10 @@ static const uint8_t without[26] = {
 };
 
 static void expect_place(const char *what, const uint8_t *book, size_t length, uint32_t layer,
-                         uint32_t fact, uint32_t branching, enum lesson_place_number place)
+                         uint32_t off, uint32_t fact, uint32_t branching,
+                         enum lesson_place_number place)
 {
-    uint64_t answer = lesson_place(book, length, layer, fact);
+    uint64_t answer = lesson_place(book, length, layer, off, fact);
 
     expect_answer(what, answer, (uint64_t)branching << 8 | (uint64_t)place << 16);
     expect_true("  and its helpers", lesson_place_of(answer) == place &&
@@ -30,27 +31,34 @@ static void expect_place(const char *what, const uint8_t *book, size_t length, u
 }
 
 static void expect_refused(const char *what, const uint8_t *book, size_t length, uint32_t layer,
-                           uint32_t fact, uint64_t cause)
+                           uint32_t off, uint32_t fact, uint64_t cause)
 {
-    expect_answer(what, lesson_place(book, length, layer, fact), cause);
+    expect_answer(what, lesson_place(book, length, layer, off, fact), cause);
 }
 
 int main(void)
 {
-    expect_place("one of two", choice, sizeof choice, 0, 0, 2, LESSON_IN_SOME);
-    expect_place("the other", choice, sizeof choice, 0, 1, 2, LESSON_IN_SOME);
-    expect_place("a fact with a rule", choice, sizeof choice, 0, 2, 2, LESSON_IN_EVERY);
-    expect_place("a fact without one", choice, sizeof choice, 0, 3, 2, LESSON_IN_NONE);
-    expect_place("a in B at 1", B, sizeof B, 1, 0, 1, LESSON_IN_EVERY);
-    expect_place("a in B at 3", B, sizeof B, 3, 0, 2, LESSON_IN_NONE);
-    expect_place("c in B at 3", B, sizeof B, 3, 2, 2, LESSON_IN_EVERY);
-    expect_refused("no state", without, sizeof without, 0, 0, LESSON_NO_STABLE_STATE);
-    expect_refused("fact 3 of 3", B, sizeof B, 3, 3, LESSON_NO_SUCH_FACT);
-    expect_refused("fact 2^32 - 1", B, sizeof B, 3, UINT32_MAX, LESSON_NO_SUCH_FACT);
-    expect_refused("fact before state", without, sizeof without, 0, 1, LESSON_NO_SUCH_FACT);
-    expect_refused("layer 4 of 4", B, sizeof B, 4, 0, LESSON_NO_SUCH_LAYER);
-    expect_refused("layer before fact", B, sizeof B, UINT32_MAX, 3, LESSON_NO_SUCH_LAYER);
-    expect_refused("B without its last byte", B, sizeof B - 1, 3, 0, LESSON_WRONG_LENGTH);
-    expect_refused("no book", NULL, 0, 0, 0, LESSON_TOO_SHORT);
+    expect_place("one of two", choice, sizeof choice, 0, 0, 0, 2, LESSON_IN_SOME);
+    expect_place("the other", choice, sizeof choice, 0, 0, 1, 2, LESSON_IN_SOME);
+    expect_place("a fact with a rule", choice, sizeof choice, 0, 0, 2, 2, LESSON_IN_EVERY);
+    expect_place("a fact without one", choice, sizeof choice, 0, 0, 3, 2, LESSON_IN_NONE);
+    expect_place("a in B at 1", B, sizeof B, 1, 0, 0, 1, LESSON_IN_EVERY);
+    expect_place("a in B at 3", B, sizeof B, 3, 0, 0, 2, LESSON_IN_NONE);
+    expect_place("c in B at 3", B, sizeof B, 3, 0, 2, 2, LESSON_IN_EVERY);
+    expect_place("a in B at 3, layer 1 off", B, sizeof B, 3, 2, 0, 2, LESSON_IN_EVERY);
+    expect_place("c in B at 3, layer 1 off", B, sizeof B, 3, 2, 2, 2, LESSON_IN_NONE);
+    expect_place("a in B at 0, which is off", B, sizeof B, 0, 1, 0, 0, LESSON_IN_NONE);
+    expect_refused("no state", without, sizeof without, 0, 0, 0, LESSON_NO_STABLE_STATE);
+    expect_refused("fact 3 of 3", B, sizeof B, 3, 0, 3, LESSON_NO_SUCH_FACT);
+    expect_refused("fact 2^32 - 1", B, sizeof B, 3, 0, UINT32_MAX, LESSON_NO_SUCH_FACT);
+    expect_refused("fact before state", without, sizeof without, 0, 0, 1, LESSON_NO_SUCH_FACT);
+    expect_refused("layer 4 of 4", B, sizeof B, 4, 0, 0, LESSON_NO_SUCH_LAYER);
+    expect_refused("layer before fact", B, sizeof B, UINT32_MAX, 0, 3, LESSON_NO_SUCH_LAYER);
+    expect_refused("layer 4 of 4 off", B, sizeof B, 3, 16, 0, LESSON_NO_SUCH_LAYER_OFF);
+    expect_refused("layer 31 of 4 off", B, sizeof B, 3, 1u << 31, 0, LESSON_NO_SUCH_LAYER_OFF);
+    expect_refused("layer before set", B, sizeof B, 4, 16, 0, LESSON_NO_SUCH_LAYER);
+    expect_refused("set before fact", B, sizeof B, 3, UINT32_MAX, 3, LESSON_NO_SUCH_LAYER_OFF);
+    expect_refused("B without its last byte", B, sizeof B - 1, 3, 0, 0, LESSON_WRONG_LENGTH);
+    expect_refused("no book", NULL, 0, 0, 0, 0, LESSON_TOO_SHORT);
     return report();
 }

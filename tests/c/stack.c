@@ -28,7 +28,7 @@ static struct {
     enum call call;
     const uint8_t *book;
     size_t length;
-    uint32_t layer, fact;
+    uint32_t layer, off, fact;
     size_t lent;
     uint64_t answer;
 } asked;
@@ -52,13 +52,13 @@ static uint64_t answer(void)
     case CHECK:
         return lesson_check(asked.book, asked.length);
     case TEST:
-        return lesson_test(asked.book, asked.length, asked.layer, buffer, asked.lent);
+        return lesson_test(asked.book, asked.length, asked.layer, asked.off, buffer, asked.lent);
     case LIST:
-        return lesson_list(asked.book, asked.length, asked.layer, buffer, asked.lent);
+        return lesson_list(asked.book, asked.length, asked.layer, asked.off, buffer, asked.lent);
     case ONE:
-        return lesson_one(asked.book, asked.length, asked.layer, buffer, asked.lent);
+        return lesson_one(asked.book, asked.length, asked.layer, asked.off, buffer, asked.lent);
     case PLACE:
-        return lesson_place(asked.book, asked.length, asked.layer, asked.fact);
+        return lesson_place(asked.book, asked.length, asked.layer, asked.off, asked.fact);
     default:
         return empty_call();
     }
@@ -180,21 +180,23 @@ static void put_largest(size_t branching, size_t free_facts)
         put_rule(2 + rules % (LAYERS - 2), 150 + rules % 100, NOT | NEVER, 150 + rules % 50);
 }
 
-static void lend(const uint8_t *bytes, size_t length, uint32_t layer, uint32_t fact, size_t lent)
+static void lend(const uint8_t *bytes, size_t length, uint32_t layer, uint32_t off, uint32_t fact,
+                 size_t lent)
 {
     asked.book = bytes;
     asked.length = length;
     asked.layer = layer;
+    asked.off = off;
     asked.fact = fact;
     asked.lent = lent;
 }
 
 /* Every call on a book, with a state that lesson_one has left in the buffer as the candidate. The
  * answer is that of lesson_list. */
-static uint64_t measure_every(const uint8_t *bytes, size_t length, uint32_t layer, uint32_t fact,
-                              size_t width)
+static uint64_t measure_every(const uint8_t *bytes, size_t length, uint32_t layer, uint32_t off,
+                              uint32_t fact, size_t width)
 {
-    lend(bytes, length, layer, fact, sizeof buffer);
+    lend(bytes, length, layer, off, fact, sizeof buffer);
     measure(CHECK);
     measure(ONE);
     asked.lent = width;
@@ -206,22 +208,23 @@ static uint64_t measure_every(const uint8_t *bytes, size_t length, uint32_t laye
     return measure(LIST);
 }
 
-/* Causes 1 to 14, by all calls that give them. */
+/* Causes 1 to 14 and 19, by all calls that give them. */
 static void measure_refusals(void)
 {
     uint8_t damaged[sizeof B];
     size_t at;
 
     for (at = 0; at <= sizeof B; at++)
-        measure_every(B, at, 3, 0, 1);
+        measure_every(B, at, 3, 0, 0, 1);
     for (at = 0; at < sizeof B; at++) {
         memcpy(damaged, B, sizeof B);
         damaged[at] ^= 1;
-        measure_every(damaged, sizeof B, 3, 0, 1);
+        measure_every(damaged, sizeof B, 3, 0, 0, 1);
     }
-    measure_every(B, sizeof B, 4, 0, 1);
-    measure_every(B, sizeof B, 3, 3, 2);
-    lend(B, sizeof B, 3, 0, 0);
+    measure_every(B, sizeof B, 4, 0, 0, 1);
+    measure_every(B, sizeof B, 3, 16, 0, 1);
+    measure_every(B, sizeof B, 3, 0, 3, 2);
+    lend(B, sizeof B, 3, 0, 0, 0);
     measure(LIST);
     measure(ONE);
 }
@@ -236,17 +239,19 @@ static void measure_largest(void)
 {
     put_largest(21, 1);
     expect_true("21 branching facts: list",
-                measure_every(book, end, 31, NEVER, 32) == LESSON_TOO_MANY_BRANCHING);
+                measure_every(book, end, 31, 0, NEVER, 32) == LESSON_TOO_MANY_BRANCHING);
     put_largest(10, 2);
     expect_true("10 branching facts, 1,024 rules: list",
-                measure_every(book, end, 31, NEVER, 32) == counts(10, 4));
+                measure_every(book, end, 31, 0, NEVER, 32) == counts(10, 4));
     put_largest(11, 10);
     expect_true("11 branching facts, 10 of them free: list",
-                measure_every(book, end, 1, NEVER, 32) == counts(11, 1024));
+                measure_every(book, end, 1, 0, NEVER, 32) == counts(11, 1024));
+    expect_true("the same at layer 31, with layers 2 to 31 off: list",
+                measure_every(book, end, 31, ~3u, NEVER, 32) == counts(11, 1024));
     put_largest(20, 1);
     expect_true("20 branching facts: list",
-                measure_every(book, end, 1, NEVER + 19, 32) == counts(20, 2));
-    lend(book, end, 31, NEVER + 19, sizeof buffer);
+                measure_every(book, end, 1, 0, NEVER + 19, 32) == counts(20, 2));
+    lend(book, end, 31, 0, NEVER + 19, sizeof buffer);
     expect_true("largest book: check", measure(CHECK) == LESSON_GRANTED);
     expect_true("20 branching facts, 1,024 rules: one", measure(ONE) == counts(20, 0));
     asked.lent = 32;
@@ -271,7 +276,7 @@ static void expect_figure(enum call call, size_t figure)
 /* Makes every call once, so that the dynamic linker has bound what they need of the C library. */
 static void bind_library(void)
 {
-    lend(smallest, sizeof smallest, 0, 0, sizeof buffer);
+    lend(smallest, sizeof smallest, 0, 0, 0, sizeof buffer);
     for (asked.call = CHECK; asked.call < CALLS; asked.call++)
         answer();
 }
@@ -280,7 +285,7 @@ int main(void)
 {
     bind_library();
     measure(EMPTY);
-    measure_every(smallest, sizeof smallest, 0, 0, 1);
+    measure_every(smallest, sizeof smallest, 0, 0, 0, 1);
     measure_refusals();
     measure_largest();
     expect_figure(CHECK, LESSON_CHECK_STACK);
