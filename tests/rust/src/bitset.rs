@@ -2,9 +2,10 @@
 //! a setting as one number, the heap where it helps. Every setting is tried once, and the records
 //! are sorted at the end. The benchmark's opponent; it shares nothing with the engine.
 
+use crate::drive::Drive;
 use crate::expected::{
     branching, counts, place_of, yes_or_no, BAD_CANDIDATE, BUFFER_TOO_SHORT, MAX_BRANCHING,
-    NO_STABLE_STATE, NO_SUCH_FACT, NO_SUCH_LAYER, TOO_MANY_BRANCHING,
+    NO_STABLE_STATE, NO_SUCH_FACT, NO_SUCH_LAYER, NO_SUCH_LAYER_OFF, TOO_MANY_BRANCHING,
 };
 use crate::reader::{self, Parts};
 use std::ops::ControlFlow;
@@ -103,9 +104,9 @@ struct Program {
 }
 
 impl Program {
-    fn new(book: &Parts, layer: u8) -> Program {
+    fn new(book: &Parts, drive: Drive) -> Program {
         let below = below(book);
-        let relevant = below[usize::from(layer)] | 1 << layer;
+        let relevant = (below[drive.layer as usize] | 1 << drive.layer) & !drive.off;
         let mut rules = Vec::with_capacity(book.rules.count.into());
         let counts = |record: &&[u8]| relevant >> record[0] & 1 == 1;
         rules.extend(book.rules.records().filter(counts).map(rule));
@@ -518,17 +519,20 @@ fn rule(record: &[u8]) -> Rule {
     }
 }
 
-/// The book at the driven layer, or the first of causes 1 to 9 that applies.
-fn program(book: &[u8], layer: u32) -> Result<Program, u64> {
+/// The book at the driven layer, or the first of causes 1 to 9 and 19 that applies.
+fn program(book: &[u8], drive: Drive) -> Result<Program, u64> {
     match check(book) {
         0 => {}
         cause => return Err(cause),
     }
     let parts = reader::parts(book)?;
-    if layer >= parts.layers.into() {
+    if drive.layer >= parts.layers.into() {
         return Err(NO_SUCH_LAYER);
     }
-    Ok(Program::new(&parts, layer as u8))
+    if u64::from(drive.off) >> parts.layers != 0 {
+        return Err(NO_SUCH_LAYER_OFF);
+    }
+    Ok(Program::new(&parts, drive))
 }
 
 /// The state that a record gives, or cause 10.
@@ -556,8 +560,8 @@ pub fn check(book: &[u8]) -> u64 {
 }
 
 /// What `lesson_test` answers.
-pub fn test(book: &[u8], layer: u32, record: &[u8]) -> u64 {
-    let answer = program(book, layer).and_then(|program| {
+pub fn test(book: &[u8], drive: Drive, record: &[u8]) -> u64 {
+    let answer = program(book, drive).and_then(|program| {
         let state = candidate(record, program.atoms)?;
         Ok(yes_or_no(program.stable(&state)))
     });
@@ -565,24 +569,24 @@ pub fn test(book: &[u8], layer: u32, record: &[u8]) -> u64 {
 }
 
 /// What `lesson_list` answers and does.
-pub fn list(book: &[u8], layer: u32, buffer: &mut [u8]) -> u64 {
-    program(book, layer)
+pub fn list(book: &[u8], drive: Drive, buffer: &mut [u8]) -> u64 {
+    program(book, drive)
         .and_then(Search::new)
         .and_then(|mut search| search.list(buffer))
         .unwrap_or_else(|cause| cause)
 }
 
 /// What `lesson_one` answers and does.
-pub fn one(book: &[u8], layer: u32, buffer: &mut [u8]) -> u64 {
-    program(book, layer)
+pub fn one(book: &[u8], drive: Drive, buffer: &mut [u8]) -> u64 {
+    program(book, drive)
         .and_then(Search::new)
         .and_then(|mut search| search.one(buffer))
         .unwrap_or_else(|cause| cause)
 }
 
 /// What `lesson_place` answers.
-pub fn place(book: &[u8], layer: u32, fact: u32) -> u64 {
-    let answer = program(book, layer).and_then(|program| {
+pub fn place(book: &[u8], drive: Drive, fact: u32) -> u64 {
+    let answer = program(book, drive).and_then(|program| {
         if fact >= program.atoms.into() {
             return Err(NO_SUCH_FACT);
         }

@@ -1,28 +1,41 @@
 //! Sets of causes, and counts of them: what the tests of several calls share.
 
+use crate::drive::{at, Drive};
 use crate::rng::{seed, Rng};
-use crate::shapes::{EVERY_SHAPE, NO_LAYERS};
+use crate::shapes::{absent_layers, EVERY_SHAPE, NO_LAYERS};
 use std::fmt;
 
-/// Some of the causes 1 to 14. Bit c - 1 is for cause c.
+/// The causes in the order in which they are tested: document 02, (h) puts 19 right after 9.
+pub const IN_ORDER: [u64; 15] = [1, 2, 3, 4, 5, 6, 7, 8, 9, 19, 10, 11, 12, 13, 14];
+
+/// The answers that a tally of causes has room for, 0 for none.
+pub const ANSWERS: usize = 20;
+
+/// Some of the causes. Bit i is for the one at place i of the order.
 #[derive(Clone, Copy)]
 pub struct Causes(u16);
 
+fn bit(cause: u64) -> u16 {
+    let place = IN_ORDER.iter().position(|&other| other == cause);
+    1 << place.expect("a cause")
+}
+
 /// Every set of these causes, the empty one first.
 pub fn every_set(causes: &[u64]) -> impl Iterator<Item = Causes> {
-    let all = causes.iter().fold(0, |all, cause| all | 1 << (cause - 1));
-    (0..1u16 << 14)
+    let all = causes.iter().fold(0, |all, &cause| all | bit(cause));
+    (0..1u16 << IN_ORDER.len())
         .filter(move |set| set & !all == 0)
         .map(Causes)
 }
 
 impl Causes {
     pub fn has(self, cause: u64) -> bool {
-        self.0 >> (cause - 1) & 1 == 1
+        self.0 & bit(cause) != 0
     }
 
-    pub fn smallest(self) -> Option<u64> {
-        (1..=14).find(|&cause| self.has(cause))
+    /// The one that is tested first.
+    pub fn first(self) -> Option<u64> {
+        IN_ORDER.into_iter().find(|&cause| self.has(cause))
     }
 
     /// Those of the book, causes 1 to 8, as `shapes::broken` takes them.
@@ -30,18 +43,24 @@ impl Causes {
         self.0 as u8
     }
 
-    /// The right layer, or one for cause 9.
-    pub fn layer(self, rng: &mut Rng, right: u8) -> u32 {
-        match self.has(9) {
+    /// A drive of a book with so many layers: the right layer, or one for cause 9, and nothing
+    /// switched off, or a set for cause 19.
+    pub fn drive(self, rng: &mut Rng, layers: u8, right: u8) -> Drive {
+        let layer = match self.has(9) {
             true => rng.pick(&NO_LAYERS),
             false => right.into(),
-        }
+        };
+        at(layer).off(match self.has(19) {
+            true => absent_layers(rng, layers),
+            false => 0,
+        })
     }
 }
 
 impl fmt::Display for Causes {
     fn fmt(&self, f: &mut fmt::Formatter) -> fmt::Result {
-        let causes: Vec<u64> = (1..=14).filter(|&cause| self.has(cause)).collect();
+        let causes = IN_ORDER.into_iter().filter(|&cause| self.has(cause));
+        let causes: Vec<u64> = causes.collect();
         write!(f, "causes {causes:?}")
     }
 }
@@ -66,7 +85,7 @@ impl AnyBytes<'_> {
     pub fn ask(&self, take: Take, mut ask: impl FnMut(&mut Rng, &str, &[u8]) -> u64) {
         let (seed, name) = (seed(), self.name);
         let mut rng = Rng::named(seed, name);
-        let mut tally = [0; 15];
+        let mut tally = [0; ANSWERS];
         let mut books = 0;
         for (shape, generate) in EVERY_SHAPE {
             let number = match shape.starts_with("large") {
@@ -80,7 +99,7 @@ impl AnyBytes<'_> {
             }
             books += number;
         }
-        println!("seed {seed}, {name}: {books} books, answers 0 to 14: {tally:?}");
+        println!("seed {seed}, {name}: {books} books, answers 0 to 19: {tally:?}");
         for (cause, &times) in tally.iter().enumerate() {
             let enough = match self.given.contains(&cause) {
                 true => times >= self.least,

@@ -1,5 +1,7 @@
-//! What document 01 asks of each call, by the reader and the oracle.
+//! What documents 01 and 02 ask of each call, by the reader and the oracle.
 
+use crate::book::Book;
+use crate::drive::Drive;
 use crate::oracle::{self, Driven};
 use crate::reader;
 use std::cell::OnceCell;
@@ -10,6 +12,7 @@ pub const NO_SUCH_FACT: u64 = 11;
 pub const TOO_MANY_BRANCHING: u64 = 12;
 pub const BUFFER_TOO_SHORT: u64 = 13;
 pub const NO_STABLE_STATE: u64 = 14;
+pub const NO_SUCH_LAYER_OFF: u64 = 19;
 
 pub const MAX_BRANCHING: usize = 20;
 
@@ -47,24 +50,29 @@ fn searched(driven: &Driven) -> Result<usize, u64> {
     }
 }
 
-/// A book at a driven layer, or the first of causes 1 to 9 that applies. The first question that
-/// asks for the stable states tries every state, so the book must be small, or refused.
+/// The book at the driven layer, or the first of causes 9 and 19 that applies.
+fn driven(book: &Book, drive: Drive) -> Result<Driven, u64> {
+    if drive.layer >= book.layers.into() {
+        return Err(NO_SUCH_LAYER);
+    }
+    if (book.layers..32).any(|absent| drive.is_off(absent)) {
+        return Err(NO_SUCH_LAYER_OFF);
+    }
+    Ok(Driven::new(book, drive))
+}
+
+/// A drive of a book, or the first of causes 1 to 9 and 19 that applies. The first question that asks
+/// for the stable states tries every state, so the book must be small, or refused.
 pub struct Asked {
     driven: Result<Driven, u64>,
     models: OnceCell<Vec<Vec<bool>>>,
 }
 
 impl Asked {
-    pub fn new(book: &[u8], layer: u32) -> Asked {
-        let driven =
-            reader::read(book)
-                .map_err(u64::from)
-                .and_then(|book| match u8::try_from(layer) {
-                    Ok(layer) if layer < book.layers => Ok(Driven::new(&book, layer)),
-                    _ => Err(NO_SUCH_LAYER),
-                });
+    pub fn new(book: &[u8], drive: Drive) -> Asked {
+        let book = reader::read(book).map_err(u64::from);
         Asked {
-            driven,
+            driven: book.and_then(|book| driven(&book, drive)),
             models: OnceCell::new(),
         }
     }
@@ -135,21 +143,21 @@ impl Asked {
 }
 
 /// The answer of `lesson_test`.
-pub fn test(book: &[u8], layer: u32, candidate: &[u8]) -> u64 {
-    Asked::new(book, layer).test(candidate)
+pub fn test(book: &[u8], drive: Drive, candidate: &[u8]) -> u64 {
+    Asked::new(book, drive).test(candidate)
 }
 
 /// The answer of `lesson_list` and the buffer after it.
-pub fn list(book: &[u8], layer: u32, buffer: &[u8]) -> (u64, Vec<u8>) {
-    Asked::new(book, layer).list(buffer)
+pub fn list(book: &[u8], drive: Drive, buffer: &[u8]) -> (u64, Vec<u8>) {
+    Asked::new(book, drive).list(buffer)
 }
 
 /// The answer of `lesson_one` and the records of which it may write any, or the cause.
-pub fn one(book: &[u8], layer: u32, buffer_len: usize) -> Result<(u64, Vec<Vec<u8>>), u64> {
-    Asked::new(book, layer).one(buffer_len)
+pub fn one(book: &[u8], drive: Drive, buffer_len: usize) -> Result<(u64, Vec<Vec<u8>>), u64> {
+    Asked::new(book, drive).one(buffer_len)
 }
 
 /// The answer of `lesson_place`.
-pub fn place(book: &[u8], layer: u32, fact: u32) -> u64 {
-    Asked::new(book, layer).place(fact)
+pub fn place(book: &[u8], drive: Drive, fact: u32) -> u64 {
+    Asked::new(book, drive).place(fact)
 }

@@ -4,6 +4,7 @@
 //! lends the slices themselves: for timing, for sharing, and for what is too large to copy.
 
 use crate::book::hex;
+use crate::drive::{at, Drive};
 use std::ptr;
 
 extern "C" {
@@ -12,6 +13,7 @@ extern "C" {
         book: *const u8,
         book_len: usize,
         layer: u32,
+        off: u32,
         candidate: *const u8,
         candidate_len: usize,
     ) -> u64;
@@ -19,6 +21,7 @@ extern "C" {
         book: *const u8,
         book_len: usize,
         layer: u32,
+        off: u32,
         buffer: *mut u8,
         buffer_len: usize,
     ) -> u64;
@@ -26,13 +29,14 @@ extern "C" {
         book: *const u8,
         book_len: usize,
         layer: u32,
+        off: u32,
         buffer: *mut u8,
         buffer_len: usize,
     ) -> u64;
-    fn lesson_place(book: *const u8, book_len: usize, layer: u32, fact: u32) -> u64;
+    fn lesson_place(book: *const u8, book_len: usize, layer: u32, off: u32, fact: u32) -> u64;
 }
 
-/// A call, with what it is lent beside the book and the driven layer. `None` is NULL with length 0,
+/// A call, with what it is lent beside the book and the drive. `None` is NULL with length 0,
 /// which the header allows.
 pub enum Call<'a> {
     Check,
@@ -52,9 +56,10 @@ fn pointer_mut(slice: Option<&mut [u8]>) -> (*mut u8, usize) {
     })
 }
 
-/// The answer of a call on the slices themselves. `lesson_check` has no driven layer.
-pub fn answer(book: Option<&[u8]>, layer: u32, call: Call) -> u64 {
+/// The answer of a call on the slices themselves. `lesson_check` drives nothing.
+pub fn answer(book: Option<&[u8]>, drive: Drive, call: Call) -> u64 {
     let (book, book_len) = pointer(book);
+    let Drive { layer, off } = drive;
     // SAFETY: each pointer is NULL with length 0, or it and its length are those of a live slice;
     // and a buffer, which the call may write, overlaps nothing, being borrowed mutably.
     unsafe {
@@ -62,17 +67,17 @@ pub fn answer(book: Option<&[u8]>, layer: u32, call: Call) -> u64 {
             Call::Check => lesson_check(book, book_len),
             Call::Test(candidate) => {
                 let (candidate, candidate_len) = pointer(candidate);
-                lesson_test(book, book_len, layer, candidate, candidate_len)
+                lesson_test(book, book_len, layer, off, candidate, candidate_len)
             }
             Call::List(buffer) => {
                 let (buffer, buffer_len) = pointer_mut(buffer);
-                lesson_list(book, book_len, layer, buffer, buffer_len)
+                lesson_list(book, book_len, layer, off, buffer, buffer_len)
             }
             Call::One(buffer) => {
                 let (buffer, buffer_len) = pointer_mut(buffer);
-                lesson_one(book, book_len, layer, buffer, buffer_len)
+                lesson_one(book, book_len, layer, off, buffer, buffer_len)
             }
-            Call::Place(fact) => lesson_place(book, book_len, layer, fact),
+            Call::Place(fact) => lesson_place(book, book_len, layer, off, fact),
         }
     }
 }
@@ -155,64 +160,64 @@ fn fenced<const N: usize>(
 
 /// `lesson_check` on a fenced copy.
 pub fn check(book: &[u8]) -> u64 {
-    let call = |[book]: &[Lent; 1], _: &mut Lent| answer(book.slice(), 0, Call::Check);
+    let call = |[book]: &[Lent; 1], _: &mut Lent| answer(book.slice(), at(0), Call::Check);
     fenced([book], &[], call).0
 }
 
 /// `lesson_check` on `book` itself.
 pub fn check_in_place(book: &[u8]) -> u64 {
-    answer(Some(book), 0, Call::Check)
+    answer(Some(book), at(0), Call::Check)
 }
 
 /// `lesson_check` on NULL with length 0.
 pub fn check_null() -> u64 {
-    answer(None, 0, Call::Check)
+    answer(None, at(0), Call::Check)
 }
 
 /// `lesson_test` on fenced copies.
-pub fn test(book: &[u8], layer: u32, candidate: &[u8]) -> u64 {
+pub fn test(book: &[u8], drive: Drive, candidate: &[u8]) -> u64 {
     let call = |[book, candidate]: &[Lent; 2], _: &mut Lent| {
-        answer(book.slice(), layer, Call::Test(candidate.slice()))
+        answer(book.slice(), drive, Call::Test(candidate.slice()))
     };
     fenced([book, candidate], &[], call).0
 }
 
 /// `lesson_test` on the slices themselves.
-pub fn test_in_place(book: &[u8], layer: u32, candidate: &[u8]) -> u64 {
-    answer(Some(book), layer, Call::Test(Some(candidate)))
+pub fn test_in_place(book: &[u8], drive: Drive, candidate: &[u8]) -> u64 {
+    answer(Some(book), drive, Call::Test(Some(candidate)))
 }
 
 /// `lesson_list` on fenced copies.
-pub fn list(book: &[u8], layer: u32, buffer: &[u8]) -> Outcome {
+pub fn list(book: &[u8], drive: Drive, buffer: &[u8]) -> Outcome {
     fenced([book], buffer, |[book], buffer| {
-        answer(book.slice(), layer, Call::List(buffer.buffer()))
+        answer(book.slice(), drive, Call::List(buffer.buffer()))
     })
 }
 
 /// `lesson_list` on the slices themselves.
-pub fn list_in_place(book: &[u8], layer: u32, buffer: &mut [u8]) -> u64 {
-    answer(Some(book), layer, Call::List(Some(buffer)))
+pub fn list_in_place(book: &[u8], drive: Drive, buffer: &mut [u8]) -> u64 {
+    answer(Some(book), drive, Call::List(Some(buffer)))
 }
 
 /// `lesson_one` on fenced copies.
-pub fn one(book: &[u8], layer: u32, buffer: &[u8]) -> Outcome {
+pub fn one(book: &[u8], drive: Drive, buffer: &[u8]) -> Outcome {
     fenced([book], buffer, |[book], buffer| {
-        answer(book.slice(), layer, Call::One(buffer.buffer()))
+        answer(book.slice(), drive, Call::One(buffer.buffer()))
     })
 }
 
 /// `lesson_one` on the slices themselves.
-pub fn one_in_place(book: &[u8], layer: u32, buffer: &mut [u8]) -> u64 {
-    answer(Some(book), layer, Call::One(Some(buffer)))
+pub fn one_in_place(book: &[u8], drive: Drive, buffer: &mut [u8]) -> u64 {
+    answer(Some(book), drive, Call::One(Some(buffer)))
 }
 
 /// `lesson_place` on a fenced copy.
-pub fn place(book: &[u8], layer: u32, fact: u32) -> u64 {
-    let call = |[book]: &[Lent; 1], _: &mut Lent| answer(book.slice(), layer, Call::Place(fact));
+pub fn place(book: &[u8], drive: Drive, fact: u32) -> u64 {
+    let call = |[book]: &[Lent; 1], _: &mut Lent| answer(book.slice(), drive, Call::Place(fact));
     fenced([book], &[], call).0
 }
 
 /// `lesson_place` on `book` itself.
-pub fn place_in_place(book: &[u8], layer: u32, fact: u32) -> u64 {
-    answer(Some(book), layer, Call::Place(fact))
+pub fn place_in_place(book: &[u8], drive: Drive, fact: u32) -> u64 {
+    answer(Some(book), drive, Call::Place(fact))
 }

@@ -1,8 +1,9 @@
-//! The fault trial's inputs: a book, a driven layer, and questions to all five calls, each with what
-//! must come of it. Seed and number give the input, so that one of them can be tried again alone.
+//! The fault trial's inputs: a drive of a book, and questions to all five calls, each with what must
+//! come of it. Seed and number give the input, so that one of them can be tried again alone.
 
 use crate::book::{hex, Book};
 use crate::causes::fields;
+use crate::drive::Drive;
 use crate::known::{self, EVERY_FOLLOWING};
 use crate::orders::{Order, Ordered};
 use crate::plain;
@@ -14,7 +15,7 @@ use std::fmt;
 
 pub const CALLS: [&str; 5] = ["check", "test", "list", "one", "place"];
 
-/// A call, with what it takes beside the book and the driven layer.
+/// A call, with what it takes beside the book and the drive.
 #[derive(Clone, Debug)]
 pub enum Question {
     Check,
@@ -73,7 +74,7 @@ pub type Asked = (Question, Wanted);
 pub struct Input {
     pub number: u64,
     pub book: Vec<u8>,
-    pub layer: u32,
+    pub drive: Drive,
     pub questions: Vec<Asked>,
 }
 
@@ -83,26 +84,26 @@ const LONGEST_LISTING: usize = 11 + (1 << 8) * 32;
 impl Input {
     pub fn new(seed: u64, number: u64) -> Input {
         let mut rng = Rng::named(seed, &format!("fault trial {number}"));
-        let (book, layer) = loop {
+        let (book, drive) = loop {
             let book = book(&mut rng);
-            let layer = shapes::any_layer(&mut rng, &book);
-            if !long_search(&book, layer) {
-                break (book, layer);
+            let drive = shapes::any_drive(&mut rng, &book);
+            if !long_search(&book, drive) {
+                break (book, drive);
             }
         };
-        let questions = questions(&mut rng, &book, layer);
+        let questions = questions(&mut rng, &book, drive);
         Input {
             number,
             book,
-            layer,
+            drive,
             questions,
         }
     }
 }
 
 /// Of a book with few facts every search is short.
-fn long_search(book: &[u8], layer: u32) -> bool {
-    plain::branching_count(book, layer).is_ok_and(|branching| branching > 8)
+fn long_search(book: &[u8], drive: Drive) -> bool {
+    plain::branching_count(book, drive).is_ok_and(|branching| branching > 8)
 }
 
 /// Any bytes: lawful books of all kinds, damaged ones, and such as are refused by each cause.
@@ -184,8 +185,8 @@ fn too_many_branching(rng: &mut Rng) -> Book {
 }
 
 /// Every call is asked, and so that where the book is lawful each of its own causes comes up.
-fn questions(rng: &mut Rng, book: &[u8], layer: u32) -> Vec<Asked> {
-    let truth = Truth::new(book, layer);
+fn questions(rng: &mut Rng, book: &[u8], drive: Drive) -> Vec<Asked> {
+    let truth = Truth::new(book, drive);
     let (facts, _) = fields(book);
     let width = facts.div_ceil(8);
     let records = records(&truth, width);
@@ -197,7 +198,7 @@ fn questions(rng: &mut Rng, book: &[u8], layer: u32) -> Vec<Asked> {
         questions.push((Question::Test { candidate }, Wanted::answer(answer)));
     }
     let any_length = rng.range(0, length + 40) * rng.below(2);
-    let branching = plain::branching_count(book, layer).unwrap_or(0);
+    let branching = plain::branching_count(book, drive).unwrap_or(0);
     let room_for_all = 11 + width * ((1 << branching.min(8)) - rng.below(2));
     for length in [length, length - 1, any_length, room_for_all] {
         let buffer = rng.bytes(length);

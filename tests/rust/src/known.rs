@@ -424,7 +424,7 @@ pub fn spread(rng: &mut Rng, small: &Book, layer: u8, atoms: u16) -> Known {
         }
     }
     rng.shuffle(&mut book.rules);
-    let driven = Driven::new(small, layer);
+    let driven = Driven::new(small, layer.into());
     let models = driven.stable_models();
     Known {
         book,
@@ -803,7 +803,7 @@ pub(crate) mod tests {
     pub(crate) fn assert_known(what: &str, known: &Known) {
         let bytes = known.book.bytes();
         assert_eq!(crate::reader::first_cause(&bytes), 0, "{what}");
-        let driven = Driven::new(&known.book, known.layer);
+        let driven = Driven::new(&known.book, known.layer.into());
         assert_eq!(driven.branching_count(), known.branching, "{what}");
         if known.book.atoms <= 14 {
             assert_eq!(hex(&driven.listing()), hex(&known.listing()), "{what}");

@@ -1,8 +1,8 @@
 //! What the tests and the benchmark of the compiled lesson engine share.
 //!
-//! `reader` and `oracle` are written from document 01 alone and share nothing with the engine.
-//! `expected` has the answers that follow from them. Only `ffi`, `guarded` and `child`, which wrap
-//! C calls, have `unsafe`.
+//! `reader` and `oracle` are written from documents 01 and 02 alone and share nothing with the
+//! engine. `expected` has the answers that follow from them. Only `ffi`, `guarded` and `child`, which
+//! wrap C calls, have `unsafe`.
 
 #![deny(unsafe_code)]
 
@@ -11,6 +11,7 @@ pub mod book;
 pub mod causes;
 #[allow(unsafe_code)]
 pub mod child;
+pub mod drive;
 pub mod examples;
 pub mod expected;
 #[allow(unsafe_code)]

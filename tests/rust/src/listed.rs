@@ -1,6 +1,7 @@
 //! What `lesson_list` is to do to a buffer, for every test of it.
 
 use crate::book::hex;
+use crate::drive::Drive;
 use crate::expected::BUFFER_TOO_SHORT;
 use crate::ffi;
 
@@ -17,11 +18,17 @@ pub fn outcome(listing: &[u8], answer: u64, buffer: &[u8]) -> ffi::Outcome {
 }
 
 /// The engine's outcome on fenced copies is the one expected.
-pub fn assert_outcome(what: &str, book: &[u8], layer: u32, buffer: &[u8], expected: &ffi::Outcome) {
-    let engine = ffi::list(book, layer, buffer);
+pub fn assert_outcome(
+    what: &str,
+    book: &[u8],
+    drive: Drive,
+    buffer: &[u8],
+    expected: &ffi::Outcome,
+) {
+    let engine = ffi::list(book, drive, buffer);
     assert!(
         engine == *expected,
-        "{what}, layer {layer}, buffer of {} bytes: engine {:#X}, expected {:#X}\nbook {}\n\
+        "{what}, {drive}, buffer of {} bytes: engine {:#X}, expected {:#X}\nbook {}\n\
          engine's buffer   {}\nexpected          {}\nbefore            {}",
         buffer.len(),
         engine.0,

@@ -3,6 +3,7 @@
 //! of a trap shows that its book does.
 
 use crate::book::{Arrow, Book, Rule};
+use crate::drive::Drive;
 use crate::oracle::{self, body_holds};
 
 #[derive(Clone, Copy, Debug, PartialEq, Eq)]
@@ -35,11 +36,27 @@ pub enum Misreading {
     AllLayersRelevant,
     /// Only the driven layer's rules count.
     DrivenLayerOnly,
+    /// No layer is switched off.
+    SetIgnored,
+    /// The set names the layers that stay.
+    SetOfThoseThatStay,
+    /// The first layer has the highest bit, and the last one bit 0.
+    SetTurnedRound,
+    /// Paths through a layer that is switched off do not count.
+    PathsCut,
+    /// What lies below a layer that is switched off is off with it.
+    OffWithAllBelow,
+    /// The driven layer stays.
+    DrivenLayerNeverOff,
+    /// Rules of a layer that is switched off still displace.
+    OffStillDisplace,
+    /// They still count against defaults.
+    OffAgainstDefaults,
 }
 
 pub use Misreading::*;
 
-pub const EVERY: [Misreading; 14] = [
+pub const EVERY: [Misreading; 22] = [
     WithinALayer,
     UnrelatedLayers,
     LayersByNumber,
@@ -54,20 +71,35 @@ pub const EVERY: [Misreading; 14] = [
     NegationsOnly,
     AllLayersRelevant,
     DrivenLayerOnly,
+    SetIgnored,
+    SetOfThoseThatStay,
+    SetTurnedRound,
+    PathsCut,
+    OffWithAllBelow,
+    DrivenLayerNeverOff,
+    OffStillDisplace,
+    OffAgainstDefaults,
 ];
 
-/// A book at the driven layer, misread.
+/// Those of the set of layers that are switched off.
+pub const OF_THE_SET: &[Misreading] = EVERY.split_at(14).1;
+
+/// A drive of a book, misread.
 pub struct Misread {
     misreading: Misreading,
     atoms: usize,
     /// `displaces[i][j]`: rules of layer j displace those of layer i.
     displaces: Vec<Vec<bool>>,
     rules: Vec<Rule>,
+    /// Those that count but for the set.
+    with_off: Vec<Rule>,
 }
 
 impl Misread {
-    pub fn new(book: &Book, layer: u8, misreading: Misreading) -> Misread {
+    /// The set must be of the book's layers.
+    pub fn new(book: &Book, drive: Drive, misreading: Misreading) -> Misread {
         let layers = usize::from(book.layers);
+        let layer = drive.layer as usize;
         let mut below = oracle::below(book);
         if misreading == NoPaths {
             let arrow = |i, j| Arrow {
@@ -76,6 +108,9 @@ impl Misread {
             };
             below = table(layers, |i, j| book.arrows.contains(&arrow(i, j)));
         }
+        if misreading == PathsCut {
+            below = uncut(book, drive);
+        }
         let displaces = table(layers, |i, j| match misreading {
             WithinALayer => below[i][j] || i == j,
             UnrelatedLayers => i != j && !below[j][i],
@@ -83,22 +118,45 @@ impl Misread {
             ArrowsBackwards => below[j][i],
             _ => below[i][j],
         });
-        let mut rules = book.rules.clone();
-        rules.retain(|rule| match misreading {
-            AllLayersRelevant => true,
-            DrivenLayerOnly => rule.layer == layer,
-            _ => rule.layer == layer || below[usize::from(rule.layer)][usize::from(layer)],
+        let mut with_off = book.rules.clone();
+        with_off.retain(|rule| {
+            let own = usize::from(rule.layer);
+            match misreading {
+                AllLayersRelevant => true,
+                DrivenLayerOnly => own == layer,
+                _ => own == layer || below[own][layer],
+            }
         });
+        let off = |rule: &Rule| {
+            let own = usize::from(rule.layer);
+            match misreading {
+                SetIgnored => false,
+                SetOfThoseThatStay => !drive.is_off(rule.layer),
+                SetTurnedRound => drive.is_off(book.layers - 1 - rule.layer),
+                OffWithAllBelow => (0..book.layers).any(|at| {
+                    drive.is_off(at) && (at == rule.layer || below[own][usize::from(at)])
+                }),
+                DrivenLayerNeverOff => own != layer && drive.is_off(rule.layer),
+                _ => drive.is_off(rule.layer),
+            }
+        };
+        let mut rules = with_off.clone();
+        rules.retain(|rule| !off(rule));
         Misread {
             misreading,
             atoms: usize::from(book.atoms),
             displaces,
             rules,
+            with_off,
         }
     }
 
     fn displaced(&self, rule: &Rule, state: &[bool]) -> bool {
-        self.rules.iter().any(|other| {
+        let displacing = match self.misreading {
+            OffStillDisplace => &self.with_off,
+            _ => &self.rules,
+        };
+        displacing.iter().any(|other| {
             self.displaces[usize::from(rule.layer)][usize::from(other.layer)]
                 && other.head == rule.head.opposite()
                 && body_holds(other, state)
@@ -118,6 +176,7 @@ impl Misread {
         let mut reached = vec![[false, true]; self.atoms];
         let counting = match wrong {
             DefaultsWithoutDisplaced => live.clone(),
+            OffAgainstDefaults => self.with_off.iter().collect(),
             _ => self.rules.iter().collect(),
         };
         for rule in counting {
@@ -148,6 +207,21 @@ impl Misread {
                 _ => *name == [stands, !stands],
             })
     }
+}
+
+/// `below` over such paths alone as have no layer between their ends that is switched off.
+fn uncut(book: &Book, drive: Drive) -> Vec<Vec<bool>> {
+    let layers = usize::from(book.layers);
+    let mut below = vec![vec![false; layers]; layers];
+    for arrow in &book.arrows {
+        below[usize::from(arrow.earlier)][usize::from(arrow.later)] = true;
+    }
+    for via in (0..layers).filter(|&via| !drive.is_off(via as u8)) {
+        below = table(layers, |i, j| {
+            below[i][j] || (below[i][via] && below[via][j])
+        });
+    }
+    below
 }
 
 fn table(size: usize, entry: impl Fn(usize, usize) -> bool) -> Vec<Vec<bool>> {

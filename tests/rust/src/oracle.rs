@@ -1,9 +1,12 @@
-//! Document 01's definitions by brute force, in its order and words, for small books: every
-//! state is tried. Nothing is clever here, and nothing is shared with the engine.
+//! Document 01's definitions by brute force, in its order and words, with the layers that document
+//! 02, (h) switches off, for small books: every state is tried. Nothing is clever here, and nothing
+//! is shared with the engine.
 
 use crate::book::{Book, Literal, Rule};
+use crate::drive::Drive;
 
-/// `below[i][j]`: a path of one or more arrows leads from layer i to layer j.
+/// `below[i][j]`: a path of one or more arrows leads from layer i to layer j. Paths through a layer
+/// that is switched off still count.
 pub fn below(book: &Book) -> Vec<Vec<bool>> {
     let layers = usize::from(book.layers);
     let mut below = vec![vec![false; layers]; layers];
@@ -26,9 +29,12 @@ pub fn below(book: &Book) -> Vec<Vec<bool>> {
     }
 }
 
-/// Whether a rule counts at the driven layer: its layer is that one or below it.
-fn relevant(below: &[Vec<bool>], rule: &Rule, layer: u8) -> bool {
-    rule.layer == layer || below[usize::from(rule.layer)][usize::from(layer)]
+/// Whether a rule counts at the driven layer: its layer is that one or below it, and is not switched
+/// off. The driven layer may be off too.
+fn relevant(below: &[Vec<bool>], rule: &Rule, drive: Drive) -> bool {
+    let driven = drive.layer as usize;
+    let layer = usize::from(rule.layer);
+    (layer == driven || below[layer][driven]) && !drive.is_off(rule.layer)
 }
 
 /// Whether each plain literal of the body stands and each negated one does not.
@@ -62,7 +68,7 @@ impl Least {
     }
 }
 
-/// A book at the driven layer.
+/// A book at the driven layer, some of its layers being switched off.
 pub struct Driven {
     atoms: usize,
     below: Vec<Vec<bool>>,
@@ -71,10 +77,11 @@ pub struct Driven {
 }
 
 impl Driven {
-    pub fn new(book: &Book, layer: u8) -> Driven {
+    /// The book must have the driven layer.
+    pub fn new(book: &Book, drive: Drive) -> Driven {
         let below = below(book);
         let mut rules = book.rules.clone();
-        rules.retain(|rule| relevant(&below, rule, layer));
+        rules.retain(|rule| relevant(&below, rule, drive));
         Driven {
             atoms: usize::from(book.atoms),
             below,
@@ -249,6 +256,7 @@ pub fn state(bytes: &[u8], atoms: u16) -> Option<Vec<bool>> {
 mod tests {
     use super::*;
     use crate::book::hex;
+    use crate::drive::at;
     use crate::examples::{starred, Example};
     use crate::reader;
     use crate::rng::{seed, Rng};
@@ -256,7 +264,7 @@ mod tests {
 
     #[test]
     fn book_b_at_3_has_the_listing_of_document_01() {
-        let driven = Driven::new(&reader::read(&shapes::B).unwrap(), 3);
+        let driven = Driven::new(&reader::read(&shapes::B).unwrap(), at(3));
         assert_eq!(hex(&driven.listing()), "010000000C00030000000120");
         assert_eq!(driven.branching_count(), 2);
     }
@@ -271,7 +279,7 @@ mod tests {
         } in starred()
         {
             assert_eq!(reader::read(&book.bytes()).as_ref(), Ok(&book));
-            let driven = Driven::new(&book, layer);
+            let driven = Driven::new(&book, layer.into());
             let mut listing = vec![1, 0, 0, 0, 11 + records.len() as u8, 0, book.atoms as u8];
             listing.extend_from_slice(&(records.len() as u32).to_be_bytes());
             listing.extend_from_slice(records);
@@ -294,7 +302,7 @@ mod tests {
                 _ => shapes::choices(&mut rng),
             };
             for layer in 0..book.layers {
-                let driven = Driven::new(&book, layer);
+                let driven = Driven::new(&book, layer.into());
                 let models = driven.stable_models();
                 let told = format!("seed {seed}, layer {layer}, book {}", hex(&book.bytes()));
                 for (i, model) in models.iter().enumerate() {

@@ -1,9 +1,10 @@
 //! The engine's work in plain Rust, as fast as its plain form goes: the benchmark's yardstick,
 //! and a second opinion on books that are too large for the oracle to try every state of.
 
+use crate::drive::Drive;
 use crate::expected::{
     branching, counts, place_of, yes_or_no, BAD_CANDIDATE, BUFFER_TOO_SHORT, MAX_BRANCHING,
-    NO_STABLE_STATE, NO_SUCH_FACT, NO_SUCH_LAYER, TOO_MANY_BRANCHING,
+    NO_STABLE_STATE, NO_SUCH_FACT, NO_SUCH_LAYER, NO_SUCH_LAYER_OFF, TOO_MANY_BRANCHING,
 };
 use crate::reader::{self, Parts};
 use std::ops::ControlFlow;
@@ -50,9 +51,9 @@ pub struct Program {
 }
 
 impl Program {
-    fn new(book: &Parts, layer: u8) -> Program {
+    fn new(book: &Parts, drive: Drive) -> Program {
         let below = below(book);
-        let relevant = below[usize::from(layer)] | 1 << layer;
+        let relevant = (below[drive.layer as usize] | 1 << drive.layer) & !drive.off;
         let mut rows = Vec::with_capacity(usize::from(book.rules.count));
         let mut bodies = Vec::new();
         let mut layers_of = [0u32; NAMES];
@@ -328,17 +329,20 @@ fn below(book: &Parts) -> [u32; LAYERS] {
     below
 }
 
-/// The book at the driven layer, or the first of causes 1 to 9 that applies.
-fn program(book: &[u8], layer: u32) -> Result<Program, u64> {
+/// The book at the driven layer, or the first of causes 1 to 9 and 19 that applies.
+fn program(book: &[u8], drive: Drive) -> Result<Program, u64> {
     let cause = reader::first_cause(book);
     if cause != reader::GRANTED {
         return Err(cause.into());
     }
     let parts = reader::parts(book)?;
-    if layer >= parts.layers.into() {
+    if drive.layer >= parts.layers.into() {
         return Err(NO_SUCH_LAYER);
     }
-    Ok(Program::new(&parts, layer as u8))
+    if u64::from(drive.off) >> parts.layers != 0 {
+        return Err(NO_SUCH_LAYER_OFF);
+    }
+    Ok(Program::new(&parts, drive))
 }
 
 /// The state that a record gives. `None` where its length is another, or a spare bit is set.
@@ -359,14 +363,14 @@ fn state(record: &[u8], atoms: usize) -> Option<Names> {
 }
 
 /// The number of branching facts, or the cause for which there is no search.
-pub fn branching_count(book: &[u8], layer: u32) -> Result<usize, u64> {
-    let branching = program(book, layer)?.branching()?;
+pub fn branching_count(book: &[u8], drive: Drive) -> Result<usize, u64> {
+    let branching = program(book, drive)?.branching()?;
     Ok(branching.len())
 }
 
 /// What `lesson_test` answers.
-pub fn test(book: &[u8], layer: u32, candidate: &[u8]) -> u64 {
-    let answer = program(book, layer).and_then(|program| {
+pub fn test(book: &[u8], drive: Drive, candidate: &[u8]) -> u64 {
+    let answer = program(book, drive).and_then(|program| {
         let state = state(candidate, program.atoms).ok_or(BAD_CANDIDATE)?;
         Ok(yes_or_no(program.stable(&state)))
     });
@@ -374,22 +378,22 @@ pub fn test(book: &[u8], layer: u32, candidate: &[u8]) -> u64 {
 }
 
 /// What `lesson_list` answers and does.
-pub fn list(book: &[u8], layer: u32, buffer: &mut [u8]) -> u64 {
-    program(book, layer)
+pub fn list(book: &[u8], drive: Drive, buffer: &mut [u8]) -> u64 {
+    program(book, drive)
         .and_then(|program| program.list(buffer))
         .unwrap_or_else(|cause| cause)
 }
 
 /// What `lesson_one` answers and does.
-pub fn one(book: &[u8], layer: u32, buffer: &mut [u8]) -> u64 {
-    program(book, layer)
+pub fn one(book: &[u8], drive: Drive, buffer: &mut [u8]) -> u64 {
+    program(book, drive)
         .and_then(|program| program.one(buffer))
         .unwrap_or_else(|cause| cause)
 }
 
 /// What `lesson_place` answers.
-pub fn place(book: &[u8], layer: u32, fact: u32) -> u64 {
-    program(book, layer)
+pub fn place(book: &[u8], drive: Drive, fact: u32) -> u64 {
+    program(book, drive)
         .and_then(|program| program.place(fact))
         .unwrap_or_else(|cause| cause)
 }
@@ -398,6 +402,7 @@ pub fn place(book: &[u8], layer: u32, fact: u32) -> u64 {
 mod tests {
     use super::*;
     use crate::book::hex;
+    use crate::drive::at;
     use crate::expected;
     use crate::oracle;
     use crate::rng::{seed, Rng};
@@ -412,14 +417,15 @@ mod tests {
             let book = shapes::choices(&mut rng);
             let bytes = book.bytes();
             for layer in 0..u32::from(book.layers) {
+                let drive = at(layer).off(shapes::some_layers(&mut rng, book.layers));
                 for number in 0..1u32 << book.atoms {
                     let state: Vec<bool> = (0..book.atoms).map(|f| number >> f & 1 == 1).collect();
                     let record = oracle::record(&state);
-                    let plain = test(&bytes, layer, &record);
-                    let oracle = expected::test(&bytes, layer, &record);
+                    let plain = test(&bytes, drive, &record);
+                    let oracle = expected::test(&bytes, drive, &record);
                     assert!(
                         plain == oracle,
-                        "seed {seed}, layer {layer}, candidate {}: plain {plain}, oracle {oracle}\n{}",
+                        "seed {seed}, {drive}, candidate {}: plain {plain}, oracle {oracle}\n{}",
                         hex(&record),
                         hex(&bytes)
                     );
@@ -442,12 +448,13 @@ mod tests {
             };
             let bytes = book.bytes();
             for layer in 0..u32::from(book.layers) {
+                let drive = at(layer).off(shapes::some_layers(&mut rng, book.layers));
                 let mut buffer = vec![0xA5; rng.range(8, 30)];
-                let oracle = expected::list(&bytes, layer, &buffer);
-                let plain = list(&bytes, layer, &mut buffer);
+                let oracle = expected::list(&bytes, drive, &buffer);
+                let plain = list(&bytes, drive, &mut buffer);
                 assert!(
                     (plain, &buffer) == (oracle.0, &oracle.1),
-                    "seed {seed}, layer {layer}: plain {plain:#X}, oracle {:#X}\n{}",
+                    "seed {seed}, {drive}: plain {plain:#X}, oracle {:#X}\n{}",
                     oracle.0,
                     hex(&bytes)
                 );

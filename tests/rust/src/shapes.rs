@@ -1,6 +1,7 @@
 //! Books of every shape, lawful and not. The same generator state gives the same book.
 
 use crate::book::{framed, not, plain, set_length, Arrow, Book, Draft, Literal, Rule, Section};
+use crate::drive::{all_layers, at, Drive};
 use crate::reader;
 use crate::rng::Rng;
 
@@ -770,8 +771,39 @@ pub fn quick(rng: &mut Rng, generate: fn(&mut Rng) -> Vec<u8>) -> Vec<u8> {
     }
 }
 
+/// A set of layers to switch off in a book with so many: none of them half of the time.
+pub fn some_layers(rng: &mut Rng, layers: u8) -> u32 {
+    let all = all_layers(layers);
+    let one = 1 << rng.below(layers.into());
+    match rng.below(8) {
+        0..=3 => 0,
+        4 => one,
+        5 => all & !one,
+        _ => all & rng.word() as u32,
+    }
+}
+
+/// A set with a layer that a book with so many, fewer than 32, does not have.
+pub fn absent_layers(rng: &mut Rng, layers: u8) -> u32 {
+    let any = rng.range(layers.into(), 31) as u8;
+    let absent = rng.pick(&[layers, any, 31]);
+    let any = rng.word() as u32;
+    1 << absent | rng.pick(&[0, any & all_layers(layers), any, u32::MAX])
+}
+
+/// A drive: a layer and a set that the bytes' field for layers allows, most of the time.
+pub fn any_drive(rng: &mut Rng, book: &[u8]) -> Drive {
+    let layers = book.get(7).copied().unwrap_or(1).clamp(1, 32);
+    let off = match rng.below(20) {
+        0..=1 if layers < 32 => absent_layers(rng, layers),
+        2 => rng.word() as u32,
+        _ => some_layers(rng, layers),
+    };
+    at(any_layer(rng, book)).off(off)
+}
+
 /// A driven layer: one that the bytes' field for layers allows, most of the time.
-pub fn any_layer(rng: &mut Rng, book: &[u8]) -> u32 {
+fn any_layer(rng: &mut Rng, book: &[u8]) -> u32 {
     let layers = usize::from(book.get(7).copied().unwrap_or(1));
     match rng.below(20) {
         0 => layers as u32,

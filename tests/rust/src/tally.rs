@@ -1,5 +1,6 @@
 //! How often the fault trial tried what: its table, and the checks that it tried enough.
 
+use crate::causes::{ANSWERS, IN_ORDER};
 use crate::inputs::{Input, CALLS};
 
 /// The slices of the calls, in the order of `Tally::nulls`.
@@ -15,7 +16,7 @@ const SLICES: [&str; 8] = [
 ];
 
 /// Answers that a call is granted with, in the order of `Tally::granted`.
-const GRANTED: [&str; 7] = [
+const GRANTED: [&str; 8] = [
     "test yes",
     "test no",
     "list none",
@@ -23,6 +24,7 @@ const GRANTED: [&str; 7] = [
     "place none",
     "place some",
     "place every",
+    "layers off",
 ];
 
 #[derive(Default)]
@@ -33,8 +35,8 @@ pub struct Tally {
     pub at_once: u64,
     /// For each call and each cause, 0 for none: the questions, each counted once however often
     /// it was put.
-    answers: [[u64; 15]; 5],
-    granted: [u64; 7],
+    answers: [[u64; ANSWERS]; 5],
+    granted: [u64; 8],
     /// Slices lent as NULL with length 0.
     nulls: [u64; 8],
     /// Slices lent at each remainder of their address by 8: books, then candidates and buffers.
@@ -50,6 +52,9 @@ impl Tally {
         for (question, wanted) in &input.questions {
             let cause = (wanted.answer & 0xFF) as usize;
             self.answers[question.call()][cause] += 1;
+            if cause == 0 && question.call() != 0 && input.drive.off != 0 {
+                self.granted[7] += 1;
+            }
             let upper = wanted.answer >> 16;
             let kind = match question.call() {
                 _ if cause != 0 => continue,
@@ -89,16 +94,16 @@ impl Tally {
             "{} inputs, {} calls from one thread, {} from four at once",
             self.inputs, self.alone, self.at_once
         );
-        println!("questions by their answers, granted or refused 1 to 14:");
+        println!("questions by their answers, granted or refused by a cause:");
         let row = |name: &str, numbers: &mut dyn Iterator<Item = u64>| {
             let numbers: Vec<String> = numbers.map(|number| format!("{number:>7}")).collect();
             println!("{name:<7}{}", numbers.concat());
         };
         println!("call   granted{}", column_heads());
         for (call, answers) in CALLS.iter().zip(&self.answers) {
-            row(call, &mut answers.iter().copied());
+            row(call, &mut columns().map(|cause| answers[cause]));
         }
-        row("all", &mut (0..15).map(|cause| self.total(cause)));
+        row("all", &mut columns().map(|cause| self.total(cause)));
         println!("granted: {}", named(&GRANTED, &self.granted));
         println!("NULL with length 0: {}", named(&SLICES, &self.nulls));
         println!("books at addresses 0 to 7 mod 8: {:?}", self.alignments[0]);
@@ -112,7 +117,7 @@ impl Tally {
             let name = format!("{name}: {times} of {least} times at least");
             checks.push((name, times >= least));
         };
-        for cause in 1..15 {
+        for cause in columns().skip(1) {
             check(format!("refused {cause}"), self.total(cause));
         }
         for (name, answers) in CALLS.iter().zip(&self.answers) {
@@ -133,8 +138,16 @@ impl Tally {
     }
 }
 
+/// The answers in the table's order: granted, then the causes in the order of test.
+fn columns() -> impl Iterator<Item = usize> {
+    [0].into_iter().chain(IN_ORDER.map(|cause| cause as usize))
+}
+
 fn column_heads() -> String {
-    (1..15).map(|cause| format!("{cause:>7}")).collect()
+    columns()
+        .skip(1)
+        .map(|cause| format!("{cause:>7}"))
+        .collect()
 }
 
 fn named(names: &[&str], numbers: &[u64]) -> String {

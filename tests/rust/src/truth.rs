@@ -1,6 +1,7 @@
 //! What the calls must come to on any book: by reader and oracle, or by plain Rust where there are
 //! too many facts to try every state.
 
+use crate::drive::Drive;
 use crate::expected::Asked;
 use crate::plain;
 use crate::reader;
@@ -8,17 +9,17 @@ use crate::reader;
 /// The most facts of which every state is tried.
 const TRIED: u16 = 10;
 
-/// A book at a driven layer.
+/// A drive of a book.
 pub enum Truth<'a> {
     Oracle(Asked),
-    Plain { book: &'a [u8], layer: u32 },
+    Plain { book: &'a [u8], drive: Drive },
 }
 
 impl<'a> Truth<'a> {
-    pub fn new(book: &'a [u8], layer: u32) -> Truth<'a> {
+    pub fn new(book: &'a [u8], drive: Drive) -> Truth<'a> {
         match reader::read(book) {
-            Ok(read) if read.atoms > TRIED => Truth::Plain { book, layer },
-            _ => Truth::Oracle(Asked::new(book, layer)),
+            Ok(read) if read.atoms > TRIED => Truth::Plain { book, drive },
+            _ => Truth::Oracle(Asked::new(book, drive)),
         }
     }
 
@@ -26,7 +27,7 @@ impl<'a> Truth<'a> {
     pub fn test(&self, candidate: &[u8]) -> u64 {
         match self {
             Truth::Oracle(asked) => asked.test(candidate),
-            Truth::Plain { book, layer } => plain::test(book, *layer, candidate),
+            Truth::Plain { book, drive } => plain::test(book, *drive, candidate),
         }
     }
 
@@ -34,9 +35,9 @@ impl<'a> Truth<'a> {
     pub fn list(&self, buffer: &[u8]) -> (u64, Vec<u8>) {
         match self {
             Truth::Oracle(asked) => asked.list(buffer),
-            Truth::Plain { book, layer } => {
+            Truth::Plain { book, drive } => {
                 let mut after = buffer.to_vec();
-                (plain::list(book, *layer, &mut after), after)
+                (plain::list(book, *drive, &mut after), after)
             }
         }
     }
@@ -48,7 +49,7 @@ impl<'a> Truth<'a> {
                 Ok((answer, _)) => answer,
                 Err(cause) => cause,
             },
-            Truth::Plain { book, layer } => plain::one(book, *layer, &mut buffer.to_vec()),
+            Truth::Plain { book, drive } => plain::one(book, *drive, &mut buffer.to_vec()),
         }
     }
 
@@ -56,7 +57,7 @@ impl<'a> Truth<'a> {
     pub fn place(&self, fact: u32) -> u64 {
         match self {
             Truth::Oracle(asked) => asked.place(fact),
-            Truth::Plain { book, layer } => plain::place(book, *layer, fact),
+            Truth::Plain { book, drive } => plain::place(book, *drive, fact),
         }
     }
 }

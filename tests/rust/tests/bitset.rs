@@ -3,23 +3,24 @@
 
 use lesson_tests::bitset;
 use lesson_tests::book::{hex, Book};
-use lesson_tests::causes::fields;
+use lesson_tests::causes::{fields, ANSWERS};
+use lesson_tests::drive::Drive;
 use lesson_tests::expected::{self, branching, counts, place_of, yes_or_no, NO_STABLE_STATE};
 use lesson_tests::ffi;
 use lesson_tests::known::{self, Known, EVERY_FOLLOWING};
 use lesson_tests::oracle::{self, Driven};
 use lesson_tests::orders::{Order, Ordered};
 use lesson_tests::rng::{seed, Rng};
-use lesson_tests::shapes::{self, Layering, NO_LAYERS};
+use lesson_tests::shapes::{self, Layering};
 use lesson_tests::sweep;
 
 const FILLER: u8 = 0xA5;
 
-/// A book in bytes at a layer, with words for messages.
+/// A drive of a book in bytes, with words for messages.
 struct Case<'a> {
     what: &'a str,
     book: &'a [u8],
-    layer: u32,
+    drive: Drive,
 }
 
 impl Case<'_> {
@@ -27,17 +28,17 @@ impl Case<'_> {
     fn assert_answers(&self, call: &str, [bits, engine]: [u64; 2], expected: u64) {
         assert!(
             [bits, engine] == [expected; 2],
-            "{}, layer {}, {call}: bit sets {bits:#X}, engine {engine:#X}, expected {expected:#X}\n{}",
+            "{}, {}, {call}: bit sets {bits:#X}, engine {engine:#X}, expected {expected:#X}\n{}",
             self.what,
-            self.layer,
+            self.drive,
             hex(self.book)
         );
     }
 
     fn test(&self, record: &[u8], expected: u64) {
         let answers = [
-            bitset::test(self.book, self.layer, record),
-            ffi::test_in_place(self.book, self.layer, record),
+            bitset::test(self.book, self.drive, record),
+            ffi::test_in_place(self.book, self.drive, record),
         ];
         self.assert_answers(&format!("test of {}", hex(record)), answers, expected);
     }
@@ -47,8 +48,8 @@ impl Case<'_> {
         let mut buffers = [vec![FILLER; length], vec![FILLER; length]];
         let [bits, engine] = &mut buffers;
         let answers = [
-            bitset::list(self.book, self.layer, bits),
-            ffi::list_in_place(self.book, self.layer, engine),
+            bitset::list(self.book, self.drive, bits),
+            ffi::list_in_place(self.book, self.drive, engine),
         ];
         self.assert_answers("list", answers, expected.0);
         for buffer in &buffers {
@@ -61,8 +62,8 @@ impl Case<'_> {
         let mut buffers = [vec![FILLER; length], vec![FILLER; length]];
         let [bits, engine] = &mut buffers;
         let answers = [
-            bitset::one(self.book, self.layer, bits),
-            ffi::one_in_place(self.book, self.layer, engine),
+            bitset::one(self.book, self.drive, bits),
+            ffi::one_in_place(self.book, self.drive, engine),
         ];
         self.assert_answers("one", answers, expected);
         for buffer in &buffers {
@@ -80,8 +81,8 @@ impl Case<'_> {
 
     fn place(&self, fact: u32, expected: u64) {
         let answers = [
-            bitset::place(self.book, self.layer, fact),
-            ffi::place_in_place(self.book, self.layer, fact),
+            bitset::place(self.book, self.drive, fact),
+            ffi::place_in_place(self.book, self.drive, fact),
         ];
         self.assert_answers(&format!("place of {fact}"), answers, expected);
     }
@@ -126,7 +127,7 @@ fn sweep(shape: &str, number: usize, generate: impl Fn(&mut Rng) -> Book) {
         let case = Case {
             what: swept.what,
             book: swept.bytes,
-            layer: swept.layer.into(),
+            drive: swept.drive,
         };
         states[assert_layer(&case, &swept.driven).min(2)] += 1;
     });
@@ -141,21 +142,21 @@ fn every_call_in_books_with_choices_is_the_oracles_and_the_engines() {
 
 #[test]
 fn every_call_in_books_in_chains_is_the_oracles_and_the_engines() {
-    sweep("bit sets, chains", 2_000, |rng| {
+    sweep("bit sets, chains", 2_500, |rng| {
         shapes::layered(rng, Layering::Chain)
     });
 }
 
 #[test]
 fn every_call_in_books_in_diamonds_is_the_oracles_and_the_engines() {
-    sweep("bit sets, diamonds", 1_500, |rng| {
+    sweep("bit sets, diamonds", 2_000, |rng| {
         shapes::layered(rng, Layering::Diamond)
     });
 }
 
 #[test]
 fn every_call_in_books_with_any_arrows_is_the_oracles_and_the_engines() {
-    sweep("bit sets, any arrows", 1_500, |rng| {
+    sweep("bit sets, any arrows", 2_500, |rng| {
         shapes::layered(rng, Layering::Any)
     });
 }
@@ -173,7 +174,7 @@ fn assert_known(what: &str, known: &Known) {
     let case = Case {
         what,
         book: &bytes,
-        layer: known.layer.into(),
+        drive: known.layer.into(),
     };
     let listing = known.listing();
     let width = usize::from(known.book.atoms).div_ceil(8);
@@ -243,10 +244,10 @@ fn largest_planted_states_pass_both_and_their_neighbours_fail_both() {
         let case = Case {
             what: &format!("seed {seed}, planted"),
             book: &book,
-            layer: planted.layer.into(),
+            drive: planted.layer.into(),
         };
         case.test(&oracle::record(&planted.state), yes_or_no(true));
-        let driven = Driven::new(&planted.book, planted.layer);
+        let driven = Driven::new(&planted.book, planted.layer.into());
         let mut other = planted.state.clone();
         let fact = rng.below(other.len());
         other[fact] = !other[fact];
@@ -258,18 +259,14 @@ fn largest_planted_states_pass_both_and_their_neighbours_fail_both() {
 fn any_bytes_are_refused_by_both_with_the_same_cause() {
     let seed = seed();
     let mut rng = Rng::named(seed, "bit sets, any bytes");
-    let mut tally = [0; 15];
+    let mut tally = [0; ANSWERS];
     for (shape, generate) in shapes::EVERY_SHAPE {
         for index in 0..300 {
             let bytes = shapes::quick(&mut rng, generate);
-            let layers = usize::from(bytes.get(7).copied().unwrap_or(1));
             let case = Case {
                 what: &format!("seed {seed}, {shape}, book {index}"),
                 book: &bytes,
-                layer: match rng.chance(80) {
-                    true => rng.below(layers.max(1)) as u32,
-                    false => rng.pick(&NO_LAYERS),
-                },
+                drive: shapes::any_drive(&mut rng, &bytes),
             };
             let checked = [bitset::check(&bytes), ffi::check_in_place(&bytes)];
             case.assert_answers("check", checked, checked[1]);
@@ -278,16 +275,16 @@ fn any_bytes_are_refused_by_both_with_the_same_cause() {
                 true => rng.below(facts.max(1)) as u32,
                 false => rng.below(300) as u32,
             };
-            let placed = ffi::place_in_place(&bytes, case.layer, fact);
+            let placed = ffi::place_in_place(&bytes, case.drive, fact);
             case.place(fact, placed);
             let width = rng.range(1, 2);
             let candidate = rng.bytes(width);
-            case.test(&candidate, expected::test(&bytes, case.layer, &candidate));
+            case.test(&candidate, expected::test(&bytes, case.drive, &candidate));
             tally[(placed & 0xFF) as usize] += 1;
         }
     }
-    println!("seed {seed}, bit sets, any bytes: 4500 books, answers 0 to 14: {tally:?}");
-    for cause in [0, 1, 2, 3, 4, 5, 6, 7, 8, 9, 11, 12] {
+    println!("seed {seed}, bit sets, any bytes: 4500 books, answers 0 to 19: {tally:?}");
+    for cause in [0, 1, 2, 3, 4, 5, 6, 7, 8, 9, 11, 12, 19] {
         assert!(tally[cause] >= 10, "{cause} is rare: {tally:?}");
     }
 }

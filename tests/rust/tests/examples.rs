@@ -40,7 +40,7 @@ fn shipped(name: &str) -> (Book, Vec<u8>) {
 /// The states at the last layer: every state is tried, or the plain search goes through the
 /// branching facts and each state that it finds is tried.
 fn states(book: &Book, bytes: &[u8]) -> Vec<Vec<bool>> {
-    let driven = Driven::new(book, book.layers - 1);
+    let driven = Driven::new(book, (book.layers - 1).into());
     if book.atoms <= FEW {
         return driven.stable_models();
     }
@@ -140,7 +140,7 @@ fn shipped_states_are_those_of_document_01() {
     for name in names(".book") {
         let (book, bytes) = shipped(&name);
         let states = states(&book, &bytes);
-        let branching = Driven::new(&book, book.layers - 1).branching_count();
+        let branching = Driven::new(&book, (book.layers - 1).into()).branching_count();
         let mut lines = vec![format!(
             "facts {} models {} branching {branching}",
             book.atoms,
@@ -156,7 +156,7 @@ fn what_the_host_prints_follows_from_the_states() {
     for name in names(".book") {
         let (book, bytes) = shipped(&name);
         let states = states(&book, &bytes);
-        let driven = Driven::new(&book, book.layers - 1);
+        let driven = Driven::new(&book, (book.layers - 1).into());
         let mut lines = vec!["accepted".to_string()];
         lines.push(format!(
             "states {}, branching facts {}",

@@ -2,7 +2,8 @@
 //! everything else is as document 01 says.
 
 use lesson_tests::book::{hex, not, plain, Book};
-use lesson_tests::causes::{every_set, AnyBytes};
+use lesson_tests::causes::{every_set, AnyBytes, ANSWERS};
+use lesson_tests::drive::{at, Drive};
 use lesson_tests::expected::{self, branching, BUFFER_TOO_SHORT, NO_STABLE_STATE};
 use lesson_tests::ffi;
 use lesson_tests::known::{self, Known};
@@ -19,12 +20,12 @@ use std::thread;
 fn assert_outcome(
     what: &str,
     book: &[u8],
-    layer: u32,
+    drive: Drive,
     buffer: &[u8],
     expected: Result<u64, u64>,
     stable: impl Fn(&[u8]) -> bool,
 ) {
-    let (answer, after) = ffi::one(book, layer, buffer);
+    let (answer, after) = ffi::one(book, drive, buffer);
     let right = match expected {
         Err(cause) => answer == cause && after == buffer,
         Ok(granted) => {
@@ -35,7 +36,7 @@ fn assert_outcome(
     };
     assert!(
         right,
-        "{what}, layer {layer}, buffer of {} bytes: engine {answer:#X}, expected {expected:X?}\n\
+        "{what}, {drive}, buffer of {} bytes: engine {answer:#X}, expected {expected:X?}\n\
          book {}\nafter  {}\nbefore {}",
         buffer.len(),
         hex(book),
@@ -47,12 +48,12 @@ fn assert_outcome(
 /// Engine and oracle agree; of a book that is too large for the oracle, plain Rust says whether
 /// there is a state, and the oracle whether the one handed out is stable. The cause is returned,
 /// or 0.
-fn agree(what: &str, book: &[u8], layer: u32, buffer: &[u8]) -> u64 {
-    let answer = Truth::new(book, layer).one(buffer);
+fn agree(what: &str, book: &[u8], drive: Drive, buffer: &[u8]) -> u64 {
+    let answer = Truth::new(book, drive).one(buffer);
     let cause = answer & 0xFF;
     let expected = if cause == 0 { Ok(answer) } else { Err(cause) };
-    assert_outcome(what, book, layer, buffer, expected, |record| {
-        expected::test(book, layer, record) == expected::yes_or_no(true)
+    assert_outcome(what, book, drive, buffer, expected, |record| {
+        expected::test(book, drive, record) == expected::yes_or_no(true)
     });
     cause
 }
@@ -60,10 +61,9 @@ fn agree(what: &str, book: &[u8], layer: u32, buffer: &[u8]) -> u64 {
 /// Compares engine and oracle at every layer of `number` books, with buffers from none to a record
 /// and some bytes more.
 fn sweep(shape: &str, number: usize, generate: impl Fn(&mut Rng) -> Book) {
-    let mut tally = [0; 15];
+    let mut tally = [0; ANSWERS];
     let tried = sweep::layers(shape, number, generate, |swept, rng| {
         let models = swept.driven.stable_models();
-        let layer = swept.layer.into();
         for length in 0..4 {
             let expected = match models.is_empty() {
                 _ if length == 0 => Err(BUFFER_TOO_SHORT),
@@ -74,7 +74,7 @@ fn sweep(shape: &str, number: usize, generate: impl Fn(&mut Rng) -> Book) {
             assert_outcome(
                 swept.what,
                 swept.bytes,
-                layer,
+                swept.drive,
                 &buffer,
                 expected,
                 |record| models.iter().any(|model| oracle::record(model) == record),
@@ -82,7 +82,7 @@ fn sweep(shape: &str, number: usize, generate: impl Fn(&mut Rng) -> Book) {
             tally[expected.err().unwrap_or(0) as usize] += 1;
         }
     });
-    println!("{tried}, answers 0 to 14: {tally:?}");
+    println!("{tried}, answers 0 to 19: {tally:?}");
     for answer in [0, 13, 14] {
         assert!(tally[answer] > 300, "{answer} is rare: {tally:?}");
     }
@@ -127,7 +127,7 @@ fn states_handed_out_for_books_with_many_states_are_stable() {
 fn assert_known(what: &str, known: &Known) {
     let bytes = known.book.bytes();
     let width = usize::from(known.book.atoms).div_ceil(8);
-    let driven = Driven::new(&known.book, known.layer);
+    let driven = Driven::new(&known.book, known.layer.into());
     for length in 0..width + 4 {
         let buffer = Rng::new(length as u64).bytes(length);
         let expected = match known.count {
@@ -236,11 +236,13 @@ fn a_book_without_states_is_refused_14_and_only_then() {
     let book = Book::new(1, 1).rule(0, plain(0), &[not(0)]);
     for length in 1..4 {
         let buffer = vec![7; length];
-        assert_outcome("p if not p", &book.bytes(), 0, &buffer, Err(14), |_| false);
+        assert_outcome("p if not p", &book.bytes(), at(0), &buffer, Err(14), |_| {
+            false
+        });
     }
     let book = book.rule(0, plain(0), &[]);
     let granted = Ok(branching(1));
-    assert_outcome("and p", &book.bytes(), 0, &[7; 3], granted, |record| {
+    assert_outcome("and p", &book.bytes(), at(0), &[7; 3], granted, |record| {
         record == [0x80]
     });
 }
@@ -255,7 +257,7 @@ fn a_short_buffer_is_refused_13_before_14() {
         for length in 0..3 {
             let buffer = vec![7; length];
             let bytes = known.book.bytes();
-            assert_outcome("short", &bytes, 1, &buffer, Err(13), |_| false);
+            assert_outcome("short", &bytes, at(1), &buffer, Err(13), |_| false);
         }
     }
 }
@@ -265,9 +267,9 @@ fn book_b_at_its_layers() {
     for (layer, record, g) in [(1, 0xA0, 1), (2, 0x80, 2), (3, 0x20, 2)] {
         let granted = Ok(branching(g));
         let stable = |given: &[u8]| given == [record];
-        assert_outcome("B", &B, layer, &[7; 1], granted, stable);
-        assert_outcome("B", &B, layer, &[7; 5], granted, stable);
-        assert_outcome("B", &B, layer, &[], Err(13), stable);
+        assert_outcome("B", &B, at(layer), &[7; 1], granted, stable);
+        assert_outcome("B", &B, at(layer), &[7; 5], granted, stable);
+        assert_outcome("B", &B, at(layer), &[], Err(13), stable);
     }
 }
 
@@ -310,9 +312,14 @@ fn layers_of_the_book_are_driven_and_all_others_are_refused_9() {
         }
         for layer in NO_LAYERS.into_iter().chain([layers.into()]) {
             for length in [0, 1, 3] {
-                assert_outcome("no layer", &bytes, layer, &vec![7; length], Err(9), |_| {
-                    false
-                });
+                assert_outcome(
+                    "no layer",
+                    &bytes,
+                    at(layer),
+                    &vec![7; length],
+                    Err(9),
+                    |_| false,
+                );
             }
         }
     }
@@ -322,23 +329,23 @@ fn layers_of_the_book_are_driven_and_all_others_are_refused_9() {
 fn any_bytes_come_to_what_reader_and_oracle_say() {
     let any_bytes = AnyBytes {
         name: "one, any call",
-        large: 150,
+        large: 250,
         other: 1_500,
-        given: &[0, 1, 2, 3, 4, 5, 6, 7, 8, 9, 12, 13, 14],
+        given: &[0, 1, 2, 3, 4, 5, 6, 7, 8, 9, 12, 13, 14, 19],
         least: 50,
     };
     any_bytes.ask(shapes::quick, |rng, what, bytes| {
-        let layer = shapes::any_layer(rng, bytes);
+        let drive = shapes::any_drive(rng, bytes);
         let length = rng.pick(&[0, 1, 1, 2, 40]);
-        agree(what, bytes, layer, &rng.bytes(length))
+        agree(what, bytes, drive, &rng.bytes(length))
     });
 }
 
 #[test]
-fn of_several_causes_the_smallest_is_given() {
+fn of_several_causes_the_first_tested_is_given() {
     let seed = seed();
-    let mut rng = Rng::named(seed, "one, smallest cause");
-    for causes in every_set(&[1, 2, 3, 4, 5, 6, 7, 8, 9, 12, 13, 14]) {
+    let mut rng = Rng::named(seed, "one, first cause");
+    for causes in every_set(&[1, 2, 3, 4, 5, 6, 7, 8, 9, 19, 12, 13, 14]) {
         let mut known = match causes.has(12) {
             true => known::displacing_pairs(10, 1),
             false => known::displacing_pairs(2, 0),
@@ -348,16 +355,16 @@ fn of_several_causes_the_smallest_is_given() {
             known = known::quarrelled(known);
         }
         let bytes = shapes::broken(&mut rng, &known.book, causes.of_the_book());
-        let layer = causes.layer(&mut rng, known.layer);
+        let drive = causes.drive(&mut rng, known.book.layers, known.layer);
         let length = match causes.has(13) {
             true => rng.below(3),
             false => rng.range(3, 9),
         };
         let buffer = rng.bytes(length);
-        let expected = causes.smallest().map_or(Ok(branching(4)), Err);
+        let expected = causes.first().map_or(Ok(branching(4)), Err);
         let what = format!("seed {seed}, {causes}");
-        assert_outcome(&what, &bytes, layer, &buffer, expected, |record| {
-            let driven = Driven::new(&known.book, known.layer);
+        assert_outcome(&what, &bytes, drive, &buffer, expected, |record| {
+            let driven = Driven::new(&known.book, known.layer.into());
             oracle::state(record, 22).is_some_and(|state| driven.stable(&state))
         });
     }
@@ -367,7 +374,7 @@ fn of_several_causes_the_smallest_is_given() {
 #[test]
 fn buffer_of_more_than_4_gib_is_long_enough() {
     let mut buffer = vec![0; 1 << 32];
-    assert_eq!(ffi::one_in_place(&B, 3, &mut buffer), branching(2));
+    assert_eq!(ffi::one_in_place(&B, at(3), &mut buffer), branching(2));
     assert_eq!(buffer[..4], [0x20, 0, 0, 0]);
 }
 
@@ -384,7 +391,7 @@ fn four_threads_on_one_book_get_a_state_each() {
                     let answer = ffi::one_in_place(&bytes, known.layer.into(), &mut buffer);
                     assert_eq!(answer, branching(8), "seed {seed}");
                     let state = oracle::state(&buffer[..32], 256).expect("a record");
-                    let driven = Driven::new(&known.book, known.layer);
+                    let driven = Driven::new(&known.book, known.layer.into());
                     assert!(driven.stable(&state), "seed {seed}: {}", hex(&buffer));
                     assert_eq!(buffer[32], 7);
                 }

@@ -71,12 +71,12 @@ impl Tally {
 /// The book is listed so in every buffer, and bytes past the listing, or all where there is no room
 /// for it, stay as they were.
 fn assert_listed(what: &str, known: &Known, listing: &[u8], rng: &mut Rng, tally: &mut Tally) {
-    let (bytes, layer) = (known.book.bytes(), known.layer.into());
+    let (bytes, drive) = (known.book.bytes(), known.layer.into());
     tally.count(known);
     for length in lengths(known) {
         let buffer = rng.bytes(length);
         let expected = outcome(listing, known.answer(), &buffer);
-        assert_outcome(what, &bytes, layer, &buffer, &expected);
+        assert_outcome(what, &bytes, drive, &buffer, &expected);
         tally.calls[usize::from(expected.0 != BUFFER_TOO_SHORT)] += 1;
     }
 }
@@ -133,7 +133,7 @@ fn small_listings_in_every_order_are_the_oracles() {
             let atoms = rng.range(1, 11) as u16;
             let ordered = any(&mut rng, order, 5, atoms);
             let known = ordered.known(&mut rng);
-            let driven = Driven::new(&known.book, known.layer);
+            let driven = Driven::new(&known.book, known.layer.into());
             let listing = driven.listing();
             let what = format!("seed {seed}, {ordered:?}");
             let answer = counts(driven.branching_count(), oracle::count(&listing));

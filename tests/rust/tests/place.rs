@@ -3,6 +3,7 @@
 
 use lesson_tests::book::{hex, not, plain, Book};
 use lesson_tests::causes::{every_set, fields, AnyBytes};
+use lesson_tests::drive::{at, Drive};
 use lesson_tests::expected::{place_of, NO_STABLE_STATE, NO_SUCH_FACT};
 use lesson_tests::ffi;
 use lesson_tests::known::{self, Known, EVERY_FOLLOWING};
@@ -16,11 +17,11 @@ use std::thread;
 const PARTS: [u32; 4] = [256, 32_768, 65_536, 1 << 31];
 
 /// The engine's answer on a fenced copy is the one expected.
-fn assert_answer(what: &str, book: &[u8], layer: u32, fact: u32, expected: u64) {
-    let engine = ffi::place(book, layer, fact);
+fn assert_answer(what: &str, book: &[u8], drive: Drive, fact: u32, expected: u64) {
+    let engine = ffi::place(book, drive, fact);
     assert!(
         engine == expected,
-        "{what}, layer {layer}, fact {fact}: engine {engine:#X}, expected {expected:#X}\n{}",
+        "{what}, {drive}, fact {fact}: engine {engine:#X}, expected {expected:#X}\n{}",
         hex(book)
     );
 }
@@ -29,13 +30,13 @@ fn assert_answer(what: &str, book: &[u8], layer: u32, fact: u32, expected: u64) 
 fn sweep(shape: &str, number: usize, generate: impl Fn(&mut Rng) -> Book) {
     let (mut places, mut without) = ([0; 3], 0);
     let tried = sweep::layers(shape, number, generate, |swept, rng| {
-        let (driven, layer) = (&swept.driven, swept.layer.into());
+        let (driven, drive) = (&swept.driven, swept.drive);
         let atoms = u32::from(swept.book.atoms);
         let (models, branching) = (driven.stable_models(), driven.branching_count());
         for fact in 0..atoms {
             let standing = models.iter().filter(|model| model[fact as usize]).count();
             let expected = place_of(branching, standing, models.len());
-            assert_answer(swept.what, swept.bytes, layer, fact, expected);
+            assert_answer(swept.what, swept.bytes, drive, fact, expected);
             match expected {
                 NO_STABLE_STATE => without += 1,
                 granted => places[(granted >> 16) as usize] += 1,
@@ -43,11 +44,11 @@ fn sweep(shape: &str, number: usize, generate: impl Fn(&mut Rng) -> Book) {
         }
         let part = rng.pick(&PARTS) + rng.below(atoms as usize) as u32;
         for fact in [atoms, part, u32::MAX] {
-            assert_answer(swept.what, swept.bytes, layer, fact, NO_SUCH_FACT);
+            assert_answer(swept.what, swept.bytes, drive, fact, NO_SUCH_FACT);
         }
     });
     println!("{tried}, in none, some, every state: {places:?}, no state: {without}");
-    assert!(places.iter().all(|&times| times > 300), "{places:?}");
+    assert!(places.iter().all(|&times| times > 200), "{places:?}");
     assert!(without > 300, "only {without} without a state");
 }
 
@@ -74,7 +75,7 @@ fn places_in_books_in_unrelated_branches_are_the_oracles() {
 
 #[test]
 fn places_in_books_with_any_arrows_are_the_oracles() {
-    sweep("place, any arrows", 2_000, |rng| {
+    sweep("place, any arrows", 2_500, |rng| {
         shapes::layered(rng, Layering::Any)
     });
 }
@@ -89,13 +90,13 @@ fn places_in_books_with_many_states_are_the_oracles() {
 /// Every fact of a book whose states are known, and numbers that are none.
 fn assert_known(what: &str, known: &Known) {
     let bytes = known.book.bytes();
-    let layer = known.layer.into();
+    let drive = known.layer.into();
     let atoms = u32::from(known.book.atoms);
     for (fact, place) in (0..atoms).zip(known.places()) {
-        assert_answer(what, &bytes, layer, fact, place);
+        assert_answer(what, &bytes, drive, fact, place);
     }
     for fact in [atoms, u32::MAX].into_iter().chain(PARTS) {
-        assert_answer(what, &bytes, layer, fact.max(atoms), NO_SUCH_FACT);
+        assert_answer(what, &bytes, drive, fact.max(atoms), NO_SUCH_FACT);
     }
 }
 
@@ -164,14 +165,14 @@ fn twenty_branching_facts_are_searched_to_the_end() {
 fn more_than_twenty_branching_facts_are_refused_12_and_no_fact_11_before() {
     for known in known::too_many_branching() {
         let bytes = known.book.bytes();
-        let layer = known.layer.into();
+        let drive = known.layer.into();
         let atoms = u32::from(known.book.atoms);
         let what = format!("g = {}", known.branching);
         for fact in [0, atoms - 1] {
-            assert_answer(&what, &bytes, layer, fact, 12);
+            assert_answer(&what, &bytes, drive, fact, 12);
         }
         for fact in [atoms, u32::MAX] {
-            assert_answer(&what, &bytes, layer, fact, 11);
+            assert_answer(&what, &bytes, drive, fact, 11);
         }
     }
 }
@@ -182,12 +183,12 @@ fn a_book_without_states_is_refused_14_for_each_fact_and_only_then() {
         .rule(0, plain(0), &[not(0)])
         .rule(0, plain(1), &[]);
     for fact in 0..3 {
-        assert_answer("p if not p", &book.bytes(), 0, fact, 14);
+        assert_answer("p if not p", &book.bytes(), at(0), fact, 14);
     }
     let book = book.rule(0, plain(0), &[]);
     for (fact, standing) in [(0, 1), (1, 1), (2, 0)] {
         let place = place_of(1, standing, 1);
-        assert_answer("and p", &book.bytes(), 0, fact, place);
+        assert_answer("and p", &book.bytes(), at(0), fact, place);
     }
 }
 
@@ -205,7 +206,7 @@ fn layers_of_the_book_are_driven_and_all_others_are_refused_9() {
         }
         for layer in NO_LAYERS.into_iter().chain([layers.into()]) {
             for fact in [0, 4, 5, u32::MAX] {
-                assert_answer("no layer", &bytes, layer, fact, 9);
+                assert_answer("no layer", &bytes, at(layer), fact, 9);
             }
         }
     }
@@ -215,7 +216,7 @@ fn layers_of_the_book_are_driven_and_all_others_are_refused_9() {
 fn book_b_at_its_layers() {
     for (layer, standing, g) in [(1, [1, 0, 1], 1), (2, [1, 0, 0], 2), (3, [0, 0, 1], 2)] {
         for (fact, standing) in (0..3).zip(standing) {
-            assert_answer("B", &B, layer, fact, place_of(g, standing, 1));
+            assert_answer("B", &B, at(layer), fact, place_of(g, standing, 1));
         }
     }
 }
@@ -251,29 +252,29 @@ fn facts_of_the_slowest_books_are_placed() {
 fn any_bytes_are_answered_as_by_reader_and_oracle() {
     let any_bytes = AnyBytes {
         name: "place, any call",
-        large: 150,
+        large: 250,
         other: 1_500,
-        given: &[0, 1, 2, 3, 4, 5, 6, 7, 8, 9, 11, 12, 14],
+        given: &[0, 1, 2, 3, 4, 5, 6, 7, 8, 9, 11, 12, 14, 19],
         least: 50,
     };
     any_bytes.ask(shapes::quick, |rng, what, bytes| {
-        let layer = shapes::any_layer(rng, bytes);
+        let drive = shapes::any_drive(rng, bytes);
         let (facts, _) = fields(bytes);
         let fact = match rng.chance(80) {
             true => rng.below(facts.max(1)) as u32,
             false => facts as u32 + rng.pick(&[0, 1, 256, 65_536]),
         };
-        let expected = Truth::new(bytes, layer).place(fact);
-        assert_answer(what, bytes, layer, fact, expected);
+        let expected = Truth::new(bytes, drive).place(fact);
+        assert_answer(what, bytes, drive, fact, expected);
         expected & 0xFF
     });
 }
 
 #[test]
-fn of_several_causes_the_smallest_is_given() {
+fn of_several_causes_the_first_tested_is_given() {
     let seed = seed();
-    let mut rng = Rng::named(seed, "place, smallest cause");
-    for causes in every_set(&[1, 2, 3, 4, 5, 6, 7, 8, 9, 11, 12, 14]) {
+    let mut rng = Rng::named(seed, "place, first cause");
+    for causes in every_set(&[1, 2, 3, 4, 5, 6, 7, 8, 9, 19, 11, 12, 14]) {
         let mut known = match causes.has(12) {
             true => known::displacing_pairs(10, 1),
             false => known::displacing_pairs(2, 0),
@@ -282,15 +283,15 @@ fn of_several_causes_the_smallest_is_given() {
             known = known::quarrelled(known);
         }
         let bytes = shapes::broken(&mut rng, &known.book, causes.of_the_book());
-        let layer = causes.layer(&mut rng, known.layer);
+        let drive = causes.drive(&mut rng, known.book.layers, known.layer);
         let fact = match causes.has(11) {
             true => rng.pick(&[known.book.atoms.into(), 256, 65_536, u32::MAX]),
             false => rng.below(4) as u32,
         };
         let granted = || known.places()[fact as usize];
-        let expected = causes.smallest().unwrap_or_else(granted);
+        let expected = causes.first().unwrap_or_else(granted);
         let what = format!("seed {seed}, {causes}");
-        assert_answer(&what, &bytes, layer, fact, expected);
+        assert_answer(&what, &bytes, drive, fact, expected);
     }
 }
 

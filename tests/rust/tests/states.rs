@@ -83,7 +83,7 @@ fn text(listing: &[u8], branching: usize) -> String {
     text
 }
 
-/// What document 01 asks for, for a book that is small or refused.
+/// What document 01 asks for, for a book that is small or refused. Nothing is switched off.
 fn expected_text(book: &[u8]) -> String {
     let last = reader::read(book).map_or(0, |book| book.layers - 1);
     let (answer, buffer) = expected::list(book, last.into(), &vec![0; LIMIT]);

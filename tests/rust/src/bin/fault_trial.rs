@@ -8,6 +8,7 @@
 
 use lesson_tests::book::hex;
 use lesson_tests::child::{in_child, End, SEGMENTATION_FAULT};
+use lesson_tests::drive::Drive;
 use lesson_tests::ffi::{self, Call};
 use lesson_tests::guarded::{shared_numbers, Access, Lender, Placement};
 use lesson_tests::inputs::{Input, Question, Wanted};
@@ -60,10 +61,10 @@ fn told(seed: u64, input: &Input, question: usize, placement: usize) -> String {
     let (asked, wanted) = &input.questions[question];
     let buffers: Vec<String> = wanted.buffers.iter().map(|buffer| hex(buffer)).collect();
     format!(
-        "seed {seed}, input {}, layer {}, {asked}, slices {:?}\nbook {}\n\
+        "seed {seed}, input {}, {}, {asked}, slices {:?}\nbook {}\n\
          expected {:#X}, buffer {}\nagain: bash tests/trial only {} {seed}",
         input.number,
-        input.layer,
+        input.drive,
         placements(input, question)[placement],
         hex(&input.book),
         wanted.answer,
@@ -94,7 +95,7 @@ impl Worker {
         let (asked, wanted) = &input.questions[question];
         self.lay(asked, placements(input, question)[placement]);
         self.note([input.number + 1, question as u64, placement as u64]);
-        let answer = self.answer(book, input.layer, asked);
+        let answer = self.answer(book, input.drive, asked);
         self.note([0; 3]);
         self.calls += 1;
         let after = match asked {
@@ -121,7 +122,7 @@ impl Worker {
         self.lender.lay(contents, placement, access);
     }
 
-    fn answer(&mut self, book: Option<&[u8]>, layer: u32, asked: &Question) -> u64 {
+    fn answer(&mut self, book: Option<&[u8]>, drive: Drive, asked: &Question) -> u64 {
         let call = match asked {
             Question::Check => Call::Check,
             Question::Test { .. } => Call::Test(self.lender.slice()),
@@ -129,7 +130,7 @@ impl Worker {
             Question::One { .. } => Call::One(self.lender.buffer()),
             Question::Place { fact } => Call::Place(*fact),
         };
-        ffi::answer(book, layer, call)
+        ffi::answer(book, drive, call)
     }
 }
 
