@@ -2,10 +2,11 @@
  * A host to copy from: loads a book, lists its states, tests two, and asks each fact's place.
  *
  *   gcc -std=c11 -Iinclude examples/host.c target/staticlib/liblesson.a -o target/host
- *   target/host BOOK [LAYER]
+ *   target/host BOOK [LAYER [OFF]...]
  *
- * LAYER counts from 0; without it the last is driven. Ends with 0, with 1 if a call was refused, or
- * with 2 if the book could not be read or the answers not printed.
+ * Layers count from 0. LAYER is driven, or the last one where it is not given; each layer OFF is
+ * switched off. Ends with 0, with 1 if a call was refused, or with 2 if the book could not be read
+ * or the answers not printed.
  */
 #include "lesson.h"
 
@@ -15,6 +16,8 @@
 static uint8_t book[38372 + 1]; /* the largest and a byte, so that a longer file is no book */
 static size_t book_len;
 static uint8_t listing[33554443]; /* holds every listing; only the pages written take memory */
+static uint32_t layer;            /* driven */
+static uint32_t off;              /* bit i: layer i is switched off */
 
 /* The causes of a refusal in words, by number. */
 static const char *const words[] = {
@@ -27,6 +30,7 @@ static const char *const words[] = {
     [LESSON_REPEATED_ARROW] = "two equal arrows",
     [LESSON_CYCLE] = "arrows lead in a circle",
     [LESSON_NO_SUCH_LAYER] = "the book does not have this layer",
+    [LESSON_NO_SUCH_LAYER_OFF] = "a layer to switch off that the book does not have",
     [LESSON_BAD_CANDIDATE] = "candidate of another length, or a spare bit set",
     [LESSON_NO_SUCH_FACT] = "the book does not have this fact",
     [LESSON_TOO_MANY_BRANCHING] = "more than 20 branching facts",
@@ -38,17 +42,17 @@ static const char *const words[] = {
 static bool granted(const char *call, uint64_t answer)
 {
     size_t cause = lesson_cause(answer);
+    bool known = cause < sizeof words / sizeof *words && words[cause] != NULL;
 
     if (!lesson_granted(answer))
-        printf("%s refused %zu: %s\n", call, cause,
-               cause < sizeof words / sizeof *words ? words[cause] : "unknown cause");
+        printf("%s refused %zu: %s\n", call, cause, known ? words[cause] : "unknown cause");
     return lesson_granted(answer);
 }
 
 /* Prints every state as a line of 0s and 1s, a digit for each fact. */
-static bool list(uint32_t layer, unsigned facts)
+static bool list(unsigned facts)
 {
-    uint64_t answer = lesson_list(book, book_len, layer, listing, sizeof listing);
+    uint64_t answer = lesson_list(book, book_len, layer, off, listing, sizeof listing);
     const uint8_t *record = listing + 11;
 
     if (!granted("listing", answer))
@@ -65,14 +69,14 @@ static bool list(uint32_t layer, unsigned facts)
 }
 
 /* Has the engine hand out a state, and tests it; then once more with fact 0 the other way. */
-static bool test(uint32_t layer, unsigned facts)
+static bool test(unsigned facts)
 {
     uint8_t record[32]; /* the longest */
 
-    if (!granted("one state", lesson_one(book, book_len, layer, record, sizeof record)))
+    if (!granted("one state", lesson_one(book, book_len, layer, off, record, sizeof record)))
         return false;
     for (int flipped = 0; flipped <= 1; flipped++) {
-        uint64_t answer = lesson_test(book, book_len, layer, record, (facts + 7) / 8);
+        uint64_t answer = lesson_test(book, book_len, layer, off, record, (facts + 7) / 8);
 
         if (!granted("test", answer))
             return false;
@@ -84,10 +88,10 @@ static bool test(uint32_t layer, unsigned facts)
 }
 
 /* Prints whether each fact stands in every state, in some or in none. */
-static bool place(uint32_t layer, unsigned facts)
+static bool place(unsigned facts)
 {
     for (unsigned fact = 0; fact < facts; fact++) {
-        uint64_t answer = lesson_place(book, book_len, layer, fact);
+        uint64_t answer = lesson_place(book, book_len, layer, off, fact);
         enum lesson_place_number in = lesson_place_of(answer);
 
         if (!granted("place", answer))
@@ -111,13 +115,34 @@ static bool load(const char *name)
     return loaded;
 }
 
+/* Reads a number up to `most`. */
+static bool number(const char *text, uint32_t most, uint32_t *value)
+{
+    char *end;
+    unsigned long read = strtoul(text, &end, 10);
+
+    *value = (uint32_t)read;
+    return end != text && *end == '\0' && read <= most;
+}
+
+/* Reads which layer is driven, if one is given, and which are switched off. */
+static bool drive(int argc, char **argv)
+{
+    bool right = argc == 2 || (argc > 2 && number(argv[2], UINT32_MAX, &layer));
+
+    for (int at = 3; right && at < argc; at++) {
+        uint32_t other;
+
+        right = number(argv[at], 31, &other);
+        off |= right ? (uint32_t)1 << other : 0;
+    }
+    return right;
+}
+
 int main(int argc, char **argv)
 {
-    char *end = "";
-    unsigned long layer = argc == 3 ? strtoul(argv[2], &end, 10) : 0;
-
-    if (argc < 2 || argc > 3 || end == argv[2] || *end != '\0' || layer > UINT32_MAX) {
-        fprintf(stderr, "usage: host BOOK [LAYER]\n");
+    if (!drive(argc, argv)) {
+        fprintf(stderr, "usage: host BOOK [LAYER [OFF]...]\n");
         return 2;
     }
     if (!load(argv[1])) {
@@ -130,9 +155,10 @@ int main(int argc, char **argv)
 
     /* An accepted book's fields can be relied on. */
     unsigned facts = (unsigned)book[5] << 8 | book[6];
-    uint32_t driven = argc == 3 ? (uint32_t)layer : book[7] - 1u;
 
-    if (!list(driven, facts) || !test(driven, facts) || !place(driven, facts))
+    if (argc == 2)
+        layer = book[7] - 1u;
+    if (!list(facts) || !test(facts) || !place(facts))
         return 1;
     return fflush(stdout) != 0 || ferror(stdout) ? 2 : 0;
 }

@@ -3,6 +3,7 @@
 //! compares the same files with what the engine does.
 
 use lesson_tests::book::{Book, Literal};
+use lesson_tests::drive::at;
 use lesson_tests::oracle::{self, Driven};
 use lesson_tests::plain;
 use lesson_tests::reader;
@@ -198,4 +199,24 @@ fn shipped_books_show_what_they_are_for() {
     // Section 5 and the hand signal allow three cases. Feeder 2 rules out route B under wire works
     // while the hand says go, whatever tram 12 does.
     assert_eq!(count("market-evening"), 3 * 2 * 2 * 2 - 2);
+}
+
+/// The states that `tests/examples` has the host print, with layers switched off.
+#[test]
+fn shipped_books_with_a_layer_off_have_the_states_of_the_oracle() {
+    let states = |name: &str, off: u32| -> Vec<String> {
+        let (book, _) = shipped(name);
+        let models = Driven::new(&book, at(3).off(off)).stable_models();
+        models.iter().map(|state| digits(state)).collect()
+    };
+    let (depot, lesson) = (1 << 2, 1 << 3);
+    assert_eq!(states("stalled-tram", lesson), ["011000"]);
+    let free = [
+        "00001011110010",
+        "00001101110100",
+        "00010011111010",
+        "00010101111000",
+    ];
+    assert_eq!(states("depot-exit", depot), free);
+    assert_eq!(states("B", 0b1111), ["000"]);
 }
