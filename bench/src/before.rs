@@ -1,65 +1,90 @@
 //! The calls of the second archive. Its calls may take other arguments than the engine's: they are
 //! declared and made here alone.
+//!
+//! It is expected to be one from before document 02, (h), whose calls take no set of layers that are
+//! switched off. For one whose calls take it behind the layer, as the engine's do, the last line of
+//! this file becomes `second_archive!(off);`, and nothing else changes.
 
+use lesson_tests::drive::Drive;
 use lesson_tests::ffi::Call;
 
 /// Whether there is such an archive.
 pub const LINKED: bool = cfg!(before);
 
+/// The calls, with the set where it is named.
 #[cfg(before)]
-extern "C" {
-    fn before_check(book: *const u8, book_len: usize) -> u64;
-    fn before_test(
-        book: *const u8,
-        book_len: usize,
-        layer: u32,
-        candidate: *const u8,
-        candidate_len: usize,
-    ) -> u64;
-    fn before_list(
-        book: *const u8,
-        book_len: usize,
-        layer: u32,
-        buffer: *mut u8,
-        buffer_len: usize,
-    ) -> u64;
-    fn before_one(
-        book: *const u8,
-        book_len: usize,
-        layer: u32,
-        buffer: *mut u8,
-        buffer_len: usize,
-    ) -> u64;
-    fn before_place(book: *const u8, book_len: usize, layer: u32, fact: u32) -> u64;
-}
-
-/// The answer of a call of that archive on the slices themselves.
-#[cfg(before)]
-pub fn answer(book: &[u8], layer: u32, call: Call) -> u64 {
-    let (book, book_len) = (book.as_ptr(), book.len());
-    // SAFETY: each pointer and its length are those of a live slice; and a buffer, which the call
-    // may write, overlaps nothing, being borrowed mutably.
-    unsafe {
-        match call {
-            Call::Check => before_check(book, book_len),
-            Call::Test(candidate) => {
-                let candidate = candidate.unwrap_or_default();
-                before_test(book, book_len, layer, candidate.as_ptr(), candidate.len())
-            }
-            Call::List(buffer) => {
-                let buffer = buffer.unwrap_or_default();
-                before_list(book, book_len, layer, buffer.as_mut_ptr(), buffer.len())
-            }
-            Call::One(buffer) => {
-                let buffer = buffer.unwrap_or_default();
-                before_one(book, book_len, layer, buffer.as_mut_ptr(), buffer.len())
-            }
-            Call::Place(fact) => before_place(book, book_len, layer, fact),
+macro_rules! second_archive {
+    ($($off:ident)?) => {
+        extern "C" {
+            fn before_check(book: *const u8, book_len: usize) -> u64;
+            fn before_test(
+                book: *const u8,
+                book_len: usize,
+                layer: u32,
+                $($off: u32,)?
+                candidate: *const u8,
+                candidate_len: usize,
+            ) -> u64;
+            fn before_list(
+                book: *const u8,
+                book_len: usize,
+                layer: u32,
+                $($off: u32,)?
+                buffer: *mut u8,
+                buffer_len: usize,
+            ) -> u64;
+            fn before_one(
+                book: *const u8,
+                book_len: usize,
+                layer: u32,
+                $($off: u32,)?
+                buffer: *mut u8,
+                buffer_len: usize,
+            ) -> u64;
+            fn before_place(
+                book: *const u8,
+                book_len: usize,
+                layer: u32,
+                $($off: u32,)?
+                fact: u32,
+            ) -> u64;
         }
-    }
+
+        /// The answer of a call of that archive on the slices themselves.
+        pub fn answer(book: &[u8], drive: Drive, call: Call) -> u64 {
+            let (book, book_len) = (book.as_ptr(), book.len());
+            let Drive { layer, $($off,)? .. } = drive;
+            // SAFETY: each pointer and its length are those of a live slice; and a buffer, which the
+            // call may write, overlaps nothing, being borrowed mutably.
+            unsafe {
+                match call {
+                    Call::Check => before_check(book, book_len),
+                    Call::Test(candidate) => {
+                        let candidate = candidate.unwrap_or_default();
+                        let (candidate, length) = (candidate.as_ptr(), candidate.len());
+                        before_test(book, book_len, layer, $($off,)? candidate, length)
+                    }
+                    Call::List(buffer) => {
+                        let buffer = buffer.unwrap_or_default();
+                        let (buffer, length) = (buffer.as_mut_ptr(), buffer.len());
+                        before_list(book, book_len, layer, $($off,)? buffer, length)
+                    }
+                    Call::One(buffer) => {
+                        let buffer = buffer.unwrap_or_default();
+                        let (buffer, length) = (buffer.as_mut_ptr(), buffer.len());
+                        before_one(book, book_len, layer, $($off,)? buffer, length)
+                    }
+                    Call::Place(fact) => before_place(book, book_len, layer, $($off,)? fact),
+                }
+            }
+        }
+    };
 }
 
 #[cfg(not(before))]
-pub fn answer(_: &[u8], _: u32, _: Call) -> u64 {
+pub fn answer(_: &[u8], _: Drive, _: Call) -> u64 {
     unreachable!("LESSON_BEFORE_DIR was not set when this was built")
 }
+
+#[cfg(before)]
+second_archive!();

@@ -6,13 +6,15 @@
 //! `-- --only WORD` only the rows that have the word in their name. Two other tables come alone: with
 //! `-- --opening` the one of how long books open, and with `-- --orders` the one of listings whose
 //! records come in every order, where `--limit SECONDS` leaves out an archive that would take longer.
-//! Where LESSON_BEFORE_DIR names a folder with another liblesson.a, every row times that one too.
+//! Where LESSON_BEFORE_DIR names a folder with another liblesson.a, every row times that one too;
+//! `before` says which arguments its calls take.
 
 mod before;
 mod opening;
 mod orders;
 
 use lesson_tests::book::Book;
+use lesson_tests::drive::at;
 use lesson_tests::expected::{branching, NO_STABLE_STATE};
 use lesson_tests::ffi::{self, Call};
 use lesson_tests::known::{self, Ending, Following, Known};
@@ -62,24 +64,25 @@ fn opponents() -> &'static [(Program, &'static str, usize)] {
 }
 
 impl Program {
-    /// Its answer to a call.
+    /// Its answer to a call. Nothing is switched off.
     fn answer(self, book: &[u8], layer: u32, call: Call) -> u64 {
+        let drive = at(layer);
         match self {
-            Program::Engine => ffi::answer(Some(book), layer, call),
-            Program::Before => before::answer(book, layer, call),
+            Program::Engine => ffi::answer(Some(book), drive, call),
+            Program::Before => before::answer(book, drive, call),
             Program::Plain => match call {
                 Call::Check => reader::first_cause(book).into(),
-                Call::Test(candidate) => plain::test(book, layer, candidate.unwrap_or_default()),
-                Call::List(buffer) => plain::list(book, layer, buffer.unwrap_or_default()),
-                Call::One(buffer) => plain::one(book, layer, buffer.unwrap_or_default()),
-                Call::Place(fact) => plain::place(book, layer, fact),
+                Call::Test(candidate) => plain::test(book, drive, candidate.unwrap_or_default()),
+                Call::List(buffer) => plain::list(book, drive, buffer.unwrap_or_default()),
+                Call::One(buffer) => plain::one(book, drive, buffer.unwrap_or_default()),
+                Call::Place(fact) => plain::place(book, drive, fact),
             },
             Program::Bits => match call {
                 Call::Check => bitset::check(book),
-                Call::Test(candidate) => bitset::test(book, layer, candidate.unwrap_or_default()),
-                Call::List(buffer) => bitset::list(book, layer, buffer.unwrap_or_default()),
-                Call::One(buffer) => bitset::one(book, layer, buffer.unwrap_or_default()),
-                Call::Place(fact) => bitset::place(book, layer, fact),
+                Call::Test(candidate) => bitset::test(book, drive, candidate.unwrap_or_default()),
+                Call::List(buffer) => bitset::list(book, drive, buffer.unwrap_or_default()),
+                Call::One(buffer) => bitset::one(book, drive, buffer.unwrap_or_default()),
+                Call::Place(fact) => bitset::place(book, drive, fact),
             },
         }
     }

@@ -185,7 +185,7 @@ impl Long {
         let given = ffi::one_in_place(&bytes, layer.into(), &mut record);
         assert_eq!(given, branching(sizes.branching), "one state");
         let state = oracle::state(&record, book.atoms).expect("it is a record");
-        let driven = Driven::new(&book, layer);
+        let driven = Driven::new(&book, layer.into());
         assert_eq!(driven.branching_count(), sizes.branching, "g");
         assert!(driven.stable(&state), "the state is not stable");
         Long {
