@@ -1,5 +1,6 @@
 pub mod InterpretationLaws
 pub mod LeastLaws
+pub mod SelfLeaningLaws
 pub mod BranchingLaws
 pub mod RecordLaws
 pub mod RecordBits

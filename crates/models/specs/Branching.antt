@@ -10,7 +10,7 @@ use Rattle.models.specs.Program.{Program}
 use Rattle.models.specs.StableModels.{overrides}
 
 module _ (P : Program) where
-  -- the rule's opposite head is the head of a rule of a layer below: its body decides a displacement
+  -- the rule's opposite head is the head of a rule of a layer below, and it does not lean on itself: its body decides a displacement
   unfoldable pub canReject : Rule → Bool
   canReject t = any (overrides P t) (P .rules)
 

@@ -1,4 +1,5 @@
--- Document 01's starred classroom examples, as one table and one theorem: the bytes of the listing, and g. Assumes nothing.
+-- Document 01's starred classroom examples, the last as document 02, (i), has it, as one table and one theorem: the bytes of the
+-- listing, and g. Assumes nothing.
 use mathlib.Core.Bool.{Bool, true, false, _&&_}
 use mathlib.Core.List.{List, [], _∷_, _++_, map}
 use Prim.Native.Nat.{ℕ}
@@ -9,7 +10,7 @@ use Rattle.base.specs.Closure.{member, fires, extend, saturate, closure}
 use Rattle.layers.specs.Layers.{backwards, layersBelow, below}
 use Rattle.format.specs.Book.{u16At, u32At, recordsIn, records, sectionBytes, sectionEnd, sectionRecords, literalOf, literalsOf, arrowOf, ruleOf, atomCount, layerCount, ruleSection, arrowRecords, ruleRecords, arrowsOf, rulesOf, bookOf}
 use Rattle.models.specs.Program.{Program, inSet, relevant, programAt}
-use Rattle.models.specs.StableModels.{atomHolds, complement, sameLiteral, signed, holds, bodyHolds, clauseOf, overrides, rejected, default, defaults, activeRules, least, agreesAt, stable}
+use Rattle.models.specs.StableModels.{atomHolds, complement, sameLiteral, signed, holds, bodyHolds, leansOnItself, clauseOf, overrides, rejected, default, defaults, activeRules, least, agreesAt, stable}
 use Rattle.models.specs.Branching.{canReject, branching, branchingAtoms, branchingCount}
 use Rattle.models.specs.Listing.{interpretations, stableModels, bitValue, bitsValue, packed, be16, be32, recordSize, recordOf, listingOf, listing}
 
@@ -96,12 +97,12 @@ table =
       written = 1 ∷ 0 ∷ 0 ∷ 0 ∷ 12 ∷ 0 ∷ 1 ∷ 0 ∷ 0 ∷ 0 ∷ 1 ∷ 128 ∷ [];
       branches = 1;
     }
-    -- layer 0: p, not p; layer 1, above it: p if p
+    -- layer 0: p, not p; layer 1, above it: p if p, which displaces nothing: document 02, (i), changed the example
     ∷ record {
       book = bytesOf 1 2 (arrow 0 1 ∷ []) (ruleIn 0 p [] ∷ ruleIn 0 notP [] ∷ ruleIn 1 p (p ∷ []) ∷ []);
       layer = 1;
-      written = 1 ∷ 0 ∷ 0 ∷ 0 ∷ 12 ∷ 0 ∷ 1 ∷ 0 ∷ 0 ∷ 0 ∷ 1 ∷ 128 ∷ [];
-      branches = 1;
+      written = 1 ∷ 0 ∷ 0 ∷ 0 ∷ 11 ∷ 0 ∷ 1 ∷ 0 ∷ 0 ∷ 0 ∷ 0 ∷ [];
+      branches = 0;
     }
     ∷ []
 
@@ -120,5 +121,5 @@ right e = sameBytes (listing (seen e)) (e .written) && eqb (branchingCount (seen
 
 -- Every example of the table is right; `examples-say` of proofs/ExampleLaws.antt gives the equations.
 pub examples : T (all right table)
-unfolding framed section bytesOf p notP q notQ ruleIn arrow bookB table sameBytes seen right consIf all any filter flat upTo member fires extend saturate closure backwards layersBelow below u16At u32At recordsIn records sectionBytes sectionEnd sectionRecords literalOf literalsOf arrowOf ruleOf atomCount layerCount ruleSection arrowRecords ruleRecords arrowsOf rulesOf bookOf inSet relevant programAt atomHolds complement sameLiteral signed holds bodyHolds clauseOf overrides rejected default defaults activeRules least agreesAt stable canReject branching branchingAtoms branchingCount interpretations stableModels bitValue bitsValue packed be16 be32 recordSize recordOf listingOf listing
+unfolding framed section bytesOf p notP q notQ ruleIn arrow bookB table sameBytes seen right consIf all any filter flat upTo member fires extend saturate closure backwards layersBelow below u16At u32At recordsIn records sectionBytes sectionEnd sectionRecords literalOf literalsOf arrowOf ruleOf atomCount layerCount ruleSection arrowRecords ruleRecords arrowsOf rulesOf bookOf inSet relevant programAt atomHolds complement sameLiteral signed holds bodyHolds leansOnItself clauseOf overrides rejected default defaults activeRules least agreesAt stable canReject branching branchingAtoms branchingCount interpretations stableModels bitValue bitsValue packed be16 be32 recordSize recordOf listingOf listing
 examples = tt

@@ -3,6 +3,7 @@ pub mod StableModels
 pub mod Alike
 pub mod Branching
 pub mod Listing
+pub mod SelfLeaning
 pub mod SwitchedOff
 pub mod Condition3
 pub mod Examples

@@ -1,5 +1,5 @@
--- Document 01, "What a stable state is" (000, section 3, Definition 6): once computed, and once as the published
--- inductive statement. proofs/LeastLaws.antt proves that the two agree. Assumes nothing.
+-- Document 01, "What a stable state is" (000, section 3, Definition 6), with the one exception of document 02, (i): once computed, and
+-- once as the published inductive statement. proofs/LeastLaws.antt proves that the two agree. Assumes nothing.
 use mathlib.Core.Path.{_≡_}
 use mathlib.Core.Logic.{_↔_}
 use mathlib.Core.Bool.{Bool, true, false, not, _&&_, Bool·beq}
@@ -46,6 +46,10 @@ holds m l = signed (l .negated) (atomHolds m (l .atom))
 unfoldable pub bodyHolds : Interpretation → Rule → Bool
 bodyHolds m r = all (holds m) (r .body)
 
+-- Document 02, (i): the rule's head is among its own body's literals, the same fact with the same sign.
+unfoldable pub leansOnItself : Rule → Bool
+leansOnItself r = any (sameLiteral (r .head)) (r .body)
+
 -- a rule, as a clause on names: "f" and "not f" are separate names
 unfoldable pub clauseOf : Rule → Clause Literal
 clauseOf r = record { premises = r .body; conclusion = r .head }
@@ -57,9 +61,10 @@ agreesAt names m f =
     && Bool·beq (member sameLiteral (negative f) names) (not (atomHolds m f))
 
 module _ (P : Program) where
-  -- r's layer is below t's, and their heads are opposite: what displacement asks, but for the body
+  -- r's layer is below t's, and their heads are opposite: what displacement asks, but for the body. That t does not lean on itself is the
+  -- one exception to the published definition; document 02 asked for it as (i).
   unfoldable pub overrides : Rule → Rule → Bool
-  overrides t r = P .below (r .layer) (t .layer) && sameLiteral (t .head) (complement (r .head))
+  overrides t r = P .below (r .layer) (t .layer) && sameLiteral (t .head) (complement (r .head)) && not (leansOnItself t)
 
   -- Document 01: displaced (000: Reject). The displacing rule may itself be displaced.
   unfoldable pub rejected : Interpretation → Rule → Bool

@@ -1,7 +1,7 @@
 -- Two rows are named exactly when the one could displace the other; and the same of a row and a rule, as the proofs above ask it: they
 -- cite these laws and do not look into what displacement asks. Assumes nothing.
 use mathlib.Core.Path.{_≡_, sym, subst}
-use mathlib.Core.Bool.{_&&_}
+use mathlib.Core.Bool.{Bool, _&&_}
 use mathlib.Core.List.{List}
 use Prim.Native.Nat.{ℕ, _<_}
 use lib.Dec.{T, eqb, eqb→eq}
@@ -11,6 +11,7 @@ use Rattle.format.specs.Book.{Literal, Rule}
 use Rattle.models.specs.Program.{Program}
 use Rattle.models.specs.StableModels.{complement, sameLiteral, overrides}
 use Rattle.models.proofs.LeastLaws.{literal-same, literal-refl}
+use Rattle.models.proofs.SelfLeaningLaws.{overrides-asks, overrides-of}
 use Rattle.table.specs.Rows.{rowCount, overridden, rowAt}
 use Rattle.table.specs.Table.{Tabulates}
 use Rattle.table.specs.Named.{named, NamedExactly}
@@ -18,18 +19,18 @@ use Rattle.table.proofs.RowLaws.{row-in, row-of}
 
 module _ {P : Program} {book rows : List ℕ} (w : Tabulates P book rows) where
   pub named-exactly : NamedExactly P book rows
-  unfolding named overrides
+  unfolding named
   named-exactly j k a b =
       let t : Rule = rowAt book rows j in
       let r : Rule = rowAt book rows k in
-      same-test (eqb (bitOf (overridden rows j) (r .layer)) 1 && sameLiteral (t .head) (complement (r .head)))
-      (P .below (r .layer) (t .layer) && sameLiteral (t .head) (complement (r .head)))
-      (λ h. and-both (P .below (r .layer) (t .layer)) (sameLiteral (t .head) (complement (r .head)))
-      (w .sound j a (r .layer) (eqb→eq (bitOf (overridden rows j) (r .layer)) 1 (and-left (eqb (bitOf (overridden rows j) (r .layer)) 1) (sameLiteral (t .head) (complement (r .head))) h)))
-      (and-right (eqb (bitOf (overridden rows j) (r .layer)) 1) (sameLiteral (t .head) (complement (r .head))) h))
-      (λ o. and-both (eqb (bitOf (overridden rows j) (r .layer)) 1) (sameLiteral (t .head) (complement (r .head)))
-      (subst (λ (x : ℕ). T (eqb x 1)) (sym (w .full j a r (row-in book rows k b) o)) tt)
-      (and-right (P .below (r .layer) (t .layer)) (sameLiteral (t .head) (complement (r .head))) o))
+      let bit : Bool = eqb (bitOf (overridden rows j) (r .layer)) 1 in
+      let heads : Bool = sameLiteral (t .head) (complement (r .head)) in
+      same-test (bit && heads) (overrides P t r)
+      (λ h.
+      let z : bitOf (overridden rows j) (r .layer) ≡ 1 = eqb→eq (bitOf (overridden rows j) (r .layer)) 1 (and-left bit heads h) in
+      let x = w .exact j a (r .layer) z in
+      overrides-of P t r (w .sound j a (r .layer) z) (and-right bit heads h) (overrides-asks P t (x .0) (x .3) .2))
+      (λ o. and-both bit heads (subst (λ (x : ℕ). T (eqb x 1)) (sym (w .full j a r (row-in book rows k b) o)) tt) (overrides-asks P t r o .1))
 
   -- a row and a rule of the program
   module _ {j : ℕ} (h : j < rowCount rows) {r : Rule} (k : r ∈ P .rules) where

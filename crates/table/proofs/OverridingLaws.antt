@@ -1,22 +1,25 @@
--- The masks of layers, row by row: in which layers a head stands, and which layers a row overrides. Used by head_layers and
--- overridden_layers. Assumes nothing.
+-- The masks of layers, row by row: in which layers a head stands, and which layers a row overrides. Used by head_layers,
+-- unless_leaning and overridden_layers. Assumes nothing.
 use mathlib.Core.Path.{_≡_, refl, sym, ap, subst, _∙_}
 use mathlib.Core.Logic.{⊎-elim}
+use mathlib.Core.Bool.{Bool, true, false, not, cond}
 use mathlib.Core.List.{List}
 use Prim.Native.Nat.{ℕ, _+_, _*_, _/_, _%_, _^_, _<_}
 use native.Mathlib.Decide.{decLt, ℕ-discrete}
 use native.Mathlib.Omega.{arith}
 use lib.Bits.{bitAnd, bitOr}
+use lib.Dec.{T}
 use lib.ListN.{getD, set, length-set, replicate, length-replicate}
 use lib.Seq.{getD-set-same, getD-set-other}
 use Rattle.base.specs.Bounds.{maxNames, maxLayers}
 use Rattle.layers.specs.Masks.{bitOf}
-use Rattle.models.specs.StableModels.{complement}
+use Rattle.format.specs.Book.{Rule}
+use Rattle.models.specs.StableModels.{complement, leansOnItself}
 use Rattle.layers.proofs.BitLaws.{pow-fits, bit-same, bit-other, no-bit, no-bits, or-cases, or-left, or-right, and-first, and-second, and-both}
 use Rattle.table.specs.Names.{literalNamed}
-use Rattle.table.specs.Rows.{rowSize, rowCount, headName, rowLayer, overridden, withMask, SameRules}
-use Rattle.table.specs.Overriding.{HeadAt, HeadLayers, OpposedAt, Overridden}
-use Rattle.table.proofs.RowLaws.{count-same}
+use Rattle.table.specs.Rows.{rowSize, rowCount, headName, rowLayer, overridden, withMask, rowAt, SameRules}
+use Rattle.table.specs.Overriding.{HeadAt, HeadLayers, OpposedAt, unlessLeaning, Overridden}
+use Rattle.table.proofs.RowLaws.{count-same, row-kept}
 use Rattle.table.proofs.NameLaws.{one-name}
 
 pub heads-start : (rows : List ℕ) → HeadLayers rows (replicate {A = ℕ} maxNames 0) 0
@@ -71,8 +74,13 @@ module _ (rows masks : List ℕ) (j h layer : ℕ) (w : HeadLayers rows masks j)
           (or-right (getD masks h 0) (1 * 2 ^ layer % 4294967296) i
           (subst (λ (z : ℕ). bitOf z i ≡ 1) (sym (pow-fits layer bl)) (subst (λ (k : ℕ). bitOf (2 ^ layer) k ≡ 1) f (bit-same layer))))
 
-pub overridden-start : (rows lower table : List ℕ) → Overridden rows lower table 0
-overridden-start rows lower table = record { sound = λ j b. absurd (omega arith); opposed = λ j b. absurd (omega arith); full = λ j b. absurd (omega arith) }
+pub overridden-start : (book rows lower table : List ℕ) → Overridden book rows lower table 0
+overridden-start book rows lower table = record {
+  sound = λ j b. absurd (omega arith);
+  opposed = λ j b. absurd (omega arith);
+  not-leaning = λ j b. absurd (omega arith);
+  full = λ j b. absurd (omega arith);
+}
 
 pub rules-start : (rows : List ℕ) → SameRules rows rows
 rules-start rows = record { size = refl; same = λ j c h. refl }
@@ -111,20 +119,63 @@ module _ (rows table : List ℕ) (r : SameRules rows table) (j mask : ℕ) (b : 
   mask-there x h =
       omega (arith, kept (rowSize * x + 4) (λ e. omega arith) (λ e. omega arith), kept (rowSize * x + 5) (λ e. omega arith) (λ e. omega arith))
 
--- one row on: of the layers below the row's, those in which the opposite name o stands
-module _ (rows lower heads table : List ℕ) (r : SameRules rows table) (j h o layer : ℕ) (w : Overridden rows lower table j) (b : j < rowCount rows)
-    (hl : HeadLayers rows heads (rowCount rows)) (eh : h ≡ headName rows j) (eo : literalNamed o ≡ complement (literalNamed h)) (el : layer ≡ rowLayer rows j) where
-  abbrev mask : ℕ
-  mask = bitAnd (getD heads o 0) (getD lower layer 0)
+-- a rule that leans on itself keeps no bit of a mask, and any other keeps all of it
+module _ (r : Rule) (k : ℕ) where
+  unless-bit : (i : ℕ) → bitOf (unlessLeaning r k) i ≡ 1 → T (not (leansOnItself r)) × (bitOf k i ≡ 1)
+  unfolding unlessLeaning
+  unless-bit i z = go (leansOnItself r) z
+    where
+      go : (c : Bool) → bitOf (cond c 0 k) i ≡ 1 → T (not c) × (bitOf k i ≡ 1)
+      go true y = absurd (no-bit i y)
+      go false y = (tt, y)
+
+  unless-whole : T (not (leansOnItself r)) → unlessLeaning r k ≡ k
+  unfolding unlessLeaning
+  unless-whole t = go (leansOnItself r) t
+    where
+      go : (c : Bool) → T (not c) → cond c 0 k ≡ k
+      go true u = absurd u
+      go false u = refl
+
+-- what the code makes of a mask: an empty one stays so
+pub unless-empty : (r : Rule) (k : ℕ) → k ≡ 0 → k ≡ unlessLeaning r k
+unfolding unlessLeaning
+unless-empty r k e = go (leansOnItself r)
+  where
+    go : (c : Bool) → k ≡ cond c 0 k
+    go true = e
+    go false = refl
+
+pub unless-told : (r : Rule) (k : ℕ) (c d : Bool) → c ≡ leansOnItself r → c ≡ d → cond d 0 k ≡ unlessLeaning r k
+unfolding unlessLeaning
+unless-told r k c d e f = ap (λ (x : Bool). cond x 0 k) (sym f ∙ e)
+
+-- one row on: of the layers below the row's, those in which the opposite name o stands, and none where the row leans on itself
+module _ (book rows lower heads table : List ℕ) (r : SameRules rows table) (j h o layer mask : ℕ) (w : Overridden book rows lower table j) (b : j < rowCount rows)
+    (hl : HeadLayers rows heads (rowCount rows)) (eh : h ≡ headName rows j) (eo : literalNamed o ≡ complement (literalNamed h)) (el : layer ≡ rowLayer rows j)
+    (em : mask ≡ unlessLeaning (rowAt book table j) (bitAnd (getD heads o 0) (getD lower layer 0))) where
+  abbrev whole : ℕ
+  whole = bitAnd (getD heads o 0) (getD lower layer 0)
 
   abbrev next : List ℕ
   next = withMask table j mask
 
-  pub overridden-more : Overridden rows lower next (j + 1)
-  overridden-more = record { sound = λ x k. sound-at x k (decLt x j); opposed = λ x k. opposed-at x k (decLt x j); full = λ x k. full-at x k (decLt x j) }
+  row-is : (x : ℕ) → x ≡ j → rowAt book table j ≡ rowAt book rows x
+  row-is x e = row-kept r book j ∙ ap (rowAt book rows) (sym e)
+
+  pub overridden-more : Overridden book rows lower next (j + 1)
+  overridden-more = record {
+    sound = λ x k. sound-at x k (decLt x j);
+    opposed = λ x k. opposed-at x k (decLt x j);
+    not-leaning = λ x k. not-leaning-at x k (decLt x j);
+    full = λ x k. full-at x k (decLt x j);
+  }
     where
-      here : (x : ℕ) → x ≡ j → overridden next x ≡ mask
-      here x e = mask-here rows table r j mask b x e
+      here : (x : ℕ) → x ≡ j → overridden next x ≡ unlessLeaning (rowAt book table j) whole
+      here x e = mask-here rows table r j mask b x e ∙ em
+
+      at : (x i : ℕ) → x ≡ j → bitOf (overridden next x) i ≡ 1 → T (not (leansOnItself (rowAt book table j))) × (bitOf whole i ≡ 1)
+      at x i e z = unless-bit (rowAt book table j) whole i (subst (λ (t : ℕ). bitOf t i ≡ 1) (here x e) z)
 
       there : (x : ℕ) → x < j → overridden next x ≡ overridden table x
       there x a = mask-there rows table r j mask b x a
@@ -134,7 +185,7 @@ module _ (rows lower heads table : List ℕ) (r : SameRules rows table) (j h o l
       sound-at x k (no a) i z =
           let q : x ≡ j = omega arith in
           subst (λ (t : ℕ). bitOf (getD lower t 0) i ≡ 1) (el ∙ ap (rowLayer rows) (sym q))
-          (and-second (getD heads o 0) (getD lower layer 0) i (subst (λ (t : ℕ). bitOf t i ≡ 1) (here x q) z))
+          (and-second (getD heads o 0) (getD lower layer 0) i (at x i q z .1))
 
       opposed-at : (x : ℕ) → x < j + 1 → Dec (x < j) → (i : ℕ) → bitOf (overridden next x) i ≡ 1 → OpposedAt rows (headName rows x) i
       opposed-at x k (yes a) i z = w .opposed x a i (subst (λ (u : ℕ). bitOf u i ≡ 1) (there x a) z)
@@ -143,16 +194,20 @@ module _ (rows lower heads table : List ℕ) (r : SameRules rows table) (j h o l
           record {
             name = o;
             opposite-is = eo ∙ ap (λ (t : ℕ). complement (literalNamed t)) (eh ∙ ap (headName rows) (sym q));
-            head-at = hl .sound o i (and-first (getD heads o 0) (getD lower layer 0) i (subst (λ (t : ℕ). bitOf t i ≡ 1) (here x q) z));
+            head-at = hl .sound o i (and-first (getD heads o 0) (getD lower layer 0) i (at x i q z .1));
           }
 
+      not-leaning-at : (x : ℕ) → x < j + 1 → Dec (x < j) → (i : ℕ) → bitOf (overridden next x) i ≡ 1 → T (not (leansOnItself (rowAt book rows x)))
+      not-leaning-at x k (yes a) i z = w .not-leaning x a i (subst (λ (u : ℕ). bitOf u i ≡ 1) (there x a) z)
+      not-leaning-at x k (no a) i z = let q : x ≡ j = omega arith in subst (λ (t : Rule). T (not (leansOnItself t))) (row-is x q) (at x i q z .0)
+
       full-at : (x : ℕ) → x < j + 1 → Dec (x < j) → (i g : ℕ) → literalNamed g ≡ complement (literalNamed (headName rows x)) → HeadAt rows (rowCount rows) g i
-          → bitOf (getD lower (rowLayer rows x) 0) i ≡ 1 → bitOf (overridden next x) i ≡ 1
-      full-at x k (yes a) i g e p z = subst (λ (u : ℕ). bitOf u i ≡ 1) (sym (there x a)) (w .full x a i g e p z)
-      full-at x k (no a) i g e p z =
+          → bitOf (getD lower (rowLayer rows x) 0) i ≡ 1 → T (not (leansOnItself (rowAt book rows x))) → bitOf (overridden next x) i ≡ 1
+      full-at x k (yes a) i g e p z n = subst (λ (u : ℕ). bitOf u i ≡ 1) (sym (there x a)) (w .full x a i g e p z n)
+      full-at x k (no a) i g e p z n =
           let q : x ≡ j = omega arith in
           let s : g ≡ o = one-name g o (e ∙ ap (λ (t : ℕ). complement (literalNamed (headName rows t))) q ∙ ap (λ (t : ℕ). complement (literalNamed t)) (sym eh) ∙ sym eo) in
-          subst (λ (t : ℕ). bitOf t i ≡ 1) (sym (here x q))
+          subst (λ (t : ℕ). bitOf t i ≡ 1) (sym (here x q ∙ unless-whole (rowAt book table j) whole (subst (λ (t : Rule). T (not (leansOnItself t))) (sym (row-is x q)) n)))
           (and-both (getD heads o 0) (getD lower layer 0) i
           (subst (λ (t : ℕ). bitOf (getD heads t 0) i ≡ 1) s (hl .full g i p))
           (subst (λ (t : ℕ). bitOf (getD lower t 0) i ≡ 1) (ap (rowLayer rows) q ∙ sym el) z))
@@ -165,8 +220,8 @@ module _ {rows table : List ℕ} (r : SameRules rows table) where
   head-from : {n h i : ℕ} → HeadAt table n h i → HeadAt rows n h i
   head-from x = record { row = x .row; before = x .before; name-is = sym (r .same (x .row) 2 (omega arith)) ∙ x .name-is; layer-is = sym (r .same (x .row) 3 (omega arith)) ∙ x .layer-is }
 
-  pub overridden-same : {lower : List ℕ} → Overridden rows lower table (rowCount rows) → Overridden table lower table (rowCount table)
-  overridden-same {lower} w = record {
+  pub overridden-same : {book lower : List ℕ} → Overridden book rows lower table (rowCount rows) → Overridden book table lower table (rowCount table)
+  overridden-same {book} {lower} w = record {
     sound = λ j h i z. subst (λ (t : ℕ). bitOf (getD lower t 0) i ≡ 1) (sym (r .same j 3 (omega arith))) (w .sound j (low j h) i z);
     opposed = λ j h i z.
         let o : OpposedAt rows (headName rows j) i = w .opposed j (low j h) i z in
@@ -175,10 +230,12 @@ module _ {rows table : List ℕ} (r : SameRules rows table) where
           opposite-is = o .opposite-is ∙ ap (λ (t : ℕ). complement (literalNamed t)) (sym (r .same j 2 (omega arith)));
           head-at = subst (λ (n : ℕ). HeadAt table n (o .name) i) (sym (count-same r)) (head-to (o .head-at));
         };
-    full = λ j h i g e p z.
+    not-leaning = λ j h i z. subst (λ (t : Rule). T (not (leansOnItself t))) (sym (row-kept r book j)) (w .not-leaning j (low j h) i z);
+    full = λ j h i g e p z n.
         w .full j (low j h) i g (e ∙ ap (λ (t : ℕ). complement (literalNamed t)) (r .same j 2 (omega arith)))
         (head-from (subst (λ (n : ℕ). HeadAt table n g i) (count-same r) p))
-        (subst (λ (t : ℕ). bitOf (getD lower t 0) i ≡ 1) (r .same j 3 (omega arith)) z);
+        (subst (λ (t : ℕ). bitOf (getD lower t 0) i ≡ 1) (r .same j 3 (omega arith)) z)
+        (subst (λ (t : Rule). T (not (leansOnItself t))) (row-kept r book j) n);
   }
     where
       low : (j : ℕ) → j < rowCount table → j < rowCount rows

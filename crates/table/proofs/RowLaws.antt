@@ -1,5 +1,5 @@
--- Rows and the rules that they stand for: which rules are there, a row's body as the code cuts it, whether it is alive, and when two rows are the same.
--- Used by every loop over rows. Assumes nothing.
+-- Rows and the rules that they stand for: which rules are there, a row's body as the code cuts it, whether it is alive or leans on itself,
+-- and when two rows are the same. Used by every loop over rows. Assumes nothing.
 use mathlib.Core.Path.{_≡_, sym, ap, subst, _∙_}
 use mathlib.Core.Bool.{not}
 use mathlib.Core.List.{List, map, Memᴰ·map, Memᴰ·of-map}
@@ -8,15 +8,16 @@ use native.Mathlib.Omega.{arith}
 use lib.Bits.{bitAnd}
 use lib.Dec.{eqb}
 use lib.ListN.{getD, take, drop}
-use Rattle.base.specs.Lists.{upTo}
+use Rattle.base.specs.Lists.{any, upTo}
 use Rattle.layers.specs.Masks.{bitOf}
-use Rattle.format.specs.Book.{Rule, literalsOf}
+use Rattle.format.specs.Book.{Literal, Rule, literalsOf}
+use Rattle.models.specs.StableModels.{sameLiteral, leansOnItself}
 use Rattle.base.proofs.Members.{_∈_}
 use Rattle.base.proofs.MapLaws.{map-same}
 use Rattle.base.proofs.UpTo.{upTo-lt, upTo-has}
 use Rattle.layers.proofs.WarshallLaws.{test-bit}
-use Rattle.table.specs.Names.{literalNamed}
-use Rattle.table.specs.Rows.{rowSize, rowCount, headName, rowLayer, rowAt, alive, rowsOf, RowsBounded, RowsFit, SameRules}
+use Rattle.table.specs.Names.{literalNamed, literalNumbered}
+use Rattle.table.specs.Rows.{rowSize, rowCount, headName, rowLayer, rowBody, rowAt, alive, rowsOf, RowsBounded, RowsFit, SameRules}
 use Rattle.table.proofs.NameLaws.{name-back}
 
 module _ (book rows : List ℕ) where
@@ -45,6 +46,14 @@ module _ (book rows rejects : List ℕ) (j h i : ℕ) (p : h ≡ headName rows j
       ap (λ (x : ℕ). not (eqb (bitOf (getD rejects x 0) (rowLayer rows j)) 1)) (name-back (headName rows j) ∙ sym p)
       ∙ ap (λ (y : ℕ). not (eqb (bitOf (getD rejects h 0) y) 1)) (sym q)
       ∙ ap (λ (z : ℕ). not (eqb z 1)) (sym (test-bit (getD rejects h 0) i))
+
+-- a row leans on itself where the literal of its head's number is among its body's
+pub row-leans : (book rows : List ℕ) (j h v : ℕ) (body : List ℕ) → h ≡ headName rows j → literalNumbered v ≡ literalNamed h → body ≡ rowBody book rows j
+    → any (sameLiteral (literalNumbered v)) (literalsOf body) ≡ leansOnItself (rowAt book rows j)
+unfolding rowAt leansOnItself
+row-leans book rows j h v body p q s =
+    ap (λ (l : Literal). any (sameLiteral l) (literalsOf body)) (q ∙ ap literalNamed p)
+    ∙ ap (λ (b : List ℕ). any (sameLiteral (literalNamed (headName rows j))) (literalsOf b)) s
 
 -- rows stand for the same rule where the first four of their numbers are the same
 pub row-same : (book rows other : List ℕ) (j : ℕ) → ((c : ℕ) → c < 4 → getD rows (rowSize * j + c) 0 ≡ getD other (rowSize * j + c) 0) → rowAt book rows j ≡ rowAt book other j
@@ -76,8 +85,11 @@ module _ {rows table : List ℕ} (r : SameRules rows table) where
       start-same : (j : ℕ) → getD table (rowSize * j) 0 ≡ getD rows (rowSize * j) 0
       start-same j = subst (λ (i : ℕ). getD table i 0 ≡ getD rows i 0) {x = rowSize * j + 0} {y = rowSize * j} (omega arith) (r .same j 0 (omega arith))
 
+  pub row-kept : (book : List ℕ) (j : ℕ) → rowAt book table j ≡ rowAt book rows j
+  row-kept book j = row-same book table rows j (λ c d. r .same j c d)
+
   pub rows-same : (book : List ℕ) → rowsOf book table ≡ rowsOf book rows
   unfolding rowsOf
   rows-same book =
       ap (λ (n : ℕ). map (rowAt book table) (upTo n)) count-same
-      ∙ map-same (rowAt book table) (rowAt book rows) (rowCount rows) (λ j h. row-same book table rows j (λ c d. r .same j c d))
+      ∙ map-same (rowAt book table) (rowAt book rows) (rowCount rows) (λ j h. row-kept book j)

@@ -20,11 +20,12 @@ use Rattle.layers.specs.Masks.{bitOf}
 use Rattle.format.specs.Book.{Literal, Rule, ruleOf, records, bookOf}
 use Rattle.models.specs.Program.{Program, inSet, relevant, programAt}
 use Rattle.models.specs.StableModels.{complement, sameLiteral, overrides}
-use Rattle.base.proofs.Members.{_∈_, and-left, and-right, and-both, or-cases, or-left, or-right, same-test}
+use Rattle.base.proofs.Members.{_∈_, or-cases, or-left, or-right, same-test}
 use Rattle.layers.proofs.BitLaws as bits
 use Rattle.models.proofs.LeastLaws.{literal-same, literal-refl}
+use Rattle.models.proofs.SelfLeaningLaws.{overrides-asks, overrides-of}
 use Rattle.table.specs.Names.{literalNamed}
-use Rattle.table.specs.Rows.{rowSize, rowCount, headName, rowLayer, overridden, rowAt, rowsOf, inMask, RowsBounded, RowsFit, SameRules}
+use Rattle.table.specs.Rows.{rowSize, rowCount, headName, rowLayer, overridden, rowAt, rowsOf, inMask, RowsFit, SameRules}
 use Rattle.table.specs.Overriding.{OpposedAt, Overridden}
 use Rattle.table.specs.Table.{programOf, Prepared, RowsMade, Tabulates, TableMade}
 use Rattle.table.proofs.NameLaws.{complement-twice}
@@ -35,14 +36,6 @@ filter-same : (p q : Rule → Bool) (xs : List Rule) → ((x : Rule) → x ∈ x
 unfolding filter
 filter-same p q [] h = refl
 filter-same p q (x ∷ xs) h = ap₂ (λ (c : Bool) (l : List Rule). consIf c x l) (h x (List·Memᴰ·head refl)) (filter-same p q xs (λ y k. h y (List·Memᴰ·tail k)))
-
-overrides-below : (P : Program) (t r : Rule) → T (overrides P t r) → T (P .below (r .layer) (t .layer))
-unfolding overrides
-overrides-below P t r o = and-left (P .below (r .layer) (t .layer)) (sameLiteral (t .head) (complement (r .head))) o
-
-pub overrides-heads : (P : Program) (t r : Rule) → T (overrides P t r) → t .head ≡ complement (r .head)
-unfolding overrides
-overrides-heads P t r o = literal-same (t .head) (complement (r .head)) (and-right (P .below (r .layer) (t .layer)) (sameLiteral (t .head) (complement (r .head))) o)
 
 -- the mask of the layers that a drive goes by: the driven layer, and those below it
 module _ (book : List ℕ) (first : ℕ) (lower : List ℕ) (w : Prepared book first lower) (layer off : ℕ) (h : layer < maxLayers) where
@@ -100,19 +93,21 @@ module _ (book : List ℕ) (first : ℕ) (lower : List ℕ) (w : Prepared book f
       ∙ filter-same (inMask relevantMask) (relevant (bookOf book) layer off) (bookOf book .rules) mask-relevant
 
   module _ (rows : List ℕ) (fits : RowsFit book rows) (rs : rowsOf book rows ≡ filter (inMask relevantMask) (map ruleOf (records (drop first book))))
-      (un : Overridden rows lower rows (rowCount rows)) where
+      (un : Overridden book rows lower rows (rowCount rows)) where
     row-full : (j : ℕ) → j < rowCount rows → (x : ℕ) → x < rowCount rows → T (overrides (programOf book layer off) (rowAt book rows j) (rowAt book rows x)) → bitOf (overridden rows j) (rowAt book rows x .layer) ≡ 1
     unfolding rowAt programAt
     row-full j b x k o =
+        let asks = overrides-asks (programOf book layer off) (rowAt book rows j) (rowAt book rows x) o in
         un .full j b (rowLayer rows x) (headName rows x)
-        (sym (complement-twice (literalNamed (headName rows x))) ∙ ap complement (sym (overrides-heads (programOf book layer off) (rowAt book rows j) (rowAt book rows x) o)))
+        (sym (complement-twice (literalNamed (headName rows x))) ∙ ap complement (sym (literal-same (literalNamed (headName rows j)) (complement (literalNamed (headName rows x))) (asks .1))))
         (record { row = x; before = k; name-is = refl; layer-is = refl })
-        (w .lower-full (rowLayer rows x) (rowLayer rows j) (fits .bounded .layer-low x k) (fits .bounded .layer-low j b) (overrides-below (programOf book layer off) (rowAt book rows j) (rowAt book rows x) o))
+        (w .lower-full (rowLayer rows x) (rowLayer rows j) (fits .bounded .layer-low x k) (fits .bounded .layer-low j b) (asks .0))
+        (asks .2)
 
     -- a set bit is the layer of a row that is overridden
     row-exact : (j : ℕ) → j < rowCount rows → (i : ℕ) → bitOf (overridden rows j) i ≡ 1
         → (r : Rule) × r ∈ rowsOf book rows × (r .layer ≡ i) × T (overrides (programOf book layer off) (rowAt book rows j) r)
-    unfolding rowAt programAt overrides
+    unfolding rowAt programAt
     row-exact j b i z =
         let o : OpposedAt rows (headName rows j) i = un .opposed j b i z in
         let x : ℕ = o .head-at .row in
@@ -121,9 +116,10 @@ module _ (book : List ℕ) (first : ℕ) (lower : List ℕ) (w : Prepared book f
           rowAt book rows x,
           row-in book rows x (o .head-at .before),
           o .head-at .layer-is,
-          and-both (below (bookOf book .arrows) (rowLayer rows x) (rowLayer rows j)) (sameLiteral (literalNamed (headName rows j)) (complement (literalNamed (headName rows x))))
+          overrides-of (programOf book layer off) (rowAt book rows j) (rowAt book rows x)
               (subst (λ (t : ℕ). T (below (bookOf book .arrows) t (rowLayer rows j))) (sym (o .head-at .layer-is)) (w .lower-sound i (rowLayer rows j) (fits .bounded .layer-low j b) (un .sound j b i z)))
-              (subst (λ (t : Literal). T (sameLiteral (literalNamed (headName rows j)) t)) e (literal-refl (literalNamed (headName rows j)))),
+              (subst (λ (t : Literal). T (sameLiteral (literalNamed (headName rows j)) t)) e (literal-refl (literalNamed (headName rows j))))
+              (un .not-leaning j b i z),
         )
 
     tabulates : Tabulates (programOf book layer off) book rows
@@ -145,8 +141,8 @@ module _ (book : List ℕ) (first mask : ℕ) (rows : List ℕ) (k : ℕ) (w : R
   lent-count : length (take (rowSize * k - 0) rows) / rowSize ≡ k
   lent-count = let q : length (take (rowSize * k - 0) rows) ≡ rowSize * k = simp length-take (omega (arith, w .size, w .room)) in omega arith
 
-  pub lent-bounded : RowsBounded (take (rowSize * k - 0) rows)
-  lent-bounded = subst (λ (x : ℕ). RowsBounded (take x rows)) (sym (minus-zero (rowSize * k))) (w .fits .bounded)
+  pub lent-fits : RowsFit book (take (rowSize * k - 0) rows)
+  lent-fits = subst (λ (x : ℕ). RowsFit book (take x rows)) (sym (minus-zero (rowSize * k))) (w .fits)
 
   -- the first k rows come back with their masks, in front of the rest
   module _ (part : List ℕ) (r : SameRules (take (rowSize * k - 0) rows) part) where
@@ -162,7 +158,7 @@ module _ (book : List ℕ) (first mask : ℕ) (rows : List ℕ) (k : ℕ) (w : R
         ∙ take-append-seam part (drop (rowSize * k - 0) rows)
 
     pub table-made : (lower : List ℕ) (p : Prepared book first lower) (layer off : ℕ) (h : layer < maxLayers) → mask ≡ relevantMask book first lower p layer off h
-        → Overridden (take (rowSize * k - 0) rows) lower part (rowCount (take (rowSize * k - 0) rows))
+        → Overridden book (take (rowSize * k - 0) rows) lower part (rowCount (take (rowSize * k - 0) rows))
         → TableMade (programOf book layer off) book (putMid 0 (rowSize * k - 0) rows part) k
     table-made lower p layer off h em o = record {
       room = w .room;

@@ -12,8 +12,9 @@ use Rattle.base.proofs.UpTo.{upTo-lt, upTo-has}
 use Rattle.layers.specs.Masks.{bitOf}
 use Rattle.format.specs.Book.{Rule}
 use Rattle.models.specs.Program.{Program}
-use Rattle.models.specs.StableModels.{complement, sameLiteral, overrides}
+use Rattle.models.specs.StableModels.{overrides}
 use Rattle.models.specs.Alike.{Alike}
+use Rattle.models.proofs.SelfLeaningLaws.{overrides-asks, overrides-of}
 use Rattle.table.specs.Rows.{rowSize, rowCount, rowLayer, overridden, rowAt, rowsOf}
 use Rattle.table.specs.Table.{Tabulates, TableMade}
 use Rattle.table.specs.Tabled.{tabled}
@@ -46,18 +47,14 @@ module _ {P : Program} {book rows : List ℕ} (w : Tabulates P book rows) where
       (and-both (eqb (rowLayer rows k) (rowLayer rows k)) (eqb (bitOf (overridden rows k) i) 1) (eqb-refl (rowLayer rows k)) (subst (λ (x : ℕ). T (eqb x 1)) (sym b) tt))
 
   overrides-from : (t r : Rule) → T (overrides Q t r) → T (overrides P t r)
-  unfolding overrides tabled
-  overrides-from t r o =
-      and-both (P .below (r .layer) (t .layer)) (sameLiteral (t .head) (complement (r .head)))
-      (below-from (r .layer) (t .layer) (and-left (any (says (r .layer) (t .layer)) (upTo (rowCount rows))) (sameLiteral (t .head) (complement (r .head))) o))
-      (and-right (any (says (r .layer) (t .layer)) (upTo (rowCount rows))) (sameLiteral (t .head) (complement (r .head))) o)
+  unfolding tabled
+  overrides-from t r o = let asks = overrides-asks Q t r o in overrides-of P t r (below-from (r .layer) (t .layer) (asks .0)) (asks .1) (asks .2)
 
   overrides-into : (k : ℕ) → k < rowCount rows → (r : Rule) → r ∈ rowsOf book rows → T (overrides P (rowAt book rows k) r) → T (overrides Q (rowAt book rows k) r)
-  unfolding overrides tabled rowAt
+  unfolding tabled rowAt
   overrides-into k h r m o =
-      and-both (any (says (r .layer) (rowLayer rows k)) (upTo (rowCount rows))) (sameLiteral (rowAt book rows k .head) (complement (r .head)))
-      (below-into (r .layer) k h (w .full k h r m o))
-      (and-right (P .below (r .layer) (rowLayer rows k)) (sameLiteral (rowAt book rows k .head) (complement (r .head))) o)
+      let asks = overrides-asks P (rowAt book rows k) r o in
+      overrides-of Q (rowAt book rows k) r (below-into (r .layer) k h (w .full k h r m o)) (asks .1) (asks .2)
 
   overrides-same : (t r : Rule) → t ∈ P .rules → r ∈ P .rules → overrides P t r ≡ overrides Q t r
   overrides-same t r k j =

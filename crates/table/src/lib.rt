@@ -4,12 +4,12 @@ ghost use mathlib.Core.Path.{_≡_};
 ghost use Prim.Native.Nat.{_*_, _<_, _≤_};
 ghost use Rattle.base.specs.Bounds.{maxAtoms, maxNames, maxLayers, maxRules};
 ghost use lib.ListN.{length, drop};
-ghost use Rattle.base.specs.Lists.{all};
+ghost use Rattle.base.specs.Lists.{all, any};
 ghost use Rattle.format.specs.Book.{literalOf, literalsOf};
-ghost use Rattle.models.specs.StableModels.{atomHolds, complement, holds, bodyHolds};
-ghost use Rattle.table.specs.Names.{literalNamed};
+ghost use Rattle.models.specs.StableModels.{atomHolds, complement, sameLiteral, holds, bodyHolds, leansOnItself};
+ghost use Rattle.table.specs.Names.{literalNamed, literalNumbered};
 ghost use Rattle.table.specs.Rows.{rowSize, rowCount, headName, rowLayer, overridden, withMask, rowBody, rowAt, alive, RowsBounded, RowsFit, SameRules};
-ghost use Rattle.table.specs.Overriding.{HeadLayers, Overridden};
+ghost use Rattle.table.specs.Overriding.{HeadLayers, unlessLeaning, Overridden};
 ghost use Rattle.table.specs.Table.{programOf, RuleRecords, Prepared, RowsMade, TableMade};
 use base::MAX_ATOMS;
 use base::MAX_LAYERS;
@@ -183,6 +183,58 @@ fn head_layers(rows: &[u16]) -> [u32; MAX_NAMES]
     masks
 }
 
+// The number that the two bytes of a literal make, by its name.
+fn number_of(h: usize) -> usize
+    requires { ⌜ h < maxNames ⌝ }
+    ensures { λ r. ⌜ (literalNumbered r ≡ literalNamed h) × (r < 65536) ⌝ }
+{
+    if h < MAX_ATOMS {
+        return h;
+    }
+    h - MAX_ATOMS + 32768
+}
+
+// Whether the literal of number v is among those of a body's bytes.
+fn has_literal(body: &[u8], v: usize) -> bool
+    requires { ⌜ v < 65536 ⌝ }
+    ensures { λ r. ⌜ r ≡ any (sameLiteral (literalNumbered v)) (literalsOf (now (body .entry))) ⌝ }
+{
+    let mut i: usize = 0;
+    while 2 <= body.len() - i {
+        if literal_value(body[i], body[i + 1]) == v {
+            return true;
+        }
+        i += 2;
+    }
+    false
+}
+
+// Whether a row leans on itself: its head is among its own body's literals, sign and all.
+fn row_leans(book: &[u8], rows: &[u16], j: usize) -> bool
+    requires { ⌜ RowsFit (now book) (now rows) ⌝ }
+    requires { ⌜ j < rowCount (now rows) ⌝ }
+    ensures { λ r. ⌜ r ≡ leansOnItself (rowAt (now (book .entry)) (now (rows .entry)) j) ⌝ }
+{
+    let v = number_of(row_head(rows, j));
+    has_literal(row_body(book, rows, j), v)
+}
+
+// The mask of the layers in which a row overrides rules, from that of the lower layers in which the opposite head stands: empty where it
+// leans on itself. The body is read only where there is a rule to override.
+fn unless_leaning(book: &[u8], rows: &[u16], j: usize, mask: u32) -> u32
+    requires { ⌜ RowsFit (now book) (now rows) ⌝ }
+    requires { ⌜ j < rowCount (now rows) ⌝ }
+    ensures { λ r. ⌜ r ≡ unlessLeaning (rowAt (now (book .entry)) (now (rows .entry)) j) mask ⌝ }
+{
+    if mask == 0 {
+        return mask;
+    }
+    if row_leans(book, rows, j) {
+        return 0;
+    }
+    mask
+}
+
 // Writes a row's mask.
 fn put_overridden(rows: &mut [u16], j: usize, mask: u32)
     requires { ⌜ j < rowCount (now rows) ⌝ }
@@ -193,9 +245,9 @@ fn put_overridden(rows: &mut [u16], j: usize, mask: u32)
 }
 
 // Writes each row's mask of the layers in which it overrides a rule: `lower` has each layer's mask of the layers below it.
-pub fn overridden_layers(rows: &mut [u16], lower: [u32; MAX_LAYERS])
-    requires { ⌜ RowsBounded (now rows) ⌝ }
-    ensures { λ _. ⌜ SameRules (now (rows .entry)) (now (rows .exit)) × Overridden (now (rows .entry)) lower (now (rows .exit)) (rowCount (now (rows .entry))) ⌝ }
+pub fn overridden_layers(book: &[u8], rows: &mut [u16], lower: [u32; MAX_LAYERS])
+    requires { ⌜ RowsFit (now book) (now rows) ⌝ }
+    ensures { λ _. ⌜ SameRules (now (rows .entry)) (now (rows .exit)) × Overridden (now (book .entry)) (now (rows .entry)) lower (now (rows .exit)) (rowCount (now (rows .entry))) ⌝ }
 {
     let heads = head_layers(rows);
     let count = rows.len() / ROW_SIZE;
@@ -203,7 +255,8 @@ pub fn overridden_layers(rows: &mut [u16], lower: [u32; MAX_LAYERS])
     while j < count {
         let o = opposite(row_head(rows, j));
         let layer = row_layer(rows, j);
-        put_overridden(rows, j, heads[o] & lower[layer]);
+        let mask = unless_leaning(book, rows, j, heads[o] & lower[layer]);
+        put_overridden(rows, j, mask);
         j += 1;
     }
 }
@@ -226,6 +279,6 @@ pub fn rule_table(
     let under = lower[layer];
     let all = under | (1 << (layer as u32));
     let count = make_rows(book, first, all ^ (all & off), rows);
-    overridden_layers(&mut rows[0..ROW_SIZE * count], lower);
+    overridden_layers(book, &mut rows[0..ROW_SIZE * count], lower);
     count
 }

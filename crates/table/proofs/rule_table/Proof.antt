@@ -1,7 +1,7 @@
 -- The rows are those of the relevant rules, since the mask has the driven layer and those below it, without the layers that are
 -- switched off; their masks are written in front of what is left of the array.
 use mathlib.Core.Path.{refl}
-use Rattle.table.proofs.TableLaws.{lent-bounded, table-made}
+use Rattle.table.proofs.TableLaws.{lent-fits, table-made}
 use borrow.Author.Needs.{needs}
 use Rattle.table.proofs.rule_table.Statement.{statement}
 use Rattle.table.proofs.rule_table.Tie as tie
@@ -34,7 +34,7 @@ part-overridden-layers-end : tie.Need-part-overridden-layers-end
 part-overridden-layers-end c = search needs
 
 overridden-layers-requires : tie.Need-overridden-layers-requires
-overridden-layers-requires c κs = let w = c .before .before .before .make-rows in lent-bounded _ _ _ _ (w .result) (w .ensures)
+overridden-layers-requires c κs = let w = c .before .before .before .make-rows in lent-fits _ _ _ _ (w .result) (w .ensures)
 
 same-length : tie.Need-same-length
 same-length c = search needs
