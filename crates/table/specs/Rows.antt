@@ -1,4 +1,4 @@
--- The rows of the table: six numbers a rule, one rule after the other. Assumes nothing.
+-- The rows of the table: six numbers a rule, in rows of eight, one rule after the other. Assumes nothing.
 use mathlib.Core.Path.{_≡_}
 use mathlib.Core.Bool.{Bool, not}
 use mathlib.Core.List.{List, map}

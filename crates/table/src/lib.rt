@@ -1,5 +1,5 @@
-// The table of the rules that count at a layer, as the test and the search read it: six numbers a rule in one flat array, with the
-// mask of the layers in which it overrides rules. Made once a call; bodies stay where they are in the book.
+// The table of the rules that count at a layer, as the test and the search read it: six numbers a rule, in rows of eight, in one flat
+// array, with the mask of the layers in which it overrides rules. Made once a call; bodies stay where they are in the book.
 ghost use mathlib.Core.Path.{_≡_};
 ghost use Prim.Native.Nat.{_*_, _<_, _≤_};
 ghost use Rattle.base.specs.Bounds.{maxAtoms, maxNames, maxLayers, maxRules};
