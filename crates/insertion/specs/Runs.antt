@@ -2,7 +2,7 @@
 use mathlib.Core.Path.{_≡_}
 use mathlib.Core.Bool.{Bool, true, false, cond}
 use mathlib.Core.List.{List, [], _∷_, List·Memᴰ}
-use Prim.Native.Nat.{ℕ, _*_}
+use Prim.Native.Nat.{ℕ}
 use lib.Dec.{ltb}
 use lib.ListN.{length}
 
@@ -12,11 +12,6 @@ bytesBefore [] [] = false
 bytesBefore [] (y ∷ ys) = true
 bytesBefore (x ∷ xs) [] = false
 bytesBefore (x ∷ xs) (y ∷ ys) = cond (ltb x y) true (cond (ltb y x) false (bytesBefore xs ys))
-
--- n bytes are so many whole records of w
-pub record Mult (w n : ℕ) : Type 0 where
-  pub times : ℕ
-  pub eq : n ≡ times * w
 
 -- each record is w bytes wide
 abbrev pub Wide : ℕ → List (List ℕ) → Type 0

@@ -1,20 +1,20 @@
--- Two runs cut, the two inner pieces turned and each half merged: the whole is merged. The proofs of `merge_counted` and `merge` cite
+-- Two runs cut, the two inner pieces turned and each half merged: the whole is merged. The proof of `merge` cites
 -- it. Assumes nothing.
 use mathlib.Core.Path.{_≡_, refl, sym, ap, ap₂, subst, _∙_}
 use mathlib.Core.List.{List, [], _∷_, _++_, append-assoc, append-nil}
-use Prim.Native.Nat.{ℕ, zero, suc, _+_, _-_, _*_, _/_, _≤_, _<_}
-use native.Mathlib.Nat.{mul-le-mul-left, le-of-mul-le-mul-right, mul-div-cancel}
+use Prim.Native.Nat.{ℕ, zero, suc, _+_, _-_, _*_, _≤_, _<_}
+use native.Mathlib.Nat.{mul-le-mul-left}
 use native.Mathlib.Omega.{arith}
 use lib.ListN.{length, take, drop, length-drop, length-append, take-append-drop, drop-of-length-le}
 use lib.Seq.{take-all, length-take-le, take-at, drop-at}
 use borrow.Rule.Slice.PartMut.{putMid}
 use Rattle.base.specs.Lists.{flat}
 use Rattle.insertion.specs.Sorted.{insertAll, Up}
-use Rattle.insertion.specs.Runs.{bytesBefore, Wide, Mult}
+use Rattle.insertion.specs.Runs.{bytesBefore, Wide}
 use Rattle.insertion.proofs.SortedLaws.{take-from, take-keeps-up}
 use Rattle.insertion.proofs.ByteOrder.{bytes-le-lt, bytes-asym}
 use Rattle.insertion.proofs.RunLaws.{flat-append, flat-length}
-use Rattle.merging.specs.Merging.{Two, Parted, Joined, TwoRuns, Merged}
+use Rattle.merging.specs.Merging.{Two, Parted, Merged}
 use Rattle.merging.proofs.MergeLaws.{drop-from, merge-halves, insertAll-nothing}
 use Rattle.merging.proofs.RotateLaws.{turned, lent-length}
 use Rattle.merging.proofs.CutLaws.{bytes-same}
@@ -77,8 +77,8 @@ module _ (w n m i j : ℕ) (l : List ℕ) (pos : 0 < w) (len : length l ≡ (n +
   -- the bytes after the turn, after the lower half, after the upper half
   module _ (r₁ q₁ : List ℕ) (e₁ : r₁ ≡ drop ((n - i) * w) (take ((n + j) * w - i * w) (drop (i * w) l)) ++ take ((n - i) * w) (take ((n + j) * w - i * w) (drop (i * w) l)))
       (f₁ : q₁ ≡ putMid (i * w) ((n + j) * w - i * w) l r₁) (s₁ : length q₁ ≡ length l)
-      (r₂ q₂ : List ℕ) (e₂ : Joined w i j (take ((i + j) * w - 0) (drop 0 q₁)) r₂) (f₂ : q₂ ≡ r₂ ++ drop ((i + j) * w - 0) (drop 0 q₁)) (s₂ : length q₂ ≡ length q₁)
-      (r₃ q₃ : List ℕ) (e₃ : Joined w (n - i) (m - j) (take (length q₂ - (i + j) * w) (drop ((i + j) * w) q₂)) r₃) (f₃ : q₃ ≡ putMid ((i + j) * w) (length q₂ - (i + j) * w) q₂ r₃) (s₃ : length q₃ ≡ length q₂) where
+      (r₂ q₂ : List ℕ) (e₂ : Merged w i j (take ((i + j) * w - 0) (drop 0 q₁)) r₂) (f₂ : q₂ ≡ r₂ ++ drop ((i + j) * w - 0) (drop 0 q₁)) (s₂ : length q₂ ≡ length q₁)
+      (r₃ q₃ : List ℕ) (e₃ : Merged w (n - i) (m - j) (take (length q₂ - (i + j) * w) (drop ((i + j) * w) q₂)) r₃) (f₃ : q₃ ≡ putMid ((i + j) * w) (length q₂ - (i + j) * w) q₂ r₃) (s₃ : length q₃ ≡ length q₂) where
     module _ (xs ys : List (List ℕ)) (h : Two w n m l xs ys) where
       abbrev x₁ : List (List ℕ)
       x₁ = take i xs
@@ -180,7 +180,7 @@ module _ (w n m i j : ℕ) (l : List ℕ) (pos : 0 < w) (len : length l ≡ (n +
           ∙ ap flat (sym (merge-halves bytesBefore bytes-le-lt bytes-asym bytes-same x₁ x₂ y₁ y₂ (up-whole i xs (h .first-up)) (up-whole j ys (h .second-up)) (p .first-low xs ys h) (p .second-low xs ys h))
           ∙ ap₂ (insertAll bytesBefore) (take-append-drop j ys) (take-append-drop i xs))
 
-    joined-halves : Joined w n m l q₃
+    joined-halves : Merged w n m l q₃
     joined-halves = record { len = s₃ ∙ s₂ ∙ s₁; held = λ xs ys h. joined-held xs ys h }
 
 turned-length : (k : ℕ) (l : List ℕ) → length (drop k l ++ take k l) ≡ length l
@@ -200,7 +200,7 @@ module _ (w n m i j : ℕ) (l : List ℕ) (pos : 0 < w) (len : length l ≡ (n +
       put-length (i * w) ((n + j) * w) l r₁ (omega (arith, z .first, z .inner)) (omega (arith, z .all, z .second, z .inner))
       (ap length e₁ ∙ turned-length ((n - i) * w) (take ((n + j) * w - i * w) (drop (i * w) l)) ∙ lent-length (i * w) ((n + j) * w) l (omega (arith, z .all, z .second, z .inner)))
 
-  module _ (r₂ : List ℕ) (e₂ : Joined w i j (take ((i + j) * w - 0) (drop 0 turned-part)) r₂) where
+  module _ (r₂ : List ℕ) (e₂ : Merged w i j (take ((i + j) * w - 0) (drop 0 turned-part)) r₂) where
     abbrev low-part : List ℕ
     low-part = r₂ ++ drop ((i + j) * w - 0) (drop 0 turned-part)
 
@@ -216,13 +216,13 @@ module _ (w n m i j : ℕ) (l : List ℕ) (pos : 0 < w) (len : length l ≡ (n +
     pub high-size : length (take (length low-part - (i + j) * w) (drop ((i + j) * w) low-part)) ≡ (n - i + (m - j)) * w
     high-size = high-lent ∙ omega (arith, low-part-len, turned-part-len, z .all, z .first, z .second, z .low, z .high)
 
-    pub joined : (r₃ : List ℕ) → Joined w (n - i) (m - j) (take (length low-part - (i + j) * w) (drop ((i + j) * w) low-part)) r₃ → Joined w n m l (putMid ((i + j) * w) (length low-part - (i + j) * w) low-part r₃)
+    pub joined : (r₃ : List ℕ) → Merged w (n - i) (m - j) (take (length low-part - (i + j) * w) (drop ((i + j) * w) low-part)) r₃ → Merged w n m l (putMid ((i + j) * w) (length low-part - (i + j) * w) low-part r₃)
     joined r₃ e₃ =
         joined-halves w n m i j l pos len p r₁ turned-part e₁ refl turned-part-len r₂ low-part e₂ refl low-part-len r₃ (putMid ((i + j) * w) (length low-part - (i + j) * w) low-part r₃) e₃ refl
         (put-length ((i + j) * w) (length low-part) low-part r₃ (omega (arith, low-fits, low-part-len, turned-part-len)) (omega arith) (e₃ .len ∙ high-lent))
 
 -- one of the runs is empty
-pub joined-second : (w n m : ℕ) (l : List ℕ) → n ≡ 0 → Joined w n m l l
+pub joined-second : (w n m : ℕ) (l : List ℕ) → n ≡ 0 → Merged w n m l l
 unfolding flat
 joined-second w n m l z = record { len = refl; held = λ xs ys h. go xs ys h (omega (arith, h .first-count)) }
   where
@@ -230,55 +230,10 @@ joined-second w n m l z = record { len = refl; held = λ xs ys h. go xs ys h (om
     go [] ys h e = h .bytes ∙ ap flat (sym (insertAll-nothing bytesBefore bytes-le-lt bytes-asym bytes-same ys (h .second-up)))
     go (x ∷ xs) ys h e = absurd (omega arith)
 
-pub joined-first : (w n m : ℕ) (l : List ℕ) → m ≡ 0 → Joined w n m l l
+pub joined-first : (w n m : ℕ) (l : List ℕ) → m ≡ 0 → Merged w n m l l
 unfolding flat insertAll
 joined-first w n m l z = record { len = refl; held = λ xs ys h. go xs ys h (omega (arith, h .second-count)) }
   where
     go : (xs ys : List (List ℕ)) → Two w n m l xs ys → length ys ≡ 0 → l ≡ flat (insertAll bytesBefore ys xs)
     go xs [] h e = h .bytes ∙ append-nil (flat xs)
     go xs (y ∷ ys) h e = absurd (omega arith)
-
--- in bytes: the counts are those of the whole records
-mult-div : {w n : ℕ} → 0 < w → Mult w n → n / w * w ≡ n
-mult-div {w} {n} pos k = ap (λ (x : ℕ). x / w * w) (k .eq) ∙ ap (λ (x : ℕ). x * w) (mul-div-cancel (k .times) pos) ∙ sym (k .eq)
-
-mult-minus : {w a b : ℕ} → a ≤ b → 0 < w → Mult w a → Mult w b → Mult w (b - a)
-mult-minus {w} {a} {b} h pos x y =
-    let t : x .times * w ≤ y .times * w = omega (arith, x .eq, y .eq) in
-    let u : x .times ≤ y .times = le-of-mul-le-mul-right t pos in
-    let v : y .times ≡ y .times - x .times + x .times = omega arith in
-    let s : y .times * w ≡ (y .times - x .times) * w + x .times * w = ap (λ (z : ℕ). z * w) v ∙ omega arith in
-    record { times = y .times - x .times; eq = omega (arith, x .eq, y .eq, s) }
-
-module _ {w mid : ℕ} {part : List ℕ} (h : TwoRuns w mid part) where
-  first-bytes : mid / w * w ≡ mid
-  first-bytes = mult-div (h .some) (h .first)
-
-  second-bytes : (length part - mid) / w * w ≡ length part - mid
-  second-bytes = mult-div (h .some) (mult-minus (h .fits) (h .some) (h .first) (h .all))
-
-  pub counted : length part ≡ (mid / w + (length part - mid) / w) * w
-  counted =
-      let s : (mid / w + (length part - mid) / w) * w ≡ mid / w * w + (length part - mid) / w * w = omega arith in
-      omega (arith, s, first-bytes, second-bytes, h .fits)
-
-  count-of : (n : ℕ) (l : List ℕ) (zs : List (List ℕ)) → Wide w zs → n / w * w ≡ n → length l ≡ n → l ≡ flat zs → length zs ≡ n / w
-  count-of n l zs f q k e =
-      let t : length zs * w ≡ n / w * w = sym (flat-length w zs f) ∙ sym (ap length e) ∙ k ∙ sym q in
-      let a : length zs * w ≤ n / w * w = omega arith in
-      let b : n / w * w ≤ length zs * w = omega arith in
-      omega (arith, le-of-mul-le-mul-right a (h .some), le-of-mul-le-mul-right b (h .some))
-
-  pub merged : (l : List ℕ) → Joined w (mid / w) ((length part - mid) / w) part l → Merged w mid part l
-  merged l k = record {
-    len = k .len;
-    held = λ xs ys wx wy ux uy ex ey. k .held xs ys (record {
-      first-count = count-of mid (take mid part) xs wx first-bytes (length-take-le mid part (h .fits)) ex;
-      second-count = count-of (length part - mid) (drop mid part) ys wy second-bytes (length-drop mid part) ey;
-      first-wide = wx;
-      second-wide = wy;
-      first-up = ux;
-      second-up = uy;
-      bytes = sym (take-append-drop mid part) ∙ ap₂ (λ (x y : List ℕ). x ++ y) ex ey;
-    });
-  }

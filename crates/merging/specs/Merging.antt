@@ -7,7 +7,7 @@ use Prim.Native.Nat.{ℕ, suc, _+_, _-_, _*_, _≤_, _<_}
 use lib.ListN.{length, take, drop}
 use Rattle.base.specs.Lists.{flat}
 use Rattle.insertion.specs.Sorted.{insertAll, Up}
-use Rattle.insertion.specs.Runs.{bytesBefore, Wide, Mult}
+use Rattle.insertion.specs.Runs.{bytesBefore, Wide}
 
 -- the first s bytes and the last s have changed places
 abbrev pub swapped : ℕ → List ℕ → List ℕ
@@ -43,19 +43,6 @@ pub record Parted (w n m : ℕ) (part : List ℕ) (i j : ℕ) : Type 0 where
   pub second-low : (xs ys : List (List ℕ)) → Two w n m part xs ys → (l r : List ℕ) → List·Memᴰ l (take j ys) → List·Memᴰ r (drop i xs) → bytesBefore r l ≡ false
 
 -- whatever rising records the two runs held, the part is all of them now, rising
-pub record Joined (w n m : ℕ) (part₀ part : List ℕ) : Type 0 where
+pub record Merged (w n m : ℕ) (part₀ part : List ℕ) : Type 0 where
   pub len : length part ≡ length part₀
   pub held : (xs ys : List (List ℕ)) → Two w n m part₀ xs ys → part ≡ flat (insertAll bytesBefore ys xs)
-
--- two runs of whole records, the second from mid on
-pub record TwoRuns (w mid : ℕ) (part : List ℕ) : Type 0 where
-  pub some : 0 < w
-  pub fits : mid ≤ length part
-  pub first : Mult w mid
-  pub all : Mult w (length part)
-
--- whatever rising records the part held before mid and from mid on, it is all of them now, rising
-pub record Merged (w mid : ℕ) (part₀ part : List ℕ) : Type 0 where
-  pub len : length part ≡ length part₀
-  pub held : (xs ys : List (List ℕ)) → Wide w xs → Wide w ys → Up bytesBefore xs → Up bytesBefore ys → take mid part₀ ≡ flat xs → drop mid part₀ ≡ flat ys
-      → part ≡ flat (insertAll bytesBefore ys xs)

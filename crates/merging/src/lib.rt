@@ -5,7 +5,7 @@ ghost use mathlib.Core.List.{_++_};
 ghost use Prim.Native.Nat.{_+_, _-_, _*_, _≤_, _<_};
 ghost use lib.ListN.{length, take, drop};
 ghost use Rattle.insertion.specs.Runs.{bytesBefore};
-ghost use Rattle.merging.specs.Merging.{swapped, GoesIn, Parted, Joined, TwoRuns, Merged};
+ghost use Rattle.merging.specs.Merging.{swapped, GoesIn, Parted, Merged};
 
 // In records: how many of the first run, and how many of the second, come into the lower half.
 pub struct Cut {
@@ -144,9 +144,9 @@ pub fn find_cut(part: &[u8], n: usize, m: usize, w: usize) -> Cut
 }
 
 // Merges n records and the m behind them: cut, the two inner pieces change places, and each half is merged.
-pub fn merge_counted(part: &mut [u8], n: usize, m: usize, w: usize)
+pub fn merge(part: &mut [u8], n: usize, m: usize, w: usize)
     requires { ⌜ (0 < w) × (length (now part) ≡ (n + m) * w) ⌝ }
-    ensures { λ _. ⌜ Joined w n m (now (part .entry)) (now (part .exit)) ⌝ }
+    ensures { λ _. ⌜ Merged w n m (now (part .entry)) (now (part .exit)) ⌝ }
 {
     if n == 0 {
         return;
@@ -161,16 +161,6 @@ pub fn merge_counted(part: &mut [u8], n: usize, m: usize, w: usize)
     let high = (n + j) * w;
     rotate(&mut part[low..high], (n - i) * w);
     let half = (i + j) * w;
-    merge_counted(&mut part[0..half], i, j, w);
-    merge_counted(&mut part[half..], n - i, m - j, w);
-}
-
-// Merges the records before mid and those from mid on.
-pub fn merge(part: &mut [u8], mid: usize, w: usize)
-    requires { ⌜ TwoRuns w mid (now part) ⌝ }
-    ensures { λ _. ⌜ Merged w mid (now (part .entry)) (now (part .exit)) ⌝ }
-{
-    let n = mid / w;
-    let m = (part.len() - mid) / w;
-    merge_counted(part, n, m, w);
+    merge(&mut part[0..half], i, j, w);
+    merge(&mut part[half..], n - i, m - j, w);
 }

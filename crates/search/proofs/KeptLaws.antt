@@ -7,7 +7,7 @@ use Prim.Native.Nat.{ℕ, zero, suc, _+_, _-_, _*_, _≤_, _<_}
 use native.Mathlib.Nat.{mul-le-mul, mul-le-mul-right}
 use native.Mathlib.Omega.{arith}
 use borrow.Rule.Slice.PartMut.{putMid}
-use lib.ListN.{length, take, drop, length-drop, length-append, take-append-drop}
+use lib.ListN.{length, take, drop, length-drop, length-append, length-map, take-append-drop}
 use lib.Seq.{length-take-le, take-at, drop-at, drop-drop, drop-append-add}
 use Rattle.base.specs.Bounds.{maxAtoms, maxRecord}
 use Rattle.base.specs.Lists.{flat}
@@ -16,7 +16,7 @@ use Rattle.insertion.specs.Sorted.{insertBy, insertAll, Up}
 use Rattle.insertion.specs.Runs.{bytesBefore, Wide}
 use Rattle.insertion.proofs.ByteOrder.{bytes-le-lt, bytes-asym}
 use Rattle.insertion.proofs.SortedLaws.{insertAll-map, insertAll-keeps-up}
-use Rattle.merging.specs.Merging.{TwoRuns, Merged}
+use Rattle.merging.specs.Merging.{Two, Merged}
 use Rattle.merging.proofs.HalvesLaws.{merged-records}
 use Rattle.models.specs.StableModels.{Interpretation}
 use Rattle.models.specs.Listing.{recordSize, recordOf}
@@ -238,28 +238,25 @@ module _ (n : ℕ) where
       lent-is : take (end * w - from * w) (drop (from * w) part) ≡ X ++ Y
       lent-is = ap (take (end * w - from * w)) behind ∙ take-at (X ++ Y) Z (end * w - from * w) both-length
 
-      first-length : length X ≡ (mid - from) * w
-      first-length = rising-length xs ∙ ap (λ (k : ℕ). k * w) (let q : length xs ≡ mid - from = omega (arith, em) in q)
+      -- the part holds two rising runs
+      two : Two w (length xs) (length ys) (take (end * w - from * w) (drop (from * w) part)) (map (recordOf n) (sorted n xs)) (map (recordOf n) (sorted n ys))
+      two = record {
+        first-count = length-map (sorted n xs) (recordOf n) ∙ sorted-length n xs;
+        second-count = length-map (sorted n ys) (recordOf n) ∙ sorted-length n ys;
+        first-wide = records-wide n (sorted n xs);
+        second-wide = records-wide n (sorted n ys);
+        first-up = sorted-up xs;
+        second-up = sorted-up ys;
+        bytes = lent-is;
+      }
 
-      merged-is : (new : List ℕ) → Merged w ((mid - from) * w) (take (end * w - from * w) (drop (from * w) part)) new → new ≡ rising n (xs ++ ys)
-      merged-is new g =
-          g .held (map (recordOf n) (sorted n xs)) (map (recordOf n) (sorted n ys)) (records-wide n (sorted n xs)) (records-wide n (sorted n ys)) (sorted-up xs) (sorted-up ys)
-          (ap (take ((mid - from) * w)) lent-is ∙ take-at X Y ((mid - from) * w) first-length) (ap (drop ((mid - from) * w)) lent-is ∙ drop-at X Y ((mid - from) * w) first-length)
-          ∙ rising-both xs ys
-
-      pub runs-merged : (new : List ℕ) → Merged w ((mid - from) * w) (take (end * w - from * w) (drop (from * w) part)) new
+      pub runs-merged : (new : List ℕ) → Merged w (length xs) (length ys) (take (end * w - from * w) (drop (from * w) part)) new
           → putMid (from * w) (end * w - from * w) part new ≡ take (from * w) old ++ (rising n (xs ++ ys) ++ drop ((from + length (xs ++ ys)) * w) old)
       runs-merged new g =
           let z : end ≡ from + length (xs ++ ys) = omega (arith, em, ee, length-append xs ys) in
           ap₂ (λ (a b : List ℕ). a ++ (new ++ b)) (ap (take (from * w)) part-is ∙ take-at A ((X ++ Y) ++ Z) (from * w) A-length)
           (ap (drop (end * w - from * w)) behind ∙ drop-at (X ++ Y) Z (end * w - from * w) both-length)
-          ∙ ap₂ (λ (l : List ℕ) (k : ℕ). A ++ (l ++ drop (k * w) old)) (merged-is new g) z
-
-times-minus : (a b w : ℕ) → a ≤ b → b * w - a * w ≡ (b - a) * w
-times-minus a b w h =
-    let e : b ≡ a + (b - a) = omega arith in
-    let q : b * w ≡ a * w + (b - a) * w = ap (λ (k : ℕ). k * w) e ∙ omega arith in
-    omega (arith, q)
+          ∙ ap₂ (λ (l : List ℕ) (k : ℕ). A ++ (l ++ drop (k * w) old)) (g .held (map (recordOf n) (sorted n xs)) (map (recordOf n) (sorted n ys)) two ∙ rising-both xs ys) z
 
 -- what the recursion lends to the merge
 module _ (goal : Goal) (n from mid end w : ℕ) (part : List ℕ) (is : goal ≡ goals.List) (ew : w ≡ recordSize n) (hm : from ≤ mid) (he : mid ≤ end) (room : RoomFor goal n end part) where
@@ -273,19 +270,20 @@ module _ (goal : Goal) (n from mid end w : ℕ) (part : List ℕ) (is : goal ≡
   pub start-fits : from * w ≤ end * w
   start-fits = mul-le-mul-right w (let q : from ≤ end = omega arith in q)
 
-  pub lent-runs : 0 < n → TwoRuns w ((mid - from) * w) (take (end * w - from * w) (drop (from * w) part))
+  pub width-some : 0 < n → 0 < w
   unfolding recordSize
-  lent-runs some =
-      let size : length (take (end * w - from * w) (drop (from * w) part)) ≡ end * w - from * w = length-take-le (end * w - from * w) (drop (from * w) part) (omega (arith, end-fits, length-drop (from * w) part)) in
-      let whole : end * w - from * w ≡ (end - from) * w = times-minus from end w (omega arith) in
-      let less : (mid - from) * w ≤ (end - from) * w = mul-le-mul-right w (let q : mid - from ≤ end - from = omega arith in q) in
-      record {
-        some = omega (arith, ew);
-        fits = omega (arith, size, whole, less);
-        first = record { times = mid - from; eq = refl };
-        all = record { times = end - from; eq = size ∙ whole };
-      }
+  width-some some = omega (arith, ew)
 
-  pub joins-listed : (new : List ℕ) → Merged w ((mid - from) * w) (take (end * w - from * w) (drop (from * w) part)) new → Joins goal n from mid end part (putMid (from * w) (end * w - from * w) part new)
+  pub lent-size : length (take (end * w - from * w) (drop (from * w) part)) ≡ (mid - from + (end - mid)) * w
+  lent-size =
+      let size : length (take (end * w - from * w) (drop (from * w) part)) ≡ end * w - from * w = length-take-le (end * w - from * w) (drop (from * w) part) (omega (arith, end-fits, length-drop (from * w) part)) in
+      let e : end ≡ from + (mid - from + (end - mid)) = omega arith in
+      let q : end * w ≡ from * w + (mid - from + (end - mid)) * w = ap (λ (k : ℕ). k * w) e ∙ omega arith in
+      omega (arith, size, q)
+
+  pub joins-listed : (new : List ℕ) → Merged w (mid - from) (end - mid) (take (end * w - from * w) (drop (from * w) part)) new → Joins goal n from mid end part (putMid (from * w) (end * w - from * w) part new)
   unfolding keptBy RoomFor
-  joins-listed new g old xs ys r em ee f = rw (is, ew) (runs-merged n from mid end old xs ys (subst (λ (q : Goal). RoomFor q n end old) is r) em ee part (rw is at f) new (rw ew at g))
+  joins-listed new g old xs ys r em ee f =
+      let a : mid - from ≡ length xs = omega (arith, em) in
+      let b : end - mid ≡ length ys = omega (arith, ee) in
+      rw (is, ew) (runs-merged n from mid end old xs ys (subst (λ (q : Goal). RoomFor q n end old) is r) em ee part (rw is at f) new (rw (ew, a, b) at g))

@@ -187,7 +187,7 @@ fn join(goal: Goal, n: usize, from: usize, mid: usize, end: usize, part: &mut [u
             let w = record_size(n);
             let start = from * w;
             let stop = end * w;
-            merge(&mut part[start..stop], (mid - from) * w, w);
+            merge(&mut part[start..stop], mid - from, end - mid, w);
         }
         Goal::Count(most) => {}
         Goal::First => {}

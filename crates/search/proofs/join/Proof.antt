@@ -1,6 +1,5 @@
 -- One law a goal; where records are listed, the two runs are merged (`joins-listed`).
-use Prim.Native.Nat.{_-_}
-use Rattle.search.proofs.KeptLaws.{times-fit, start-fits, end-fits, lent-runs, joins-listed, joins-count, joins-first, joins-settle, joins-sums}
+use Rattle.search.proofs.KeptLaws.{times-fit, start-fits, end-fits, width-some, lent-size, joins-listed, joins-count, joins-first, joins-settle, joins-sums}
 use native.Mathlib.Omega.{arith}
 use borrow.Author.Needs.{needs}
 use Rattle.search.proofs.join.Statement.{statement}
@@ -30,11 +29,11 @@ part-merge-end c = let a = c .before .before .before .before .args in let w = c 
 sub-merge-2 : tie.Need-sub-merge-2
 sub-merge-2 c = search needs
 
-mul-merge : tie.Need-mul-merge
-mul-merge c = let a = c .before .before .before .before .before .args in let w = c .before .record-size in omega (arith, times-fit (a .mid - a .from) (w .result) (omega (arith, c .before .before .before .before .before .pre .0 .2, c .before .before .before .before .before .pre .0 .3, c .before .before .before .before .before .pre .0 .4)) (w .ensures .1))
+sub-merge-3 : tie.Need-sub-merge-3
+sub-merge-3 c = search needs
 
 merge-requires : tie.Need-merge-requires
-merge-requires c κs = let a = c .before .before .before .before .before .args in let w = c .before .record-size in lent-runs (a .goal) (a .n) (a .from) (a .mid) (a .end) (w .result) (a .part .now) (c .before .before .enum-told .given .1) (w .ensures .0) (c .before .before .before .before .before .pre .0 .2) (c .before .before .before .before .before .pre .0 .3) (c .before .before .before .before .before .pre .1) (c .before .before .before .before .before .pre .0 .0)
+merge-requires c κs = let a = c .before .before .before .before .before .args in let w = c .before .record-size in (width-some (a .goal) (a .n) (a .from) (a .mid) (a .end) (w .result) (a .part .now) (c .before .before .enum-told .given .1) (w .ensures .0) (c .before .before .before .before .before .pre .0 .2) (c .before .before .before .before .before .pre .0 .3) (c .before .before .before .before .before .pre .1) (c .before .before .before .before .before .pre .0 .0), lent-size (a .goal) (a .n) (a .from) (a .mid) (a .end) (w .result) (a .part .now) (c .before .before .enum-told .given .1) (w .ensures .0) (c .before .before .before .before .before .pre .0 .2) (c .before .before .before .before .before .pre .0 .3) (c .before .before .before .before .before .pre .1))
 
 enum-known-goal : tie.Need-enum-known-goal
 enum-known-goal c = search needs
@@ -78,7 +77,7 @@ join-spec =
     part-merge-start
     part-merge-end
     sub-merge-2
-    mul-merge
+    sub-merge-3
     merge-requires
     enum-known-goal
     enum-told-2
