@@ -1,5 +1,5 @@
 -- What each goal writes of models: nothing for none, a record or sums for one (`keep`), and for two runs of models what it writes for
--- both together (`join`). Assumes nothing.
+-- both together (`combine`). Assumes nothing.
 use mathlib.Core.Path.{_≡_, refl, sym, ap, ap₂, subst, _∙_}
 use mathlib.Core.Logic.{_⊎_, inl, inr}
 use mathlib.Core.List.{List, [], _∷_, _++_, map, append-assoc, append-nil, List·Memᴰ·not-nil, List·Memᴰ·cases-cons}
@@ -25,7 +25,7 @@ use Rattle.records.specs.Written.{sorted, addedTo, summed}
 use Rattle.records.proofs.OrderLaws.{sorted-length}
 use Rattle.search.specs.declared.Goal.{Goal}
 use Rattle.search.specs.declared.Goal.the-variants as goals
-use Rattle.search.specs.Visits.{rising, firstKept, keptBy, RoomFor, Joins}
+use Rattle.search.specs.Visits.{rising, firstKept, keptBy, RoomFor, Combines}
 
 -- ---- the room that a goal needs
 -- less room for fewer models, and as much in a part of the same length
@@ -133,21 +133,21 @@ sums-append n [] ys part = refl
 sums-append n (x ∷ xs) ys part = sums-append n xs ys (addedTo n part x)
 
 module _ (goal : Goal) (n from mid end : ℕ) (part : List ℕ) where
-  pub joins-count : (most : ℕ) → goal ≡ goals.Count most → Joins goal n from mid end part part
+  pub combines-count : (most : ℕ) → goal ≡ goals.Count most → Combines goal n from mid end part part
   unfolding keptBy
-  joins-count most e old xs ys room em ee f = f ∙ rw e refl
+  combines-count most e old xs ys room em ee f = f ∙ rw e refl
 
-  pub joins-first : goal ≡ goals.First → Joins goal n from mid end part part
+  pub combines-first : goal ≡ goals.First → Combines goal n from mid end part part
   unfolding keptBy
-  joins-first e old xs ys room em ee f = f ∙ rw (e, em) (first-append n from xs ys old)
+  combines-first e old xs ys room em ee f = f ∙ rw (e, em) (first-append n from xs ys old)
 
-  pub joins-settle : goal ≡ goals.Settle → Joins goal n from mid end part part
+  pub combines-settle : goal ≡ goals.Settle → Combines goal n from mid end part part
   unfolding keptBy
-  joins-settle e old xs ys room em ee f = f ∙ rw e refl
+  combines-settle e old xs ys room em ee f = f ∙ rw e refl
 
-  pub joins-sums : goal ≡ goals.Sums → Joins goal n from mid end part part
+  pub combines-sums : goal ≡ goals.Sums → Combines goal n from mid end part part
   unfolding keptBy
-  joins-sums e old xs ys room em ee f = f ∙ rw e (sums-append n xs ys old)
+  combines-sums e old xs ys room em ee f = f ∙ rw e (sums-append n xs ys old)
 
 -- ---- two runs of records
 records-wide : (n : ℕ) (ms : List Interpretation) → Wide (recordSize n) (map (recordOf n) ms)
@@ -281,9 +281,9 @@ module _ (goal : Goal) (n from mid end w : ℕ) (part : List ℕ) (is : goal ≡
       let q : end * w ≡ from * w + (mid - from + (end - mid)) * w = ap (λ (k : ℕ). k * w) e ∙ omega arith in
       omega (arith, size, q)
 
-  pub joins-listed : (new : List ℕ) → Merged w (mid - from) (end - mid) (take (end * w - from * w) (drop (from * w) part)) new → Joins goal n from mid end part (putMid (from * w) (end * w - from * w) part new)
+  pub combines-listed : (new : List ℕ) → Merged w (mid - from) (end - mid) (take (end * w - from * w) (drop (from * w) part)) new → Combines goal n from mid end part (putMid (from * w) (end * w - from * w) part new)
   unfolding keptBy RoomFor
-  joins-listed new g old xs ys r em ee f =
+  combines-listed new g old xs ys r em ee f =
       let a : mid - from ≡ length xs = omega (arith, em) in
       let b : end - mid ≡ length ys = omega (arith, ee) in
       rw (is, ew) (runs-merged n from mid end old xs ys (subst (λ (q : Goal). RoomFor q n end old) is r) em ee part (rw is at f) new (rw (ew, a, b) at g))

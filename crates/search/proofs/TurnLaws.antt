@@ -22,10 +22,10 @@ use Rattle.leaf.specs.Searchable.{Searchable}
 use Rattle.leaf.proofs.FoundLaws.{found-le}
 use Rattle.search.specs.declared.Visit.{Visit}
 use Rattle.search.specs.Decided.{Decided, undecided, Turned}
-use Rattle.search.specs.Visits.{RoomFor, Kept, Searched, Joins}
+use Rattle.search.specs.Visits.{RoomFor, Kept, Searched, Combines}
 use Rattle.search.proofs.QuickLaws as quick
 use Rattle.search.proofs.KeptLaws.{room-less, room-same}
-use Rattle.search.proofs.VisitLaws.{searched-count, seen-few, kept-after, searched-joined}
+use Rattle.search.proofs.VisitLaws.{searched-count, seen-few, kept-after, searched-combined}
 use Rattle.search.proofs.StepLaws as steps
 
 pub undecided-length : (atoms : List ℕ) (left : ℕ) → left ≤ length atoms → length (undecided atoms left) ≡ left
@@ -159,20 +159,20 @@ module _ {book rows atoms : List ℕ} {n : ℕ} (w : Searchable book rows atoms 
           both-room : RoomFor (v .goal) n (v₂ .count) p
           both-room = room-less (v .goal) n (v₂ .count) (v .count + (length firstHalf + length secondHalf)) p end-low (halves-kept .room)
 
-          -- what `join` asks
-          pub join-counts : v .count + 2 ^ left ≤ steps.limit → (v .count ≤ v₁ .count) × (v₁ .count ≤ v₂ .count) × (v₂ .count ≤ steps.limit)
-          join-counts h = (
+          -- what `combine` asks
+          pub combine-counts : v .count + 2 ^ left ≤ steps.limit → (v .count ≤ v₁ .count) × (v₁ .count ≤ v₂ .count) × (v₂ .count ≤ steps.limit)
+          combine-counts h = (
             omega (arith, searched-count asked n firstHalf v p v₁ p₁ a),
             omega (arith, searched-count asked n secondHalf v₁ p₁ v₂ p₂ b),
             omega (arith, second-fits h, searched-count asked n secondHalf v₁ p₁ v₂ p₂ b, seen-few asked n secondHalf v₁ p₁ v₂ p₂ b, half-few (settingOf atoms (bitOr standing (single i)))),
           )
 
-          pub join-room : length p₂ ≡ length p → RoomFor (v .goal) n (v₂ .count) p₂
-          join-room l = room-same (v .goal) n (v₂ .count) p p₂ l both-room
+          pub combine-room : length p₂ ≡ length p → RoomFor (v .goal) n (v₂ .count) p₂
+          combine-room l = room-same (v .goal) n (v₂ .count) p p₂ l both-room
 
-          pub both-searched : (p₃ : List ℕ) → Joins (v .goal) n (v .count) (v₁ .count) (v₂ .count) p₂ p₃ → Searched asked n (foundBy leaf U (settingOf atoms standing)) v p v₂ p₃
+          pub both-searched : (p₃ : List ℕ) → Combines (v .goal) n (v .count) (v₁ .count) (v₂ .count) p₂ p₃ → Searched asked n (foundBy leaf U (settingOf atoms standing)) v p v₂ p₃
           both-searched p₃ j =
-              subst (λ (ms : List Interpretation). Searched asked n ms v p v₂ p₃) (sym halves-are) (searched-joined asked n firstHalf secondHalf v p v₁ p₁ v₂ p₂ p₃ a b both-room j)
+              subst (λ (ms : List Interpretation). Searched asked n ms v p v₂ p₃) (sym halves-are) (searched-combined asked n firstHalf secondHalf v p v₁ p₁ v₂ p₂ p₃ a b both-room j)
 
   -- no atom is left: the setting itself
   module _ (e : left ≡ 0) (asked : List ℕ) (v : Visit) (p : List ℕ) where

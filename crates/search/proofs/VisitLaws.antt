@@ -14,7 +14,7 @@ use Rattle.records.proofs.PackLaws.{bit-le}
 use Rattle.search.specs.declared.Goal.{Goal}
 use Rattle.search.specs.declared.Goal.the-variants as goals
 use Rattle.search.specs.declared.Visit.{Visit}
-use Rattle.search.specs.Visits.{Asks, weightOf, totalOf, keptBy, RoomFor, reaches, stopped, Kept, visited, Searched, Joins}
+use Rattle.search.specs.Visits.{Asks, weightOf, totalOf, keptBy, RoomFor, reaches, stopped, Kept, visited, Searched, Combines}
 use Rattle.search.proofs.KeptLaws.{room-less, room-same, kept-none}
 
 -- ---- the counters
@@ -117,7 +117,7 @@ module _ (asked : List ℕ) (n : ℕ) where
     both-visited : v₂ ≡ visited asked (a .seen ++ b .seen) v
     both-visited = b .visit-is ∙ ap (visited asked (b .seen)) (a .visit-is) ∙ visited-append asked (a .seen) (b .seen) v
 
-    both-kept : RoomFor (v .goal) n (v₂ .count) p → Joins (v .goal) n (v .count) (v₁ .count) (v₂ .count) p₂ p₃ → p₃ ≡ keptBy (v .goal) n (v .count) (a .seen ++ b .seen) p
+    both-kept : RoomFor (v .goal) n (v₂ .count) p → Combines (v .goal) n (v .count) (v₁ .count) (v₂ .count) p₂ p₃ → p₃ ≡ keptBy (v .goal) n (v .count) (a .seen ++ b .seen) p
     both-kept r j =
         j p (a .seen) (b .seen) r (searched-count ms v p v₁ p₁ a) (searched-count ns v₁ p₁ v₂ p₂ b)
         (b .part-is ∙ ap₂ (λ (g : Goal) (q : List ℕ). keptBy g n (v₁ .count) (b .seen) q) (searched-goal ms v p v₁ p₁ a) (a .part-is))
@@ -131,8 +131,8 @@ module _ (asked : List ℕ) (n : ℕ) where
         let u : v₁ ≡ v = a .visit-is ∙ ap (λ (l : List Interpretation). visited asked l v) s ∙ visited-none asked v in
         ap₂ (λ (x y : List Interpretation). x ++ y) s (b .still (ap stopped u ∙ e))
 
-    pub searched-joined : RoomFor (v .goal) n (v₂ .count) p → Joins (v .goal) n (v .count) (v₁ .count) (v₂ .count) p₂ p₃ → Searched asked n (ms ++ ns) v p v₂ p₃
-    searched-joined r j = go (stopped v₁) refl
+    pub searched-combined : RoomFor (v .goal) n (v₂ .count) p → Combines (v .goal) n (v .count) (v₁ .count) (v₂ .count) p₂ p₃ → Searched asked n (ms ++ ns) v p v₂ p₃
+    searched-combined r j = go (stopped v₁) refl
       where
         go : (c : Bool) → stopped v₁ ≡ c → Searched asked n (ms ++ ns) v p v₂ p₃
         go false e = record {

@@ -97,7 +97,7 @@ pub record Searched (asked : List ℕ) (n : ℕ) (ms : List Interpretation) (v :
   pub still : stopped v ≡ true → seen ≡ []
 
 -- Models were met in two runs, one after the other: the part is what it would be had they been met in one.
-abbrev pub Joins : Goal → ℕ → ℕ → ℕ → ℕ → List ℕ → List ℕ → Type 0
-Joins goal n from mid end part part′ =
+abbrev pub Combines : Goal → ℕ → ℕ → ℕ → ℕ → List ℕ → List ℕ → Type 0
+Combines goal n from mid end part part′ =
     (old : List ℕ) (xs ys : List Interpretation) → RoomFor goal n end old → mid ≡ from + length xs → end ≡ mid + length ys
     → part ≡ keptBy goal n mid ys (keptBy goal n from xs old) → part′ ≡ keptBy goal n from (xs ++ ys) old

@@ -15,7 +15,7 @@ ghost use Rattle.plan.specs.Plan.{planSize, planAtoms, planMasks, planNogoods, 
 ghost use Rattle.leaf.specs.Found.{atSetting, foundBy};
 ghost use Rattle.leaf.specs.Searchable.{Searchable};
 ghost use Rattle.search.specs.Decided.{undecided, Turned};
-ghost use Rattle.search.specs.Visits.{Asks, weightOf, keptBy, RoomFor, stopped, Kept, visited, Searched, Joins};
+ghost use Rattle.search.specs.Visits.{Asks, weightOf, keptBy, RoomFor, stopped, Kept, visited, Searched, Combines};
 use base::MAX_ATOMS;
 use base::MAX_NAMES;
 use base::wide;
@@ -177,10 +177,10 @@ fn promising(plan: &[u32], sizes: Sizes, turn: Turn) -> bool
 
 // Makes of two runs of models, met one after the other, one: a listing's records of the second run, which rise, are inserted among those
 // of the first.
-fn join(goal: Goal, n: usize, from: usize, mid: usize, end: usize, part: &mut [u8])
+fn combine(goal: Goal, n: usize, from: usize, mid: usize, end: usize, part: &mut [u8])
     requires { ⌜ (0 < n) × (n ≤ maxAtoms) × (from ≤ mid) × (mid ≤ end) × (end ≤ 4294967296) ⌝ }
     requires { ⌜ RoomFor goal n end (now part) ⌝ }
-    ensures { λ _. ⌜ Joins goal n from mid end (now (part .entry)) (now (part .exit)) ⌝ }
+    ensures { λ _. ⌜ Combines goal n from mid end (now (part .entry)) (now (part .exit)) ⌝ }
 {
     match goal {
         Goal::List => {
@@ -252,6 +252,6 @@ pub fn search(
     };
     let both = search(book, rows, plan, sizes, with, hints, asked, part, half);
     let goal = v.goal;
-    join(goal, sizes.n, v.count, half.count, both.count, part);
+    combine(goal, sizes.n, v.count, half.count, both.count, part);
     both
 }

@@ -4,7 +4,7 @@ use mathlib.Core.Path.{sym, _∙_}
 use borrow.Author.Tests.{not-true}
 use Rattle.search.proofs.VisitLaws.{searched-stopped}
 use Rattle.search.proofs.StepLaws.{none-searched, count-fits}
-use Rattle.search.proofs.TurnLaws.{atoms-count, shift-is, none-promised, leaf-kept, leaf-searched, turned-first, turned-second, first-kept, first-fits, second-kept, second-fits, join-counts, join-room, both-searched}
+use Rattle.search.proofs.TurnLaws.{atoms-count, shift-is, none-promised, leaf-kept, leaf-searched, turned-first, turned-second, first-kept, first-fits, second-kept, second-fits, combine-counts, combine-room, both-searched}
 use borrow.Author.Needs.{needs}
 use native.Mathlib.Omega.{arith}
 use Prim.Native.Nat.{ℕ, _-_, _<_}
@@ -13,7 +13,7 @@ use borrow.Fn.PlainCycle.{Measures, is, falls, and}
 use Rattle.search.proofs.search.Reads as search′
 use Rattle.search.proofs.search.Kinds as search-kinds
 use Rattle.search.proofs.+search.Lts-search as search-lts
-use Rattle.search.proofs.join.Reads as join-reads
+use Rattle.search.proofs.combine.Reads as combine-reads
 use Rattle.search.proofs.promising.Reads as promising-reads
 use Rattle.search.proofs.stops.Reads as stops-reads
 use Rattle.search.proofs.visit_setting.Reads as visit-setting-reads
@@ -32,7 +32,7 @@ search-below t = and 6 search-kinds.ps (falls 6 search-kinds.ps _<_ μ-search t)
 -- what each callee asks and tells
 abbrev claims : ℕ → search-lts.Claims
 claims t =
-    (stops-reads.Asked, stops-reads.Learnt, promising-reads.Asked, promising-reads.Learnt, visit-setting-reads.Asked, visit-setting-reads.Learnt, search-below t, search′.Post, join-reads.Asked, join-reads.Learnt)
+    (stops-reads.Asked, stops-reads.Learnt, promising-reads.Asked, promising-reads.Learnt, visit-setting-reads.Asked, visit-setting-reads.Learnt, search-below t, search′.Post, combine-reads.Asked, combine-reads.Learnt)
 
 search-stops-requires : (t : ℕ) → search-lts.Need-stops-requires (claims t) (search-at t) search′.Post
 search-stops-requires t c κs = search needs
@@ -97,13 +97,13 @@ search-search-requires-2 t c κs =
     let half = c .before .before .before .before .before .before .before .search .ensures in
     (omega (arith, some, c .before .before .before .before .before .before .before .before .before .before .before .before .before .before .before .before .before .before .before .before .before .before .before .pre .0), (h .0, (h .1 .0, (turned-second (h .0) (h .1 .1 .0) some (a .sizes .branching - a .turn .left) (shift-is (h .1 .0) (a .turn .left)), (second-kept (h .0) (h .1 .1 .0) some (a .sizes .branching - a .turn .left) (shift-is (h .1 .0) (a .turn .left)) (a .asked .now) (a .v) (a .part .now) (h .1 .1 .1 .0) _ _ half (search needs), (second-fits (h .0) (h .1 .1 .0) some (a .sizes .branching - a .turn .left) (shift-is (h .1 .0) (a .turn .left)) (a .asked .now) (a .v) (a .part .now) (h .1 .1 .1 .0) _ _ half (h .1 .1 .1 .1 .0), search needs))))))
 
-search-join-requires : (t : ℕ) → search-lts.Need-join-requires (claims t) (search-at t) search′.Post
-search-join-requires t c κs =
+search-combine-requires : (t : ℕ) → search-lts.Need-combine-requires (claims t) (search-at t) search′.Post
+search-combine-requires t c κs =
     let a = c .before .before .before .before .before .before .before .before .before .before .before .before .before .before .before .before .before .before .before .before .before .before .before .before .before .before .before .before .before .args in
     let h = c .before .before .before .before .before .before .before .before .before .before .before .before .before .before .before .before .before .before .before .before .before .before .before .before .before .before .before .before .before .pre .1 in
     let some = c .before .before .before .before .before .before .before .before .before .before .before .before .before .before .before .before .before .before .if3 .left in
-    let counts = join-counts (h .0) (h .1 .1 .0) some (a .sizes .branching - a .turn .left) (shift-is (h .1 .0) (a .turn .left)) (a .asked .now) (a .v) (a .part .now) (h .1 .1 .1 .0) _ _ (c .before .before .before .before .before .before .before .before .before .before .before .before .before .search .ensures) _ _ (c .before .before .before .before .before .search2 .ensures) (h .1 .1 .1 .1 .0) in
-    ((h .0 .some, h .0 .few, counts .0, counts .1, counts .2), join-room (h .0) (h .1 .1 .0) some (a .sizes .branching - a .turn .left) (shift-is (h .1 .0) (a .turn .left)) (a .asked .now) (a .v) (a .part .now) (h .1 .1 .1 .0) _ _ (c .before .before .before .before .before .before .before .before .before .before .before .before .before .search .ensures) _ _ (c .before .before .before .before .before .search2 .ensures) (search needs))
+    let counts = combine-counts (h .0) (h .1 .1 .0) some (a .sizes .branching - a .turn .left) (shift-is (h .1 .0) (a .turn .left)) (a .asked .now) (a .v) (a .part .now) (h .1 .1 .1 .0) _ _ (c .before .before .before .before .before .before .before .before .before .before .before .before .before .search .ensures) _ _ (c .before .before .before .before .before .search2 .ensures) (h .1 .1 .1 .1 .0) in
+    ((h .0 .some, h .0 .few, counts .0, counts .1, counts .2), combine-room (h .0) (h .1 .1 .0) some (a .sizes .branching - a .turn .left) (shift-is (h .1 .0) (a .turn .left)) (a .asked .now) (a .v) (a .part .now) (h .1 .1 .1 .0) _ _ (c .before .before .before .before .before .before .before .before .before .before .before .before .before .search .ensures) _ _ (c .before .before .before .before .before .search2 .ensures) (search needs))
 
 search-same-length-3 : (t : ℕ) → search-lts.Need-same-length-3 (claims t) (search-at t) search′.Post
 search-same-length-3 t c = search needs
@@ -116,7 +116,7 @@ search-returns-4 t c =
     let a = c .before .before .before .before .before .before .before .before .before .before .before .before .before .before .before .before .before .before .before .before .before .before .before .before .before .before .before .before .before .before .before .before .args in
     let h = c .before .before .before .before .before .before .before .before .before .before .before .before .before .before .before .before .before .before .before .before .before .before .before .before .before .before .before .before .before .before .before .before .pre .1 in
     let some = c .before .before .before .before .before .before .before .before .before .before .before .before .before .before .before .before .before .before .before .before .before .if3 .left in
-    both-searched (h .0) (h .1 .1 .0) some (a .sizes .branching - a .turn .left) (shift-is (h .1 .0) (a .turn .left)) (a .asked .now) (a .v) (a .part .now) (h .1 .1 .1 .0) _ _ (c .before .before .before .before .before .before .before .before .before .before .before .before .before .before .before .before .search .ensures) _ _ (c .before .before .before .before .before .before .before .before .search2 .ensures) _ (c .before .before .join .ensures)
+    both-searched (h .0) (h .1 .1 .0) some (a .sizes .branching - a .turn .left) (shift-is (h .1 .0) (a .turn .left)) (a .asked .now) (a .v) (a .part .now) (h .1 .1 .1 .0) _ _ (c .before .before .before .before .before .before .before .before .before .before .before .before .before .before .before .before .search .ensures) _ _ (c .before .before .before .before .before .before .before .before .search2 .ensures) _ (c .before .before .combine .ensures)
 
 pub +search-spec : {M : Type 1} → statement M
 +search-spec = close μ-search λ t. search-lts.spec (claims t)
@@ -137,7 +137,7 @@ pub +search-spec : {M : Type 1} → statement M
     (search-search-requires t)
     (search-sub-t24-2 t)
     (search-search-requires-2 t)
-    (search-join-requires t)
+    (search-combine-requires t)
     (search-same-length-3 t)
     (search-same-length-4 t)
     (search-returns-4 t)

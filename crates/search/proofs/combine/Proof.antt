@@ -1,9 +1,9 @@
--- One law a goal; where records are listed, the two runs are merged (`joins-listed`).
-use Rattle.search.proofs.KeptLaws.{times-fit, start-fits, end-fits, width-some, lent-size, joins-listed, joins-count, joins-first, joins-settle, joins-sums}
+-- One law a goal; where records are listed, the two runs are merged (`combines-listed`).
+use Rattle.search.proofs.KeptLaws.{times-fit, start-fits, end-fits, width-some, lent-size, combines-listed, combines-count, combines-first, combines-settle, combines-sums}
 use native.Mathlib.Omega.{arith}
 use borrow.Author.Needs.{needs}
-use Rattle.search.proofs.join.Statement.{statement}
-use Rattle.search.proofs.join.Tie as tie
+use Rattle.search.proofs.combine.Statement.{statement}
+use Rattle.search.proofs.combine.Tie as tie
 
 enum-told : tie.Need-enum-told
 enum-told c = search needs
@@ -51,22 +51,22 @@ same-length : tie.Need-same-length
 same-length c = search needs
 
 returns : tie.Need-returns
-returns c = let a = c .before .before .before .before .before .before .before .before .args in let w = c .before .before .before .before .record-size in joins-listed (a .goal) (a .n) (a .from) (a .mid) (a .end) (w .result) (a .part .now) (c .before .before .before .before .before .enum-told .given .1) (w .ensures .0) (c .before .before .before .before .before .before .before .before .pre .0 .2) (c .before .before .before .before .before .before .before .before .pre .0 .3) (c .before .before .before .before .before .before .before .before .pre .1) _ (c .before .before .merge .ensures)
+returns c = let a = c .before .before .before .before .before .before .before .before .args in let w = c .before .before .before .before .record-size in combines-listed (a .goal) (a .n) (a .from) (a .mid) (a .end) (w .result) (a .part .now) (c .before .before .before .before .before .enum-told .given .1) (w .ensures .0) (c .before .before .before .before .before .before .before .before .pre .0 .2) (c .before .before .before .before .before .before .before .before .pre .0 .3) (c .before .before .before .before .before .before .before .before .pre .1) _ (c .before .before .merge .ensures)
 
 returns-2 : tie.Need-returns-2
-returns-2 c = let a = c .before .before .before .before .args in joins-count (a .goal) (a .n) (a .from) (a .mid) (a .end) (a .part .now) _ (c .before .goal .given .1)
+returns-2 c = let a = c .before .before .before .before .args in combines-count (a .goal) (a .n) (a .from) (a .mid) (a .end) (a .part .now) _ (c .before .goal .given .1)
 
 returns-3 : tie.Need-returns-3
-returns-3 c = let a = c .before .before .before .args in joins-first (a .goal) (a .n) (a .from) (a .mid) (a .end) (a .part .now) (c .enum-told2 .given .1)
+returns-3 c = let a = c .before .before .before .args in combines-first (a .goal) (a .n) (a .from) (a .mid) (a .end) (a .part .now) (c .enum-told2 .given .1)
 
 returns-4 : tie.Need-returns-4
-returns-4 c = let a = c .before .before .before .args in joins-settle (a .goal) (a .n) (a .from) (a .mid) (a .end) (a .part .now) (c .enum-told3 .given .1)
+returns-4 c = let a = c .before .before .before .args in combines-settle (a .goal) (a .n) (a .from) (a .mid) (a .end) (a .part .now) (c .enum-told3 .given .1)
 
 returns-5 : tie.Need-returns-5
-returns-5 c = let a = c .before .before .before .args in joins-sums (a .goal) (a .n) (a .from) (a .mid) (a .end) (a .part .now) (c .enum-told4 .given .1)
+returns-5 c = let a = c .before .before .before .args in combines-sums (a .goal) (a .n) (a .from) (a .mid) (a .end) (a .part .now) (c .enum-told4 .given .1)
 
-pub join-spec : {M : Type 1} → statement M
-join-spec =
+pub combine-spec : {M : Type 1} → statement M
+combine-spec =
     tie.close
     (tie.spec
     enum-told
