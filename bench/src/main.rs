@@ -300,7 +300,10 @@ fn busy(branching: u16) -> Known {
 }
 
 // A free fact is set false first, so that the records of free facts rise as they are found; where
-// the first facts follow these and say the opposite, they fall.
+// the first facts follow these and say the opposite, they fall. A free fact has a helper that stands
+// with it, and a follower where its record is to come in another order: with these, 2^20 records
+// take 5 bytes where they rise, and 8 where they fall. Three bytes have no room for 2^20 records, as
+// `known::free_three` says.
 const FALLING: Following = Following {
     turned_round: false,
     opposite: true,
@@ -332,11 +335,12 @@ fn searches(table: &Table) {
     table.list("largest lawful book", &busy(10));
     table.list("largest lawful book", &busy(14));
     table.list("worst order for filling", &known::chained(5));
-    table.list("rising, 2 bytes", &known::free(14, 0, 14));
-    table.list("falling, 4 bytes", &known::followed(14, 14, 28, FALLING));
+    table.list("rising, 3 bytes", &known::free(12, 0, 24));
+    table.list("rising, 4 bytes", &known::free(14, 0, 28));
+    table.list("falling, 6 bytes", &known::followed(14, 14, 42, FALLING));
     table.list("rising, 32 bytes", &known::free(14, 0, 256));
     table.list("falling, 32 bytes", &known::followed(14, 14, 256, FALLING));
-    table.list("permuted, 4 bytes", &known::followed(10, 10, 28, REVERSED));
+    table.list("permuted, 4 bytes", &known::followed(10, 10, 30, REVERSED));
     for order in [Order::BitReversed, Order::ParityFirst, Order::Shuffled] {
         let name = format!("{}, 5 bytes", order.name());
         let ordered = Ordered::new(order, 14, 40);
@@ -383,13 +387,15 @@ fn long_searches(table: &Table) {
     table.list("largest lawful book", &busy(16));
     table.list("largest lawful book", &busy(20));
     table.list("worst order for filling", &known::chained(10));
-    table.list("rising, 3 bytes", &known::free(20, 0, 20));
-    let by_16ths = known::followed(20, 4, 24, FALLING);
-    table.list("falling by 16ths, 3 bytes", &by_16ths);
-    table.list("falling, 5 bytes", &known::followed(20, 20, 40, FALLING));
+    table.list("rising, 5 bytes", &known::free(20, 0, 40));
+    let by_64ths = Ordered::new(Order::Falling, 20, 40);
+    assert_eq!(by_64ths.told(), 6);
+    let by_64ths = by_64ths.known(&mut rng("orders"));
+    table.list("falling by 64ths, 5 bytes", &by_64ths);
+    table.list("falling, 8 bytes", &known::followed(20, 20, 60, FALLING));
     table.list("rising, 32 bytes", &known::free(20, 0, 256));
     table.list("falling, 32 bytes", &known::followed(20, 20, 256, FALLING));
-    table.list("permuted, 4 bytes", &known::followed(14, 14, 28, REVERSED));
+    table.list("permuted, 6 bytes", &known::followed(14, 14, 42, REVERSED));
     table.one("largest lawful book", &busy(20));
     table.place("largest lawful book", &busy(20), 20);
 }
@@ -417,12 +423,12 @@ fn longest_searches(table: &Table) {
     use Ending::{Doubtful, Stable, Unstable};
     let rng = &mut rng("longest");
     table.long_list("slowest, stable", &known::slowest(rng, 19, Stable));
-    table.long_list("slowest, doubtful", &known::slowest(rng, 18, Doubtful));
-    table.long_list("slowest, unstable", &known::slowest(rng, 18, Unstable));
+    table.long_list("slowest, doubtful", &known::slowest(rng, 17, Doubtful));
+    table.long_list("slowest, unstable", &known::slowest(rng, 17, Unstable));
     table.long_list("ring, stable", &known::ring(rng, 19, Stable));
     table.long_list("both ways, stable", &known::both_ways(rng, 19, Stable));
     table.long_list("blocks, stable", &known::blocks(rng, 19, Stable));
-    table.long_list("blocks, doubtful", &known::blocks(rng, 18, Doubtful));
+    table.long_list("blocks, doubtful", &known::blocks(rng, 17, Doubtful));
     let displaced = known::displaced(19, 200, Stable);
     table.long_list("displaced, and a chain, stable", &displaced);
     table.long_list("worst order for filling", &known::chained(19));

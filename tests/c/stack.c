@@ -16,6 +16,8 @@
 #define NOT 0x8000u
 /* A fact that branches and stands in no state. */
 #define NEVER 100u
+/* The first of the facts that stand with the free ones. */
+#define HELPERS 50u
 
 enum call { EMPTY, CHECK, TEST, LIST, ONE, PLACE, CALLS };
 
@@ -129,14 +131,16 @@ static void put_rule(size_t layer, size_t head, size_t one, size_t two)
     rules++;
 }
 
-/* A fact that may stand or not from layer 1 on: a quarrel in layer 0, and above it rules that lean
- * on themselves. A low fact stands where it does not, so that records come to be moved. */
-static void put_free(size_t fact, size_t follower)
+/* A fact that may stand or not from layer 1 on, and a helper that stands with it: a quarrel about the
+ * helper in layer 0, where the fact follows it, and above that the helper as it follows the fact. A
+ * low fact stands where it does not, so that records come to be moved. */
+static void put_free(size_t fact, size_t helper, size_t follower)
 {
-    put_rule(0, fact, NOT | NEVER, NOT | NEVER);
-    put_rule(0, NOT | fact, NOT | NEVER, NOT | NEVER);
-    put_rule(1, fact, fact, fact);
-    put_rule(1, NOT | fact, NOT | fact, NOT | fact);
+    put_rule(0, helper, NOT | NEVER, NOT | NEVER);
+    put_rule(0, NOT | helper, NOT | NEVER, NOT | NEVER);
+    put_rule(0, fact, helper, helper);
+    put_rule(1, helper, fact, fact);
+    put_rule(1, NOT | helper, NOT | fact, NOT | fact);
     put_rule(1, follower, NOT | fact, NOT | fact);
 }
 
@@ -175,7 +179,7 @@ static void put_largest(size_t branching, size_t free_facts)
     for (fact = 0; fact < branching - free_facts; fact++)
         put_rule(0, FACTS - 1, NOT | (NEVER + fact), FACTS - 1);
     for (; fact < branching; fact++)
-        put_free(NEVER + fact, fact);
+        put_free(NEVER + fact, HELPERS + fact, fact);
     while (rules < RULES)
         put_rule(2 + rules % (LAYERS - 2), 150 + rules % 100, NOT | NEVER, 150 + rules % 50);
 }

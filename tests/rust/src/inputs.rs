@@ -150,13 +150,14 @@ fn many_facts(rng: &mut Rng) -> Book {
         0 => Book::new(atoms, rng.range(1, 32) as u8),
         1 => {
             let following = rng.pick(&EVERY_FOLLOWING);
-            known::followed(rng.range(1, 4) as u16, 4, atoms, following).book
+            let choices = rng.range(1, usize::from(atoms / 3).min(4)) as u16;
+            known::followed(choices, choices, atoms, following).book
         }
-        2 => known::quarrelled(known::free(rng.below(4) as u16, 3, atoms - 1)).book,
+        2 => known::quarrelled(known::free(rng.below(4) as u16, 2, atoms - 1)).book,
         3 => {
             let ordered = Ordered {
                 order: rng.pick(&Order::ALL),
-                choices: rng.range(1, 6) as u16,
+                choices: rng.range(1, usize::from(atoms / 2).min(6)) as u16,
                 idle: rng.below(2) as u16,
                 cuts: rng.below(2) as u16,
                 atoms,

@@ -119,19 +119,53 @@ pub fn displacing_pairs(choices: u16, lone: u16) -> Known {
     }
 }
 
-/// A fact that may stand or not: a quarrel in layer 0, and above it rules that lean on themselves.
-pub(crate) fn free_fact(book: Book, atom: u16) -> Book {
-    book.rule(0, plain(atom), &[])
-        .rule(0, not(atom), &[])
-        .rule(1, plain(atom), &[plain(atom)])
-        .rule(1, not(atom), &[not(atom)])
+/// A fact that may stand or not, `choice`, and a helper that stands with it: a quarrel about the helper
+/// in layer 0, where the choice follows it, and above that the helper as it follows the choice. Only
+/// the choice branches. No fact is free without a helper: its own rule would lean on itself, and such
+/// a rule settles no quarrel.
+pub(crate) fn free_fact(book: Book, choice: u16, helper: u16) -> Book {
+    book.rule(0, plain(helper), &[])
+        .rule(0, not(helper), &[])
+        .rule(0, plain(choice), &[plain(helper)])
+        .rule(1, plain(helper), &[plain(choice)])
+        .rule(1, not(helper), &[not(choice)])
 }
 
-/// So many facts that may stand or not, the first of them `first`; the others do not stand.
+/// Three facts that may stand or not, from `choice` on, and two helpers, from `helper` on, that say in
+/// binary how many of them stand: where a book has few facts, these choices take five and not six.
+/// Only the three branch.
+///
+/// Nor can helpers be shared much further. Where every setting of the choices has a state and all that
+/// stands in one stands in another, the helpers of the larger are not all in the smaller: its choices
+/// are reached over helpers and over choices that do not stand, and would be reached there too. So in
+/// states that grow by one choice at a time no two have the same helpers. With 20 choices these are
+/// 21, and four helpers have 16 sets: 2^20 states need 25 facts, and do not go into 3 bytes.
+pub(crate) fn free_three(book: Book, choice: u16, helper: u16) -> Book {
+    let (ones, twos) = (helper, helper + 1);
+    let choices = [choice, choice + 1, choice + 2];
+    let mut book = book
+        .rule(0, plain(ones), &[])
+        .rule(0, plain(twos), &[])
+        .rule(1, not(ones), &choices.map(not));
+    for [one, a, b] in [0, 1, 2].map(|at| [0, 1, 2].map(|by| choices[(at + by) % 3])) {
+        book = book
+            .rule(1, not(ones), &[not(one), plain(a), plain(b)])
+            .rule(1, not(twos), &[not(a), not(b)])
+            // It stands with both others, with one of them, and alone.
+            .rule(1, plain(one), &[plain(ones), plain(twos)])
+            .rule(1, plain(one), &[plain(twos), not(a)])
+            .rule(1, plain(one), &[plain(twos), not(b)])
+            .rule(1, plain(one), &[plain(ones), not(a), not(b)]);
+    }
+    book
+}
+
+/// So many facts that may stand or not, behind as many helpers, the first of which is `first`; the
+/// others do not stand.
 pub fn free(choices: u16, first: u16, atoms: u16) -> Known {
     let mut book = Book::new(atoms, 2).arrow(0, 1);
-    for at in 0..choices {
-        book = free_fact(book, first + at);
+    for helper in first..first + choices {
+        book = free_fact(book, helper + choices, helper);
     }
     Known {
         book,
@@ -140,8 +174,10 @@ pub fn free(choices: u16, first: u16, atoms: u16) -> Known {
         count: 1 << choices,
         state: Box::new(move |number| {
             let mut state = vec![false; usize::from(atoms)];
-            for at in 0..usize::from(choices) {
-                state[usize::from(first) + at] = bit(number, at);
+            let (first, choices) = (usize::from(first), usize::from(choices));
+            for at in 0..choices {
+                state[first + at] = bit(number, at);
+                state[first + choices + at] = bit(number, at);
             }
             state
         }),
@@ -177,7 +213,8 @@ pub const EVERY_FOLLOWING: [Following; 4] = [
     },
 ];
 
-/// The last facts may stand or not, and the first ones, `followers` of them, follow these.
+/// The last facts may stand or not, in front of these are their helpers, and the first facts,
+/// `followers` of them, follow the last ones.
 pub fn followed(choices: u16, followers: u16, atoms: u16, following: Following) -> Known {
     let first = atoms - choices;
     let Known {
@@ -186,7 +223,7 @@ pub fn followed(choices: u16, followers: u16, atoms: u16, following: Following) 
         branching,
         count,
         state,
-    } = free(choices, first, atoms);
+    } = free(choices, first - choices, atoms);
     let followed = move |follower: u16| match following.turned_round {
         true => atoms - 1 - follower,
         false => first + follower,
@@ -214,12 +251,12 @@ pub fn followed(choices: u16, followers: u16, atoms: u16, following: Following) 
     }
 }
 
-/// The last facts may stand or not, and the first ones follow them so that a search which sets these
+/// The last facts may stand or not, behind their helpers, and the first ones follow them so that a search which sets these
 /// one after the other, the last one fastest, comes to records before and after all others in turn.
 pub fn front_and_end(choices: u16, atoms: u16) -> Known {
     let first = atoms - choices;
     let last = atoms - 1;
-    let known = free(choices, first, atoms);
+    let known = free(choices, first - choices, atoms);
     let mut book = known.book.rule(1, plain(0), &[plain(last)]);
     for atom in 1..choices {
         let choice = first + atom - 1;
@@ -242,14 +279,14 @@ pub fn front_and_end(choices: u16, atoms: u16) -> Known {
     }
 }
 
-/// Exactly `count` states, two at least: the first facts, read as a number, are below it. One more
-/// fact stands in no state and rules the others out.
+/// Exactly `count` states, two at least: the first facts, read as a number, are below it. The next
+/// fact stands in no state and rules the others out, and behind it are the helpers of the first.
 pub fn counted(count: usize, atoms: u16) -> Known {
     let choices = (count - 1).ilog2() as u16 + 1;
     let stop = choices;
     let mut book = Book::new(atoms, 2).arrow(0, 1);
     for atom in 0..choices {
-        book = free_fact(book, atom);
+        book = free_fact(book, atom, stop + 1 + atom);
     }
     let at = move |atom: u16| usize::from(choices - 1 - atom);
     // A number is too large if it is equal to the largest one up to a fact that stands only in it.
@@ -269,9 +306,12 @@ pub fn counted(count: usize, atoms: u16) -> Known {
         branching: usize::from(choices) + usize::from(!count.is_power_of_two()),
         count,
         state: Box::new(move |number| {
-            (0..atoms)
-                .map(|atom| atom < choices && bit(number, at(atom)))
-                .collect()
+            let mut state = vec![false; usize::from(atoms)];
+            for atom in 0..choices {
+                state[usize::from(atom)] = bit(number, at(atom));
+                state[usize::from(stop + 1 + atom)] = bit(number, at(atom));
+            }
+            state
         }),
     }
 }
@@ -342,12 +382,14 @@ pub fn spared(known: Known) -> Known {
     }
 }
 
-/// So many branching facts, of which the first `choices` may stand or not and the others never do.
+/// So many branching facts behind the helpers of the first `choices`, which may stand or not; the
+/// others never do.
 pub fn chosen(choices: u16, branching: u16) -> Known {
-    let known = free(choices, 0, branching + 1);
+    let last = choices + branching;
+    let known = free(choices, 0, last + 1);
     let mut book = known.book;
-    for atom in choices..branching {
-        book = book.rule(1, plain(branching), &[not(atom), plain(branching)]);
+    for atom in 2 * choices..last {
+        book = book.rule(1, plain(last), &[not(atom), plain(last)]);
     }
     Known {
         book,
@@ -531,17 +573,30 @@ pub fn busy(rng: &mut Rng, branching: u16) -> Known {
     }
 }
 
-/// The first facts may stand or not, as `free_fact` has it, with bodies of 16 literals: `body` makes
-/// those of the quarrel, which hold at every setting.
+/// The first facts may stand or not, as `free_fact` has it, with their helpers behind them and bodies
+/// of 16 literals: `body` makes those of the quarrel, which hold at every setting.
 fn full_free_facts(mut book: Book, choices: u16, mut body: impl FnMut() -> Vec<Literal>) -> Book {
     for atom in 0..choices {
+        let helper = choices + atom;
         book = book
-            .rule(0, plain(atom), &body())
-            .rule(0, not(atom), &body())
-            .rule(1, plain(atom), &sixteen(&[plain(atom)]))
-            .rule(1, not(atom), &sixteen(&[not(atom)]));
+            .rule(0, plain(helper), &body())
+            .rule(0, not(helper), &body())
+            .rule(0, plain(atom), &sixteen(&[plain(helper)]))
+            .rule(1, plain(helper), &sixteen(&[plain(atom)]))
+            .rule(1, not(helper), &sixteen(&[not(atom)]));
     }
     book
+}
+
+/// The state in which the first facts are like the bits of a number, their helpers with them, and of
+/// the others those of `standing` stand.
+fn chosen_state(choices: u16, number: usize, standing: &Range<u16>) -> Vec<bool> {
+    (0..256)
+        .map(|atom| match atom < 2 * choices {
+            true => bit(number, (atom % choices).into()),
+            false => standing.contains(&atom),
+        })
+        .collect()
 }
 
 /// `shapes::worst_order` with choices: each setting in which the chain starts goes through 1,024
@@ -555,27 +610,21 @@ pub fn chained(choices: u16) -> Known {
     };
     let book = Book::new(256, 2).arrow(0, 1);
     let mut chain = full_free_facts(book, choices, || full(not(LAST)));
-    let links = (choices + 1..LAST).len();
+    let start = 2 * choices;
+    let links = (start + 1..LAST).len();
     while chain.rules.len() + links + 1 < 1024 {
         chain = chain.rule(0, plain(LAST), &full(plain(LAST)));
     }
-    for atom in (choices + 1..LAST).rev() {
+    for atom in (start + 1..LAST).rev() {
         chain = chain.rule(0, plain(atom), &full(plain(atom - 1)));
     }
-    let book = chain.rule(0, plain(choices), &full(not(LAST)));
+    let book = chain.rule(0, plain(start), &full(not(LAST)));
     Known {
         book,
         layer: 1,
         branching: usize::from(choices) + 1,
         count: 1 << choices,
-        state: Box::new(move |number| {
-            (0..256)
-                .map(|atom| match atom < choices {
-                    true => bit(number, atom.into()),
-                    false => atom < LAST,
-                })
-                .collect()
-        }),
+        state: Box::new(move |number| chosen_state(choices, number, &(start..LAST))),
     }
 }
 
@@ -584,52 +633,48 @@ pub fn chained(choices: u16) -> Known {
 pub enum Ending {
     /// A stable state.
     Stable,
-    /// A stable state, though a displaced rule speaks for a fact that does not stand: only a second
+    /// A stable state, though displaced rules speak for two facts that do not stand: only a second
     /// filling shows that this is by default all the same.
     Doubtful,
     /// None: only the comparison after the last pass shows it.
     Unstable,
 }
 
-/// Two that stand in no state. The second does not branch.
-const DOUBTED: u16 = 254;
+/// Three that stand in no state. The last does not branch.
+const DOUBTED: [u16; 2] = [253, 254];
 const STOP: u16 = 255;
 
-/// Adds the rules that end each setting so.
+/// Adds the rules that end each setting so: each of two facts is denied where the other does not
+/// stand, and their own rules are displaced with that.
 fn ended(book: Book, ending: Ending) -> Book {
+    let [one, other] = DOUBTED;
+    let denied = |book: Book, body: &[Literal]| {
+        book.rule(0, plain(one), body)
+            .rule(0, plain(other), body)
+            .rule(1, not(one), &[not(other)])
+            .rule(1, not(other), &[not(one)])
+    };
     match ending {
         Ending::Stable => book,
-        Ending::Doubtful => {
-            book.rule(0, plain(DOUBTED), &[plain(STOP)])
-                .rule(1, not(DOUBTED), &[not(DOUBTED)])
-        }
-        // Where it does not stand this is not by default, and where it does, its rule is displaced.
-        Ending::Unstable => book
-            .rule(0, plain(DOUBTED), &[])
-            .rule(1, not(DOUBTED), &[not(DOUBTED)])
-            .rule(1, not(DOUBTED), &[plain(DOUBTED)]),
+        Ending::Doubtful => denied(book, &[plain(STOP)]),
+        // Where neither stands this is not by default, and else the rule of one that stands is
+        // displaced.
+        Ending::Unstable => denied(book, &[]).rule(1, not(one), &[plain(one)]),
     }
 }
 
-/// A slow book: the first facts may stand or not, one other branches, and those of `standing` follow
-/// at every setting.
+/// A slow book: the first facts may stand or not, with their helpers behind them, one other branches,
+/// and those of `standing` follow at every setting. The ending may take two branching facts more.
 fn slow(book: Book, choices: u16, standing: Range<u16>, ending: Ending) -> Known {
     Known {
         book,
         layer: 1,
-        branching: usize::from(choices) + 1 + usize::from(ending != Ending::Stable),
+        branching: usize::from(choices) + 1 + 2 * usize::from(ending != Ending::Stable),
         count: match ending {
             Ending::Stable | Ending::Doubtful => 1 << choices,
             Ending::Unstable => 0,
         },
-        state: Box::new(move |number| {
-            (0..256)
-                .map(|atom| match atom < choices {
-                    true => bit(number, atom.into()),
-                    false => standing.contains(&atom),
-                })
-                .collect()
-        }),
+        state: Box::new(move |number| chosen_state(choices, number, &standing)),
     }
 }
 
@@ -646,8 +691,8 @@ fn linked(
     links: impl Fn(Range<u16>) -> Vec<Link>,
 ) -> Known {
     // One that has no rule at all, and before the range one that always stands.
-    let (never, base) = (choices, choices + 1);
-    let links = links(base + 1..DOUBTED);
+    let (never, base) = (2 * choices, 2 * choices + 1);
+    let links = links(base + 1..DOUBTED[0]);
     let mut full = |last: &[Literal]| -> Vec<Literal> {
         let mut body: Vec<Literal> = (last.len()..16)
             .map(|_| rng.pick(&[plain(base), not(never)]))
@@ -663,7 +708,7 @@ fn linked(
     for (atom, last) in links {
         book = book.rule(0, plain(atom), &full(&last));
     }
-    slow(book, choices, base..DOUBTED, ending)
+    slow(book, choices, base..DOUBTED[0], ending)
 }
 
 /// The slowest book that we know for an engine which makes passes over the rules: each setting adds
@@ -758,7 +803,8 @@ pub fn blocks(rng: &mut Rng, choices: u16, ending: Ending) -> Known {
 /// setting, and all of them displace the same rule. Beside them a chain of so many links in reverse.
 pub fn displaced(choices: u16, links: u16, ending: Ending) -> Known {
     // One that has no rule, the one about which the rules quarrel, and the start of the chain.
-    let (never, denied, base) = (choices, choices + 1, choices + 2);
+    let never = 2 * choices;
+    let (denied, base) = (never + 1, never + 2);
     let full = sixteen(&[not(never)]);
     let book = Book::new(256, 2)
         .arrow(0, 1)
@@ -830,13 +876,13 @@ pub(crate) mod tests {
             }
         }
         for count in 2..40 {
-            assert_known("counted", &counted(count, 9));
+            assert_known("counted", &counted(count, 13));
         }
         for stand in [true, false] {
             assert_known("single", &single(5, stand));
             assert_known("quarrelled", &quarrelled(single(5, stand)));
         }
-        assert_known("quarrelled", &quarrelled(free(3, 0, 5)));
+        assert_known("quarrelled", &quarrelled(free(3, 0, 7)));
         for turn in 0..300 {
             let small = shapes::layered(&mut rng, Layering::Any);
             let layer = rng.below(small.layers.into()) as u8;
@@ -852,7 +898,7 @@ pub(crate) mod tests {
         let chained = chained(3);
         assert_eq!(chained.book.rules.len(), 1_024);
         assert_known("chained", &chained);
-        assert_known("front and end", &front_and_end(4, 9));
+        assert_known("front and end", &front_and_end(4, 12));
         assert_known("spared", &spared(pairs(3, 1)));
         for choices in 0..5 {
             assert_known("chosen", &chosen(choices, 6));

@@ -3,9 +3,10 @@
 //! in front of these, which follow from them, say where in the listing the record of a setting is.
 
 use crate::book::{not, plain, Book, Literal, Rule};
-use crate::known::{bit, free_fact, Known};
+use crate::known::{bit, free_fact, free_three, Known};
 use crate::oracle::body_holds;
 use crate::rng::Rng;
+use std::ops::Range;
 
 /// How the records come. Where a book has too few facts for a whole order, the first bits of the
 /// records have it, and records that agree in these rise.
@@ -45,6 +46,13 @@ impl Order {
     }
 }
 
+/// The facts that so many choices take: every three of them have two helpers, as `free_three` has it,
+/// and those that are left one each. With a helper for each, 20 choices would fill 5 bytes, and no fact
+/// would be left to order the records by.
+pub const fn facts(choices: u16) -> u16 {
+    2 * choices - choices / 3
+}
+
 /// What a book is to have.
 #[derive(Clone, Copy, Debug)]
 pub struct Ordered {
@@ -79,6 +87,8 @@ struct Places {
     idle: u16,
     stop: u16,
     helpers: u16,
+    /// The helpers of the choices.
+    free: u16,
 }
 
 /// A rule by which a fact follows from the choices.
@@ -119,8 +129,13 @@ impl Ordered {
         self.choices + self.idle + self.stops()
     }
 
+    /// The fewest facts that it can have: then none tells of a choice.
+    pub fn fewest_atoms(self) -> u16 {
+        facts(self.choices) + self.idle + self.stops()
+    }
+
     fn followers(self) -> Followers {
-        let room = self.atoms - self.branching();
+        let room = self.atoms - self.fewest_atoms();
         let front = match self.order {
             Order::Rising => 0,
             Order::ParityFirst => room.min(self.choices).min(1),
@@ -154,15 +169,34 @@ impl Ordered {
 
     fn places(self) -> Places {
         let Followers { front, helpers, .. } = self.followers();
-        let spare = self.atoms - self.branching() - front - helpers;
+        let spare = self.atoms - self.fewest_atoms() - front - helpers;
         let choices = spare + front;
+        let behind = choices + self.branching();
         Places {
             front: if self.at_the_end { spare } else { 0 },
             choices,
             idle: choices + self.choices,
             stop: choices + self.choices + self.idle,
-            helpers: choices + self.branching(),
+            helpers: behind,
+            free: behind + helpers,
         }
+    }
+
+    /// The choices with their helpers: three with two as often as there are three, then one with one.
+    fn free(self) -> Vec<[Range<u16>; 2]> {
+        let places = self.places();
+        let (mut choice, mut helper) = (places.choices, places.free);
+        let mut free = Vec::new();
+        while choice < places.idle {
+            let [choices, helpers] = match places.idle - choice {
+                1 | 2 => [1, 1],
+                _ => [3, 2],
+            };
+            free.push([choice..choice + choices, helper..helper + helpers]);
+            choice += choices;
+            helper += helpers;
+        }
+        free
     }
 
     /// The rules of the facts that follow, in an order in which none needs a later one.
@@ -272,8 +306,12 @@ impl Ordered {
             .map(|body| follows(stop, &[&body[..], &[not(stop)]].concat()))
             .collect();
         let mut book = Book::new(self.atoms, 2).arrow(0, 1);
-        for at in 0..self.choices {
-            book = free_fact(book, places.choices + at);
+        let free = self.free();
+        for [choices, helpers] in &free {
+            book = match choices.len() {
+                1 => free_fact(book, choices.start, helpers.start),
+                _ => free_three(book, choices.start, helpers.start),
+            };
         }
         for atom in places.idle..places.stop {
             book = book.rule(1, plain(atom), &[plain(atom), not(atom)]);
@@ -285,6 +323,13 @@ impl Ordered {
             for at in 0..choices {
                 let stands = bit(setting, (choices - 1 - at).into());
                 state[usize::from(places.choices + at)] = stands;
+            }
+            for [choices, helpers] in &free {
+                let standing = choices.clone().filter(|&choice| state[usize::from(choice)]);
+                let standing = standing.count();
+                for (at, helper) in helpers.clone().enumerate() {
+                    state[usize::from(helper)] = bit(standing, at);
+                }
             }
             for rule in &following {
                 state[usize::from(rule.head.atom)] |= body_holds(rule, &state);
@@ -342,7 +387,8 @@ mod tests {
                     atoms: 0,
                     at_the_end: rng.chance(50),
                 };
-                ordered.atoms = rng.range(ordered.branching().max(1).into(), 12) as u16;
+                let fewest = ordered.fewest_atoms().max(1);
+                ordered.atoms = rng.range(fewest.into(), 13) as u16;
                 let known = ordered.known(&mut rng);
                 assert_known(&format!("seed {seed}, {ordered:?}"), &known);
             }

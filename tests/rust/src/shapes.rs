@@ -162,11 +162,7 @@ pub fn choices(rng: &mut Rng) -> Book {
                 .rule(arrow.earlier, plain(b), &[])
                 .rule(arrow.later, not(a), &[plain(b)])
                 .rule(arrow.later, not(b), &[plain(a)]),
-            (2, Some(arrow)) => book
-                .rule(arrow.earlier, plain(a), &[])
-                .rule(arrow.earlier, not(a), &[])
-                .rule(arrow.later, plain(a), &[plain(a)])
-                .rule(arrow.later, not(a), &[not(a)]),
+            (2, Some(arrow)) => free(book, arrow, a, b),
             _ => book
                 .rule(layer, plain(a), &[not(b)])
                 .rule(layer, plain(b), &[not(a)]),
@@ -263,7 +259,7 @@ pub fn layered(rng: &mut Rng, layering: Layering) -> Book {
 }
 
 /// A small lawful book with several choices that are free of each other, in all forms, and a little
-/// beside them: up to 16 stable states and more are common.
+/// beside them: up to 16 stable states are common.
 pub fn crowded(rng: &mut Rng, layering: Layering) -> Book {
     let mut book = loop {
         let book = layered(rng, layering);
@@ -281,20 +277,25 @@ pub fn crowded(rng: &mut Rng, layering: Layering) -> Book {
         book = match rng.below(4) {
             0 => choice(book, up.earlier, f, h),
             1 => each_displaces_the_other(book, up, f, h),
-            2 => free(free(book, up, f), up, h),
-            // One follows the other, as it is or the other way round.
-            _ => free(book, up, f).rule(up.earlier, plain(h), &[rng.pick(&[plain(f), not(f)])]),
+            2 => free(book, up, f, h),
+            // The same, and beside the rules that displace one that leans on itself.
+            _ => {
+                let head = rng.pick(&[plain(f), not(f)]);
+                free(book, up, f, h).rule(up.later, head, &[head])
+            }
         };
     }
     rng.shuffle(&mut book.rules);
     book
 }
 
-/// A fact that may stand or not: a quarrel, and above it rules that lean on themselves.
-fn free(book: Book, up: Arrow, f: u16) -> Book {
+/// A fact that may stand or not, h, and one that stands with it: a quarrel about f, h as it follows f,
+/// and above them f as it follows h.
+fn free(book: Book, up: Arrow, f: u16, h: u16) -> Book {
     conflict(book, up.earlier, plain(f), &[])
-        .rule(up.later, plain(f), &[plain(f)])
-        .rule(up.later, not(f), &[not(f)])
+        .rule(up.earlier, plain(h), &[plain(f)])
+        .rule(up.later, plain(f), &[plain(h)])
+        .rule(up.later, not(f), &[not(h)])
 }
 
 /// Each of two rules displaces what the other leans on.
@@ -319,6 +320,14 @@ fn with_motif(rng: &mut Rng, book: Book) -> Book {
         true => &[other],
         false => &[],
     };
+    // A rule of a layer above that leans on itself, or on a fact that follows its head below.
+    let leaning = rng.chance(40);
+    let leans = |book: Book, below: u8, above: u8| match leaning {
+        true => book.rule(above, head, &[head]),
+        false => book
+            .rule(below, plain(h), &[head])
+            .rule(above, head, &[plain(h)]),
+    };
     let Some(&up) = book.arrows.get(rng.below(book.arrows.len().max(1))) else {
         return match rng.below(4) {
             0 => conflict(book, layer, head, body),
@@ -337,23 +346,29 @@ fn with_motif(rng: &mut Rng, book: Book) -> Book {
         (1, ..) => book.rule(layer, head, &[head]),
         (2, ..) => circle(book, layer, f, h),
         (3, ..) => choice(book, layer, f, h),
-        // A quarrel, and a rule above it that leans on itself.
-        (4, ..) => conflict(book, up.earlier, head, body).rule(up.later, head, &[head]),
+        // A quarrel, and a rule above it.
+        (4, ..) => leans(conflict(book, up.earlier, head, body), up.earlier, up.later),
         (5, ..) => each_displaces_the_other(book, up, f, h),
-        // Displaced, but with no other rule for the opposite.
+        // Displaced where both do not stand, but with no other rules for the opposite.
         (6, ..) => book
             .rule(up.earlier, plain(f), body)
-            .rule(up.later, not(f), &[not(f)]),
+            .rule(up.earlier, plain(h), &[])
+            .rule(up.later, not(f), &[not(h)])
+            .rule(up.later, not(h), &[not(f)]),
         // The displacing rule is itself displaced.
-        (7..=8, Some(further), _) => book
-            .rule(up.earlier, head, &[])
-            .rule(up.later, head.opposite(), body)
-            .rule(further.later, head, &[head]),
+        (7..=8, Some(further), _) => {
+            let book = book
+                .rule(up.earlier, head, &[])
+                .rule(up.later, head.opposite(), body);
+            leans(book, up.earlier, further.later)
+        }
         // A quarrel between two layers side by side, and one above both.
-        (7..=10, _, Some(beside)) => book
-            .rule(up.earlier, head, &[])
-            .rule(beside.earlier, head.opposite(), body)
-            .rule(up.later, head, &[head]),
+        (7..=10, _, Some(beside)) => {
+            let book = book
+                .rule(up.earlier, head, &[])
+                .rule(beside.earlier, head.opposite(), body);
+            leans(book, up.earlier, up.later)
+        }
         _ => book
             .rule(up.earlier, head, body)
             .rule(up.later, head.opposite(), &[other]),

@@ -202,9 +202,9 @@ fn known_states_of_larger_books_are_found_by_both() {
     let mut rng = Rng::named(seed, "bit sets, known");
     assert_known("pairs", &known::pairs(4, 1));
     assert_known("displacing pairs", &known::displacing_pairs(4, 1));
-    assert_known("free", &known::free(6, 61, 70));
+    assert_known("free", &known::free(6, 58, 72));
     assert_known("a quarrel", &known::quarrelled(known::free(4, 125, 140)));
-    assert_known("counted", &known::counted(37, 9));
+    assert_known("counted", &known::counted(37, 14));
     for following in EVERY_FOLLOWING {
         let what = format!("{following:?}");
         assert_known(&what, &known::followed(5, 5, 200, following));

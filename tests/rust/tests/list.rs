@@ -221,8 +221,8 @@ fn assert_known_book(what: &str, book: &Book, states: &[Vec<bool>]) {
 fn one_branching_fact() {
     assert_known("p if not q", &known::pairs(0, 1));
     assert_known("not p if q, above p", &known::displacing_pairs(0, 1));
-    assert_known("one free fact", &known::free(1, 0, 1));
-    assert_known("one free fact, the last of 256", &known::free(1, 255, 256));
+    assert_known("one free fact", &known::free(1, 0, 2));
+    assert_known("one free fact, the last of 256", &known::free(1, 254, 256));
     let none = Book::new(1, 1).rule(0, plain(P), &[not(P)]);
     let expected = outcome(&oracle::listing(1, &[]), counts(1, 0), &[7; 11]);
     assert_outcome("p if not p", &none.bytes(), at(0), &[7; 11], &expected);
@@ -319,7 +319,7 @@ fn trap_branching_only_on_negated_facts_loses_states() {
 #[test]
 fn trap_records_rise_whatever_the_order_of_the_search() {
     for following in EVERY_FOLLOWING {
-        for (choices, atoms) in [(3, 6), (4, 9), (5, 256), (10, 20)] {
+        for (choices, atoms) in [(3, 9), (4, 13), (5, 256), (10, 30)] {
             let known = known::followed(choices, choices, atoms, following);
             let what = format!("{choices} choices, {atoms} facts, {following:?}");
             assert_known(&what, &known);
@@ -346,7 +346,7 @@ fn a_state_that_two_settings_lead_to_is_listed_once() {
 /// The number of states does not fit into 16 bits, nor the listing's length into 16 or 18.
 #[test]
 fn more_than_65_536_states_are_listed() {
-    assert_known_once("17 free facts", &known::free(17, 0, 17));
+    assert_known_once("17 free facts", &known::free(17, 0, 34));
 }
 
 /// g = 20 and k = 2^20, the most there can be.
@@ -356,7 +356,7 @@ fn as_many_states_as_there_can_be_are_listed() {
         turned_round: false,
         opposite: true,
     };
-    let known = known::followed(20, 20, 40, falling);
+    let known = known::followed(20, 20, 60, falling);
     assert_eq!(known.count, 1 << 20);
     assert_known_once("20 free facts", &known);
 }
@@ -364,7 +364,7 @@ fn as_many_states_as_there_can_be_are_listed() {
 #[test]
 fn any_number_of_states_is_listed() {
     for count in [2, 3, 5, 31, 255, 256, 257, 1_000] {
-        assert_known(&format!("{count} states"), &known::counted(count, 17));
+        assert_known(&format!("{count} states"), &known::counted(count, 21));
     }
 }
 

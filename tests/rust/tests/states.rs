@@ -165,7 +165,7 @@ fn a_listing_of_65_536_bytes_fits_and_a_longer_one_is_refused_13() {
     assert_printed("it fits", &fits.book.bytes(), &lines);
     let longer = known::counted(2_622, 200);
     assert_printed("one record more", &longer.book.bytes(), "refused 13\n");
-    let much_longer = known::free(17, 0, 17);
+    let much_longer = known::free(17, 0, 34);
     assert_printed("2^17 records", &much_longer.book.bytes(), "refused 13\n");
 }
 
@@ -244,7 +244,7 @@ fn input_that_comes_in_pieces_is_put_together() {
 fn each_fact_has_a_character() {
     for atoms in [8, 9, 17, 64, 255, 256] {
         for following in EVERY_FOLLOWING {
-            let known = known::followed(3, 3, atoms, following);
+            let known = known::followed(2, 2, atoms, following);
             assert_eq!(known.layer, known.book.layers - 1);
             let lines = text(&known.listing(), known.branching);
             let what = format!("{atoms} facts, {following:?}");
