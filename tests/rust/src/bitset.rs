@@ -78,6 +78,14 @@ impl Rule {
         within(&self.plain, state) && disjoint(&self.negated, state)
     }
 
+    /// Whether the head is in the body, with its sign.
+    fn leans_on_itself(&self) -> bool {
+        match self.denies {
+            false => contains(&self.plain, self.head),
+            true => contains(&self.negated, self.head),
+        }
+    }
+
     /// Whether the body holds in any state at all.
     fn can_hold(&self) -> bool {
         disjoint(&self.plain, &self.negated)
@@ -120,7 +128,7 @@ impl Program {
         for rule in &rules {
             let (opposite, head) = (usize::from(!rule.denies), usize::from(rule.head));
             let layers = layers_of[opposite][head] & below[usize::from(rule.layer)];
-            if layers != 0 {
+            if layers != 0 && !rule.leans_on_itself() {
                 let contest = &mut contest_of[opposite][head];
                 if *contest == 0 {
                     *contest = contests;

@@ -1,4 +1,5 @@
-//! Document 01's starred examples: books whose listings are also proved of the definitions.
+//! Document 01's starred examples: books whose listings are also proved of the definitions. Of the
+//! last one document 02, (i) says that it has no state now, and that no fact branches in it.
 
 use crate::book::{not, plain, Book};
 use crate::shapes;
@@ -35,7 +36,7 @@ pub fn starred() -> Vec<Example> {
         .rule(1, not(Q), &[plain(P)]);
     let unrelated = two_layers_below.rule(0, plain(P), &[]).rule(1, not(P), &[]);
     let leaning = above(1).rule(0, plain(P), &[]).rule(1, not(P), &[not(P)]);
-    let settled = quarrel(above(1)).rule(1, plain(P), &[plain(P)]);
+    let unsettled = quarrel(above(1)).rule(1, plain(P), &[plain(P)]);
     let examples: [(Book, u8, &[u8], usize); 11] = [
         (shapes::book_b(), 3, &[0x20], 2),
         (shapes::book_b(), 1, &[0xA0], 1),
@@ -47,7 +48,7 @@ pub fn starred() -> Vec<Example> {
         (unrelated, 2, &[], 0),
         (each_displaces_the_other, 1, &[0x40, 0x80], 2),
         (leaning, 1, &[0x80], 1),
-        (settled, 1, &[0x80], 1),
+        (unsettled, 1, &[], 0),
     ];
     examples
         .into_iter()

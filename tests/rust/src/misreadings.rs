@@ -4,7 +4,7 @@
 
 use crate::book::{Arrow, Book, Rule};
 use crate::drive::Drive;
-use crate::oracle::{self, body_holds};
+use crate::oracle::{self, body_holds, leans_on_itself};
 
 #[derive(Clone, Copy, Debug, PartialEq, Eq)]
 pub enum Misreading {
@@ -52,11 +52,19 @@ pub enum Misreading {
     OffStillDisplace,
     /// They still count against defaults.
     OffAgainstDefaults,
+    /// A rule that leans on itself displaces as any other.
+    LeaningDisplaces,
+    /// A rule leans on itself by its fact, whatever the sign.
+    LeansByTheFact,
+    /// It leans on itself only where its body says nothing else.
+    LeansByTheWholeBody,
+    /// No rule of a layer displaces where one of them leans on itself.
+    LeaningShutsItsLayer,
 }
 
 pub use Misreading::*;
 
-pub const EVERY: [Misreading; 22] = [
+pub const EVERY: [Misreading; 26] = [
     WithinALayer,
     UnrelatedLayers,
     LayersByNumber,
@@ -79,10 +87,17 @@ pub const EVERY: [Misreading; 22] = [
     DrivenLayerNeverOff,
     OffStillDisplace,
     OffAgainstDefaults,
+    LeaningDisplaces,
+    LeansByTheFact,
+    LeansByTheWholeBody,
+    LeaningShutsItsLayer,
 ];
 
 /// Those of the set of layers that are switched off.
-pub const OF_THE_SET: &[Misreading] = EVERY.split_at(14).1;
+pub const OF_THE_SET: &[Misreading] = EVERY.split_at(22).0.split_at(14).1;
+
+/// Those of rules that lean on themselves.
+pub const OF_LEANING: &[Misreading] = EVERY.split_at(22).1;
 
 /// A drive of a book, misread.
 pub struct Misread {
@@ -151,6 +166,21 @@ impl Misread {
         }
     }
 
+    /// Whether a rule passes for one that leans on itself.
+    fn leans(&self, rule: &Rule) -> bool {
+        let body = &rule.body;
+        match self.misreading {
+            LeaningDisplaces => false,
+            LeansByTheFact => body.iter().any(|literal| literal.atom == rule.head.atom),
+            LeansByTheWholeBody => leans_on_itself(rule) && body.iter().all(|at| *at == rule.head),
+            LeaningShutsItsLayer => {
+                let mut leaning = self.rules.iter().filter(|other| leans_on_itself(other));
+                leaning.any(|other| other.layer == rule.layer)
+            }
+            _ => leans_on_itself(rule),
+        }
+    }
+
     fn displaced(&self, rule: &Rule, state: &[bool]) -> bool {
         let displacing = match self.misreading {
             OffStillDisplace => &self.with_off,
@@ -160,6 +190,7 @@ impl Misread {
             self.displaces[usize::from(rule.layer)][usize::from(other.layer)]
                 && other.head == rule.head.opposite()
                 && body_holds(other, state)
+                && !self.leans(other)
                 && !(self.misreading == DisplacedDisplaceNothing && self.displaced(other, state))
         })
     }

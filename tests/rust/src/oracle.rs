@@ -1,6 +1,6 @@
 //! Document 01's definitions by brute force, in its order and words, with the layers that document
-//! 02, (h) switches off, for small books: every state is tried. Nothing is clever here, and nothing
-//! is shared with the engine.
+//! 02, (h) switches off and with the exception that (i) there makes, for small books: every state is
+//! tried. Nothing is clever here, and nothing is shared with the engine.
 
 use crate::book::{Book, Literal, Rule};
 use crate::drive::Drive;
@@ -35,6 +35,12 @@ fn relevant(below: &[Vec<bool>], rule: &Rule, drive: Drive) -> bool {
     let driven = drive.layer as usize;
     let layer = usize::from(rule.layer);
     (layer == driven || below[layer][driven]) && !drive.is_off(rule.layer)
+}
+
+/// Document 02, (i): whether a rule has its head among its own body literals, the same fact with the
+/// same sign. Such a rule displaces nothing; all else about it is as document 01 has it.
+pub fn leans_on_itself(rule: &Rule) -> bool {
+    rule.body.contains(&rule.head)
 }
 
 /// Whether each plain literal of the body stands and each negated one does not.
@@ -97,13 +103,19 @@ impl Driven {
         self.below[usize::from(earlier.layer)][usize::from(later.layer)]
     }
 
+    /// Whether `later` displaces `earlier` where its body holds: it is of a later layer, has the
+    /// opposite head, and does not lean on itself.
+    fn may_reject(&self, later: &Rule, earlier: &Rule) -> bool {
+        self.is_below(earlier, later)
+            && later.head == earlier.head.opposite()
+            && !leans_on_itself(later)
+    }
+
     /// Document 01: displaced. Whether the displacing rule is itself displaced plays no part.
     pub fn rejected(&self, rule: &Rule, state: &[bool]) -> bool {
-        self.rules.iter().any(|other| {
-            self.is_below(rule, other)
-                && other.head == rule.head.opposite()
-                && body_holds(other, state)
-        })
+        self.rules
+            .iter()
+            .any(|other| self.may_reject(other, rule) && body_holds(other, state))
     }
 
     /// Whether "not f" is a default. Displaced rules count too.
@@ -160,15 +172,11 @@ impl Driven {
     }
 
     /// The second ground: whether each atom stands, with either sign, in the body of a rule whose
-    /// opposite head is the head of a rule of a layer below.
+    /// opposite head is the head of a rule of a layer below. A rule that leans on itself gives none.
     pub fn in_a_rejecting_body(&self) -> Vec<bool> {
         let mut rejecting = vec![false; self.atoms];
         for rule in &self.rules {
-            let may_reject = self
-                .rules
-                .iter()
-                .any(|lower| self.is_below(lower, rule) && lower.head == rule.head.opposite());
-            if may_reject {
+            if self.rules.iter().any(|lower| self.may_reject(rule, lower)) {
                 for literal in &rule.body {
                     rejecting[usize::from(literal.atom)] = true;
                 }
@@ -255,7 +263,7 @@ pub fn state(bytes: &[u8], atoms: u16) -> Option<Vec<bool>> {
 #[cfg(test)]
 mod tests {
     use super::*;
-    use crate::book::hex;
+    use crate::book::{hex, not, plain};
     use crate::drive::at;
     use crate::examples::{starred, Example};
     use crate::reader;
@@ -270,7 +278,7 @@ mod tests {
     }
 
     #[test]
-    fn starred_examples_have_the_listings_of_document_01() {
+    fn starred_examples_have_the_listings_of_documents_01_and_02() {
         for Example {
             book,
             layer,
@@ -286,6 +294,25 @@ mod tests {
             let what = format!("layer {layer}, book {}", hex(&book.bytes()));
             assert_eq!(hex(&driven.listing()), hex(&listing), "{what}");
             assert_eq!(driven.branching_count(), branching, "{what}");
+        }
+    }
+
+    #[test]
+    fn a_rule_leans_on_itself_by_the_same_fact_with_the_same_sign() {
+        let leans = |head, body: &[Literal]| {
+            leans_on_itself(&Rule {
+                layer: 0,
+                head,
+                body: body.to_vec(),
+            })
+        };
+        for (head, other) in [(plain(0), plain(1)), (not(0), not(1))] {
+            assert!(leans(head, &[head]));
+            assert!(leans(head, &[other, head]));
+            assert!(leans(head, &[head, head.opposite()]));
+            assert!(!leans(head, &[]));
+            assert!(!leans(head, &[head.opposite()]));
+            assert!(!leans(head, &[other, other.opposite()]));
         }
     }
 

@@ -37,7 +37,8 @@ struct Row {
     to: u32,
     head: Name,
     layer: u8,
-    /// Bit i: layer i is below the rule's and has a relevant rule with the opposite head.
+    /// Bit i: layer i is below the rule's and has a relevant rule with the opposite head. None where
+    /// the rule leans on itself.
     under: u32,
 }
 
@@ -73,7 +74,10 @@ impl Program {
             }
         }
         for row in &mut rows {
-            row.under = layers_of[opposite(row.head)] & below[usize::from(row.layer)];
+            let body = &bodies[row.from as usize..row.to as usize];
+            if !body.contains(&row.head) {
+                row.under = layers_of[opposite(row.head)] & below[usize::from(row.layer)];
+            }
         }
         let rejecting = rows.iter().copied().filter(|row| row.under != 0);
         Program {

@@ -480,7 +480,7 @@ fn example_self_arrow_and_257_facts() {
 
 /// The starred examples, whose listings are proved of the definitions, by the compiled call.
 #[test]
-fn starred_examples_have_the_listings_of_document_01() {
+fn starred_examples_have_the_listings_of_documents_01_and_02() {
     for (at, example) in examples::starred().iter().enumerate() {
         let records: Vec<Vec<u8>> = example.records.iter().map(|&byte| vec![byte]).collect();
         let listing = oracle::listing(example.book.atoms, &records);

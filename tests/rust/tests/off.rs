@@ -328,16 +328,17 @@ fn trap_rules_of_an_off_layer_neither_displace_nor_take_defaults_nor_branch() {
     assert_states(&nothing_below, at(1).off(0b01), &[0x00], 0);
 }
 
-/// Document 01's example with p, not p and "p if p": without its upper layer there is no state, and
+/// p, not p and "q if p", and above them "p if q": without the upper layer there is no state, and
 /// without the lower one there is no quarrel.
 #[test]
 fn a_quarrel_comes_back_when_what_settles_it_is_off() {
-    let book = Book::new(1, 2)
+    let book = Book::new(2, 2)
         .arrow(0, 1)
         .rule(0, plain(P), &[])
         .rule(0, not(P), &[])
-        .rule(1, plain(P), &[plain(P)]);
-    assert_states(&book, at(1), &[0x80], 1);
+        .rule(0, plain(Q), &[plain(P)])
+        .rule(1, plain(P), &[plain(Q)]);
+    assert_states(&book, at(1), &[0xC0], 1);
     assert_states(&book, at(1).off(0b10), &[], 0);
     assert_states(&book, at(1).off(0b01), &[0x00], 0);
 }
