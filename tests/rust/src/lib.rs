@@ -12,6 +12,7 @@ pub mod causes;
 #[allow(unsafe_code)]
 pub mod child;
 pub mod drive;
+pub mod every_call;
 pub mod examples;
 pub mod expected;
 #[allow(unsafe_code)]

@@ -4,11 +4,14 @@
 
 use lesson_tests::book::{hex, not, plain, Book, Literal};
 use lesson_tests::drive::{all_layers, at, Drive};
-use lesson_tests::expected::{branching, counts, place_of, yes_or_no, Asked, NO_STABLE_STATE};
+use lesson_tests::every_call::{
+    assert_as_the_oracle, assert_known, assert_states, assert_trap, sets, states, FILLER, ROOM,
+};
+use lesson_tests::expected::{branching, counts, place_of, yes_or_no};
 use lesson_tests::ffi;
 use lesson_tests::known;
 use lesson_tests::listed::{assert_outcome, outcome};
-use lesson_tests::misreadings::{Misread, Misreading, Misreading::*, OF_THE_SET};
+use lesson_tests::misreadings::{Misread, Misreading::*, OF_THE_SET};
 use lesson_tests::oracle::{self, Driven};
 use lesson_tests::plain as plain_rust;
 use lesson_tests::rng::{seed, Rng};
@@ -17,69 +20,6 @@ use lesson_tests::shapes::{self, Layering, NO_LAYERS};
 const P: u16 = 0;
 const Q: u16 = 1;
 const R: u16 = 2;
-
-/// What a buffer has before a call.
-const FILLER: u8 = 0xA5;
-
-/// Longer than any listing of 8 facts.
-const ROOM: usize = 300;
-
-/// Every state of so many facts.
-fn states(atoms: u16) -> impl Iterator<Item = Vec<bool>> {
-    (0..1u32 << atoms).map(move |number| (0..atoms).map(|atom| number >> atom & 1 == 1).collect())
-}
-
-/// All four calls come to what the oracle says, for every state and every fact of a small book, and
-/// in buffers with room and without. What `lesson_list` answers is returned.
-fn assert_as_the_oracle(what: &str, book: &Book, drive: Drive) -> u64 {
-    let bytes = book.bytes();
-    let asked = Asked::new(&bytes, drive);
-    let told = |call: &str| format!("{what}, {drive}, {call}\n{}", hex(&bytes));
-    for state in states(book.atoms) {
-        let record = oracle::record(&state);
-        let expected = asked.test(&record);
-        let engine = match expected == yes_or_no(true) {
-            true => ffi::test(&bytes, drive, &record),
-            false => ffi::test_in_place(&bytes, drive, &record),
-        };
-        assert_eq!(engine, expected, "{}", told(&hex(&record)));
-    }
-    let (answer, _) = asked.list(&[FILLER; ROOM]);
-    let exact = 11 + (answer >> 16) as usize;
-    for length in [ROOM, exact, exact - 1] {
-        let buffer = vec![FILLER; length];
-        assert_outcome(what, &bytes, drive, &buffer, &asked.list(&buffer));
-    }
-    for length in 0..3 {
-        let buffer = vec![FILLER; length];
-        let (engine, after) = ffi::one(&bytes, drive, &buffer);
-        let right = match asked.one(length) {
-            Err(cause) => engine == cause && after == buffer,
-            Ok((granted, records)) => {
-                let written = |record: &Vec<u8>| after == [record, &buffer[1..]].concat();
-                engine == granted && records.iter().any(written)
-            }
-        };
-        assert!(right, "{}: {engine:#X}, {}", told("one"), hex(&after));
-    }
-    for fact in 0..=book.atoms.into() {
-        let engine = ffi::place(&bytes, drive, fact);
-        assert_eq!(engine, asked.place(fact), "{}", told("place"));
-    }
-    answer
-}
-
-/// All sets of the layers of a book that has four at most; else none, all, and some at random.
-fn sets(rng: &mut Rng, layers: u8) -> Vec<u32> {
-    let all = all_layers(layers);
-    match layers {
-        0..=4 => (0..=all).collect(),
-        _ => {
-            let some = (0..12).map(|_| rng.word() as u32 & all);
-            [0, all].into_iter().chain(some).collect()
-        }
-    }
-}
 
 /// How often the cases came up for which random books are there.
 #[derive(Debug, Default)]
@@ -181,54 +121,6 @@ fn every_set_of_books_with_many_states_comes_to_what_the_oracle_says() {
         shapes::crowded(rng, layering)
     });
     assert_telling(&tally, [100, 500, 50], 0);
-}
-
-/// By all four calls, the stable states of a book of at most 8 facts are those of the one-byte
-/// records, which rise, and g is this.
-fn assert_known(what: &str, book: &Book, drive: Drive, records: &[u8], g: usize) {
-    let bytes = book.bytes();
-    let told = |call: &str| format!("{what}, {drive}, {call}\n{}", hex(&bytes));
-    for state in states(book.atoms) {
-        let record = oracle::record(&state);
-        let expected = yes_or_no(records.contains(&record[0]));
-        let engine = ffi::test(&bytes, drive, &record);
-        assert_eq!(engine, expected, "{}", told(&hex(&record)));
-    }
-    let listed: Vec<Vec<u8>> = records.iter().map(|&record| vec![record]).collect();
-    let listing = oracle::listing(book.atoms, &listed);
-    let buffer = [FILLER; ROOM];
-    let expected = outcome(&listing, counts(g, records.len()), &buffer);
-    assert_outcome(what, &bytes, drive, &buffer, &expected);
-    let (engine, after) = ffi::one(&bytes, drive, &[FILLER; 2]);
-    let right = match records {
-        [] => engine == NO_STABLE_STATE && after == [FILLER; 2],
-        _ => engine == branching(g) && records.contains(&after[0]) && after[1] == FILLER,
-    };
-    assert!(right, "{}: {engine:#X}, {}", told("one"), hex(&after));
-    for fact in 0..book.atoms {
-        let stands = |record: &&u8| *record >> (7 - fact) & 1 == 1;
-        let standing = records.iter().filter(stands).count();
-        let engine = ffi::place(&bytes, drive, fact.into());
-        let expected = place_of(g, standing, records.len());
-        assert_eq!(engine, expected, "{}", told("place"));
-    }
-}
-
-/// The same, and the oracle says so too.
-fn assert_states(book: &Book, drive: Drive, records: &[u8], branching: usize) {
-    assert_known("known", book, drive, records, branching);
-    let answer = assert_as_the_oracle("known", book, drive);
-    assert_eq!(answer, counts(branching, records.len()), "{drive}");
-}
-
-/// The same, and the misreading finds other states.
-fn assert_trap(book: &Book, drive: Drive, records: &[u8], branching: usize, wrong: Misreading) {
-    assert_states(book, drive, records, branching);
-    let misread = Misread::new(book, drive, wrong);
-    let misled =
-        |state: &Vec<bool>| misread.stable(state) != records.contains(&oracle::record(state)[0]);
-    let shown = states(book.atoms).any(|state| misled(&state));
-    assert!(shown, "the book does not show {wrong:?} at {drive}");
 }
 
 /// p in layer 0, and above it not p, and q.

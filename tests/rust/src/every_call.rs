@@ -1,0 +1,122 @@
+//! All four calls on a driven layer at once, on small books: against the oracle, against states that
+//! are known, and against misreadings, which must find others.
+
+use crate::book::{hex, Book};
+use crate::drive::{all_layers, Drive};
+use crate::expected::{branching, counts, place_of, yes_or_no, Asked, NO_STABLE_STATE};
+use crate::ffi;
+use crate::listed::{assert_outcome, outcome};
+use crate::misreadings::{Misread, Misreading};
+use crate::oracle;
+use crate::rng::Rng;
+
+/// What a buffer has before a call.
+pub const FILLER: u8 = 0xA5;
+
+/// Longer than any listing of 8 facts.
+pub const ROOM: usize = 300;
+
+/// Every state of so many facts.
+pub fn states(atoms: u16) -> impl Iterator<Item = Vec<bool>> {
+    (0..1u32 << atoms).map(move |number| (0..atoms).map(|atom| number >> atom & 1 == 1).collect())
+}
+
+/// All four calls come to what the oracle says, for every state and every fact of a small book, and
+/// in buffers with room and without. What `lesson_list` answers is returned.
+pub fn assert_as_the_oracle(what: &str, book: &Book, drive: Drive) -> u64 {
+    let bytes = book.bytes();
+    let asked = Asked::new(&bytes, drive);
+    let told = |call: &str| format!("{what}, {drive}, {call}\n{}", hex(&bytes));
+    for state in states(book.atoms) {
+        let record = oracle::record(&state);
+        let expected = asked.test(&record);
+        let engine = match expected == yes_or_no(true) {
+            true => ffi::test(&bytes, drive, &record),
+            false => ffi::test_in_place(&bytes, drive, &record),
+        };
+        assert_eq!(engine, expected, "{}", told(&hex(&record)));
+    }
+    let (answer, _) = asked.list(&[FILLER; ROOM]);
+    let exact = 11 + (answer >> 16) as usize;
+    for length in [ROOM, exact, exact - 1] {
+        let buffer = vec![FILLER; length];
+        assert_outcome(what, &bytes, drive, &buffer, &asked.list(&buffer));
+    }
+    for length in 0..3 {
+        let buffer = vec![FILLER; length];
+        let (engine, after) = ffi::one(&bytes, drive, &buffer);
+        let right = match asked.one(length) {
+            Err(cause) => engine == cause && after == buffer,
+            Ok((granted, records)) => {
+                let written = |record: &Vec<u8>| after == [record, &buffer[1..]].concat();
+                engine == granted && records.iter().any(written)
+            }
+        };
+        assert!(right, "{}: {engine:#X}, {}", told("one"), hex(&after));
+    }
+    for fact in 0..=book.atoms.into() {
+        let engine = ffi::place(&bytes, drive, fact);
+        assert_eq!(engine, asked.place(fact), "{}", told("place"));
+    }
+    answer
+}
+
+/// By all four calls, the stable states of a book of at most 8 facts are those of the one-byte
+/// records, which rise, and g is this.
+pub fn assert_known(what: &str, book: &Book, drive: Drive, records: &[u8], g: usize) {
+    let bytes = book.bytes();
+    let told = |call: &str| format!("{what}, {drive}, {call}\n{}", hex(&bytes));
+    for state in states(book.atoms) {
+        let record = oracle::record(&state);
+        let expected = yes_or_no(records.contains(&record[0]));
+        let engine = ffi::test(&bytes, drive, &record);
+        assert_eq!(engine, expected, "{}", told(&hex(&record)));
+    }
+    let listed: Vec<Vec<u8>> = records.iter().map(|&record| vec![record]).collect();
+    let listing = oracle::listing(book.atoms, &listed);
+    let buffer = [FILLER; ROOM];
+    let expected = outcome(&listing, counts(g, records.len()), &buffer);
+    assert_outcome(what, &bytes, drive, &buffer, &expected);
+    let (engine, after) = ffi::one(&bytes, drive, &[FILLER; 2]);
+    let right = match records {
+        [] => engine == NO_STABLE_STATE && after == [FILLER; 2],
+        _ => engine == branching(g) && records.contains(&after[0]) && after[1] == FILLER,
+    };
+    assert!(right, "{}: {engine:#X}, {}", told("one"), hex(&after));
+    for fact in 0..book.atoms {
+        let stands = |record: &&u8| *record >> (7 - fact) & 1 == 1;
+        let standing = records.iter().filter(stands).count();
+        let engine = ffi::place(&bytes, drive, fact.into());
+        let expected = place_of(g, standing, records.len());
+        assert_eq!(engine, expected, "{}", told("place"));
+    }
+}
+
+/// The same, and the oracle says so too.
+pub fn assert_states(book: &Book, drive: Drive, records: &[u8], branching: usize) {
+    assert_known("known", book, drive, records, branching);
+    let answer = assert_as_the_oracle("known", book, drive);
+    assert_eq!(answer, counts(branching, records.len()), "{drive}");
+}
+
+/// The same, and the misreading finds other states.
+pub fn assert_trap(book: &Book, drive: Drive, records: &[u8], branching: usize, wrong: Misreading) {
+    assert_states(book, drive, records, branching);
+    let misread = Misread::new(book, drive, wrong);
+    let misled =
+        |state: &Vec<bool>| misread.stable(state) != records.contains(&oracle::record(state)[0]);
+    let shown = states(book.atoms).any(|state| misled(&state));
+    assert!(shown, "the book does not show {wrong:?} at {drive}");
+}
+
+/// All sets of the layers of a book that has four at most; else none, all, and some at random.
+pub fn sets(rng: &mut Rng, layers: u8) -> Vec<u32> {
+    let all = all_layers(layers);
+    match layers {
+        0..=4 => (0..=all).collect(),
+        _ => {
+            let some = (0..12).map(|_| rng.word() as u32 & all);
+            [0, all].into_iter().chain(some).collect()
+        }
+    }
+}
