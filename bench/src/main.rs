@@ -335,6 +335,8 @@ fn searches(table: &Table) {
     table.list("largest lawful book", &busy(10));
     table.list("largest lawful book", &busy(14));
     table.list("worst order for filling", &known::chained(5));
+    let leaning = known::leaning(&mut rng("leaning"), 10);
+    table.list("1,024 rules, most lean on themselves", &leaning);
     table.list("rising, 3 bytes", &known::free(12, 0, 24));
     table.list("rising, 4 bytes", &known::free(14, 0, 28));
     table.list("falling, 6 bytes", &known::followed(14, 14, 42, FALLING));

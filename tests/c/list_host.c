@@ -1,9 +1,26 @@
-/* Checks lesson_list from C, through the header: B's listings, what a refusal leaves, and NULL. */
+/* Checks lesson_list from C, through the header: listings of B and of two books with a rule that leans
+ * on itself, what a refusal leaves, and NULL. */
 #include "host.h"
 
 #define NOISE 0xA5
 
 static uint8_t buffer[64];
+
+/* p and not p in layer 0, and above it, in layer 1, "p if p": it displaces neither. */
+static const uint8_t quarrel[37] = {
+    1, 0, 0, 0, 37, 0, 1, 2,                    /* head: 1 fact, 2 layers */
+    0, 0, 0, 3, 0, 1, 2, 0, 1,                  /* at 8: arrow section */
+    0, 0, 0, 14, 0, 3,                          /* at 17: rule section */
+    3, 0, 0, 0, 3, 0, 0x80, 0, 5, 1, 0, 0, 0, 0 /* at 23 */
+};
+
+/* p in layer 0, and above it "not p if not p": it does not displace p. */
+static const uint8_t denied[33] = {
+    1, 0, 0, 0, 33, 0, 1, 2,           /* head */
+    0, 0, 0, 3, 0, 1, 2, 0, 1,         /* at 8: arrow section */
+    0, 0, 0, 10, 0, 2,                 /* at 17: rule section */
+    3, 0, 0, 0, 5, 1, 0x80, 0, 0x80, 0 /* at 23 */
+};
 
 /* Lists into the first bytes of the buffer, all of it noise before. */
 static void expect(const char *what, const uint8_t *book, size_t length, uint32_t layer,
@@ -54,6 +71,10 @@ int main(void)
     expect_buffer("  and its listing", "\x01\0\0\0\x0C\0\x03\0\0\0\x01\x80", 12);
     expect("B at 3, all off", B, sizeof B, 3, 15, 12, counts(0, 1));
     expect_buffer("  and its listing", "\x01\0\0\0\x0C\0\x03\0\0\0\x01\0", 12);
+    expect("p, not p, above them p if p", quarrel, sizeof quarrel, 1, 0, 40, counts(0, 0));
+    expect_buffer("  and its listing", "\x01\0\0\0\x0B\0\x01\0\0\0\0", 11);
+    expect("p, above it not p if not p", denied, sizeof denied, 1, 0, 40, counts(1, 1));
+    expect_buffer("  and its listing", "\x01\0\0\0\x0C\0\x01\0\0\0\x01\x80", 12);
     expect_refused("B at 3 in 11 bytes", B, sizeof B, 3, 0, 11, LESSON_BUFFER_TOO_SHORT);
     expect_refused("B at 4", B, sizeof B, 4, 0, 40, LESSON_NO_SUCH_LAYER);
     expect_refused("layer before buffer", B, sizeof B, UINT32_MAX, 0, 0, LESSON_NO_SUCH_LAYER);

@@ -136,9 +136,10 @@ fn searched(rng: &mut Rng) -> Book {
         Layering::Branches,
         Layering::Any,
     ]);
-    match rng.below(4) {
+    match rng.below(5) {
         0 => shapes::choices(rng),
         1 => shapes::crowded(rng, layering),
+        2 => shapes::leaning(rng, layering),
         _ => shapes::layered(rng, layering),
     }
 }

@@ -628,6 +628,33 @@ pub fn chained(choices: u16) -> Known {
     }
 }
 
+/// 256 facts, the first of which may stand or not behind their helpers, and 1,024 rules, most of which
+/// lean on themselves: they have 16 literals, and say the opposite of rules below them. They change
+/// neither the states nor the branching facts.
+pub fn leaning(rng: &mut Rng, choices: u16) -> Known {
+    let known = free(choices, 0, 256);
+    let mut book = known.book;
+    let any = |rng: &mut Rng| plain(rng.below((2 * choices).into()) as u16);
+    while book.rules.len() < 1024 {
+        // "not helper" has a rule below, and so has "choice". A helper that is negated would branch.
+        let fact = any(rng);
+        let head = match fact.atom < choices {
+            true => fact,
+            false => fact.opposite(),
+        };
+        let mut body: Vec<Literal> = (0..16).map(|_| any(rng)).collect();
+        for literal in &mut body {
+            if literal.atom >= choices && rng.chance(50) {
+                *literal = literal.opposite();
+            }
+        }
+        body[rng.below(16)] = head;
+        book = book.rule(1, head, &body);
+    }
+    rng.shuffle(&mut book.rules);
+    Known { book, ..known }
+}
+
 /// What becomes of each setting of a slow book at its end, by the rules about `DOUBTED`.
 #[derive(Clone, Copy, Debug, PartialEq, Eq)]
 pub enum Ending {
@@ -894,6 +921,10 @@ pub(crate) mod tests {
             let busy = busy(&mut rng, branching);
             assert_eq!(busy.book.bytes().len(), 38_372);
             assert_known(&format!("seed {seed}, busy"), &busy);
+        }
+        for choices in [1, 5] {
+            let leaning = leaning(&mut rng, choices);
+            assert_known(&format!("seed {seed}, leaning"), &leaning);
         }
         let chained = chained(3);
         assert_eq!(chained.book.rules.len(), 1_024);

@@ -417,8 +417,11 @@ mod tests {
         let seed = seed();
         let mut rng = Rng::named(seed, "plain tester");
         let mut stable = 0;
-        for _ in 0..1_000 {
-            let book = shapes::choices(&mut rng);
+        for turn in 0..1_500 {
+            let book = match turn % 3 {
+                0 => shapes::leaning(&mut rng, Layering::Diamond),
+                _ => shapes::choices(&mut rng),
+            };
             let bytes = book.bytes();
             for layer in 0..u32::from(book.layers) {
                 let drive = at(layer).off(shapes::some_layers(&mut rng, book.layers));
@@ -446,8 +449,9 @@ mod tests {
         let mut rng = Rng::named(seed, "plain search");
         let mut several = 0;
         for turn in 0..3_000 {
-            let book = match turn % 2 {
+            let book = match turn % 3 {
                 0 => shapes::choices(&mut rng),
+                1 => shapes::leaning(&mut rng, Layering::Any),
                 _ => shapes::layered(&mut rng, Layering::Any),
             };
             let bytes = book.bytes();

@@ -234,7 +234,8 @@ pub fn layered(rng: &mut Rng, layering: Layering) -> Book {
     let (layers, arrows) = lie(rng, layering);
     let order = hidden_order(rng, layers);
     let most = rng.pick(&[3, 4, 8]);
-    let mut book = Book::new(rng.range(1, most) as u16, layers as u8);
+    let fewest = rng.pick(&[1, 2, 2, 2]);
+    let mut book = Book::new(rng.range(fewest, most) as u16, layers as u8);
     for (earlier, later) in arrows {
         book = book.arrow(order[earlier], order[later]);
     }
@@ -256,6 +257,67 @@ pub fn layered(rng: &mut Rng, layering: Layering) -> Book {
     }
     rng.shuffle(&mut book.rules);
     book
+}
+
+/// The same with a raised share of rules that lean on themselves. Each says what some rule of the book
+/// says, or more often the opposite, and this mostly in a layer right above it. Its head stands in its
+/// body once or twice, at any place. Some have beside them the same rule without its head in the body,
+/// or with the opposite of its head there: these do displace. For a quarter of them there comes what
+/// tells the latter from a rule that leans on itself.
+pub fn leaning(rng: &mut Rng, layering: Layering) -> Book {
+    let mut book = layered(rng, layering);
+    let atoms = usize::from(book.atoms);
+    for _ in 0..rng.range(1, 5) {
+        let about = book.rules[rng.below(book.rules.len())].clone();
+        let head = match rng.chance(75) {
+            true => about.head.opposite(),
+            false => about.head,
+        };
+        let above = book.arrows.iter().filter(|up| up.earlier == about.layer);
+        let above: Vec<u8> = above.map(|up| up.later).collect();
+        let layer = match above.is_empty() || rng.chance(25) {
+            true => rng.below(book.layers.into()) as u8,
+            false => rng.pick(&above),
+        };
+        let mut others = Vec::new();
+        for _ in 0..rng.below(3) {
+            others.push(match rng.chance(50) {
+                true => literal(rng, atoms, 50),
+                false => book.rules[rng.below(book.rules.len())].head,
+            });
+        }
+        let mut body = others.clone();
+        for _ in 0..rng.range(1, 2) {
+            body.insert(rng.range(0, body.len()), head);
+        }
+        book = book.rule(layer, head, &body);
+        book = match rng.below(4) {
+            0 => book.rule(layer, head, &others),
+            1 => book.rule(layer, head, &[&others[..], &[head.opposite()]].concat()),
+            2 => leans_on_the_opposite(rng, book, head),
+            _ => book,
+        };
+    }
+    rng.shuffle(&mut book.rules);
+    book
+}
+
+/// Along two arrows: the opposite of a head, and a fact that follows it; the head if its opposite; and
+/// the opposite again if that fact stands. The first rule is displaced where the last two hold, though
+/// the second is displaced too; then nothing reaches the fact that the last one leans on.
+fn leans_on_the_opposite(rng: &mut Rng, book: Book, head: Literal) -> Book {
+    let opposite = head.opposite();
+    let follower = plain(rng.below(book.atoms.into()) as u16);
+    let arrows = book.arrows.iter();
+    let mut two = arrows.flat_map(|up| book.arrows.iter().map(move |next| (*up, *next)));
+    match two.find(|(up, next)| up.later == next.earlier) {
+        Some((up, next)) => book
+            .rule(up.earlier, opposite, &[])
+            .rule(up.earlier, follower, &[opposite])
+            .rule(up.later, head, &[opposite])
+            .rule(next.later, opposite, &[follower]),
+        None => book,
+    }
 }
 
 /// A small lawful book with several choices that are free of each other, in all forms, and a little
@@ -309,7 +371,12 @@ fn each_displaces_the_other(book: Book, up: Arrow, f: u16, h: u16) -> Book {
 /// A few rules more that belong together.
 fn with_motif(rng: &mut Rng, book: Book) -> Book {
     let atoms = usize::from(book.atoms);
-    let (f, h) = (rng.below(atoms) as u16, rng.below(atoms) as u16);
+    let f = rng.below(atoms) as u16;
+    // Mostly another one.
+    let h = match rng.chance(90) {
+        true => (f + rng.range(1, atoms.max(2) - 1) as u16) % book.atoms,
+        false => f,
+    };
     let layer = rng.below(usize::from(book.layers)) as u8;
     let mut sign = |atom| Literal {
         atom,
@@ -321,7 +388,7 @@ fn with_motif(rng: &mut Rng, book: Book) -> Book {
         false => &[],
     };
     // A rule of a layer above that leans on itself, or on a fact that follows its head below.
-    let leaning = rng.chance(40);
+    let leaning = rng.chance(25);
     let leans = |book: Book, below: u8, above: u8| match leaning {
         true => book.rule(above, head, &[head]),
         false => book
@@ -341,7 +408,7 @@ fn with_motif(rng: &mut Rng, book: Book) -> Book {
         .arrows
         .iter()
         .find(|other| other.later == up.later && other.earlier != up.earlier);
-    match (rng.below(12), further.copied(), beside.copied()) {
+    match (rng.below(16), further.copied(), beside.copied()) {
         (0, ..) => conflict(book, layer, head, body),
         (1, ..) => book.rule(layer, head, &[head]),
         (2, ..) => circle(book, layer, f, h),
@@ -356,14 +423,14 @@ fn with_motif(rng: &mut Rng, book: Book) -> Book {
             .rule(up.later, not(f), &[not(h)])
             .rule(up.later, not(h), &[not(f)]),
         // The displacing rule is itself displaced.
-        (7..=8, Some(further), _) => {
+        (7..=10, Some(further), _) => {
             let book = book
                 .rule(up.earlier, head, &[])
                 .rule(up.later, head.opposite(), body);
             leans(book, up.earlier, further.later)
         }
         // A quarrel between two layers side by side, and one above both.
-        (7..=10, _, Some(beside)) => {
+        (7..=14, _, Some(beside)) => {
             let book = book
                 .rule(up.earlier, head, &[])
                 .rule(beside.earlier, head.opposite(), body);

@@ -162,6 +162,14 @@ fn every_call_in_books_with_any_arrows_is_the_oracles_and_the_engines() {
 }
 
 #[test]
+fn every_call_in_books_with_leaning_rules_is_the_oracles_and_the_engines() {
+    sweep("bit sets, leaning", 3_500, |rng| {
+        let layering = rng.pick(&[Layering::Chain, Layering::Diamond, Layering::Any]);
+        shapes::leaning(rng, layering)
+    });
+}
+
+#[test]
 fn every_call_in_books_with_many_states_is_the_oracles_and_the_engines() {
     sweep("bit sets, many states", 400, |rng| {
         shapes::crowded(rng, Layering::Diamond)
@@ -228,6 +236,8 @@ fn known_states_of_larger_books_are_found_by_both() {
         assert_known(&format!("seed {seed}, spread"), &known);
     }
     assert_known(&format!("seed {seed}, busy"), &known::busy(&mut rng, 7));
+    let leaning = known::leaning(&mut rng, 5);
+    assert_known(&format!("seed {seed}, leaning"), &leaning);
     assert_known("worst order", &known::chained(2));
     for (what, known) in known::every_slow(&mut rng, 1) {
         assert_known(&format!("seed {seed}, {what}"), &known);

@@ -134,6 +134,13 @@ fn a_book_without_states_has_one_line() {
     let book = Book::new(1, 1).rule(0, plain(0), &[not(0)]);
     let line = "facts 1 models 0 branching 1\n";
     assert_printed("p if not p", &book.bytes(), line);
+    let book = Book::new(1, 2)
+        .arrow(0, 1)
+        .rule(0, plain(0), &[])
+        .rule(0, not(0), &[])
+        .rule(1, plain(0), &[plain(0)]);
+    let line = "facts 1 models 0 branching 0\n";
+    assert_printed("p, not p, and above them p if p", &book.bytes(), line);
 }
 
 #[test]

@@ -111,7 +111,7 @@ fn assert_telling(tally: &Tally, but: &[Misreading]) {
     for (misreading, &times) in misreadings::EVERY.iter().zip(&tally.told_apart) {
         let told_elsewhere = misreadings::OF_LEANING.contains(misreading);
         assert!(
-            times >= 10 || told_elsewhere || but.contains(misreading),
+            times >= 5 || told_elsewhere || but.contains(misreading),
             "{misreading:?} is told apart only {times} times"
         );
     }
