@@ -46,10 +46,10 @@ impl Order {
     }
 }
 
-/// The facts that so many choices take: every three of them have two helpers, as `free_three` has it,
-/// and those that are left one each. With a helper for each, 20 choices would fill 5 bytes, and no fact
-/// would be left to order the records by.
-pub const fn facts(choices: u16) -> u16 {
+/// The fewest facts that so many choices take: every three of them have two helpers, as `free_three`
+/// has it, and those that are left one each. With a helper for each, 20 choices would fill 5 bytes, and
+/// no fact would be left to order the records by.
+pub const fn fewest_facts(choices: u16) -> u16 {
     2 * choices - choices / 3
 }
 
@@ -131,11 +131,32 @@ impl Ordered {
 
     /// The fewest facts that it can have: then none tells of a choice.
     pub fn fewest_atoms(self) -> u16 {
-        facts(self.choices) + self.idle + self.stops()
+        fewest_facts(self.choices) + self.idle + self.stops()
+    }
+
+    /// How often three choices share two helpers: only as often as a whole order has no room else.
+    fn threes(self) -> u16 {
+        let telling = match self.order {
+            Order::Rising => 0,
+            Order::ParityFirst => (2 * self.choices.div_ceil(4)).saturating_sub(1),
+            _ => self.choices,
+        };
+        let facts = 2 * self.choices + self.idle + self.stops() + telling;
+        facts.saturating_sub(self.atoms).min(self.choices / 3)
+    }
+
+    /// The helpers of the choices.
+    fn free_helpers(self) -> u16 {
+        self.choices - self.threes()
+    }
+
+    /// The facts that are left beside the branching ones and the helpers of the choices.
+    fn room(self) -> u16 {
+        self.atoms - self.branching() - self.free_helpers()
     }
 
     fn followers(self) -> Followers {
-        let room = self.atoms - self.fewest_atoms();
+        let room = self.room();
         let front = match self.order {
             Order::Rising => 0,
             Order::ParityFirst => room.min(self.choices).min(1),
@@ -169,7 +190,7 @@ impl Ordered {
 
     fn places(self) -> Places {
         let Followers { front, helpers, .. } = self.followers();
-        let spare = self.atoms - self.fewest_atoms() - front - helpers;
+        let spare = self.room() - front - helpers;
         let choices = spare + front;
         let behind = choices + self.branching();
         Places {
@@ -182,21 +203,19 @@ impl Ordered {
         }
     }
 
-    /// The choices with their helpers: three with two as often as there are three, then one with one.
+    /// The choices with their helpers: three with two, and then one with one.
     fn free(self) -> Vec<[Range<u16>; 2]> {
-        let places = self.places();
-        let (mut choice, mut helper) = (places.choices, places.free);
-        let mut free = Vec::new();
-        while choice < places.idle {
-            let [choices, helpers] = match places.idle - choice {
-                1 | 2 => [1, 1],
-                _ => [3, 2],
-            };
-            free.push([choice..choice + choices, helper..helper + helpers]);
-            choice += choices;
-            helper += helpers;
-        }
-        free
+        let threes = self.threes();
+        let ones = self.choices - 3 * threes;
+        let sizes = (0..threes).map(|_| [3, 2]).chain((0..ones).map(|_| [1, 1]));
+        let Places { choices, free, .. } = self.places();
+        let mut starts = [choices, free];
+        let ranges = sizes.map(|sizes| {
+            let from = starts;
+            starts = [from[0] + sizes[0], from[1] + sizes[1]];
+            [from[0]..starts[0], from[1]..starts[1]]
+        });
+        ranges.collect()
     }
 
     /// The rules of the facts that follow, in an order in which none needs a later one.
@@ -388,7 +407,8 @@ mod tests {
                     at_the_end: rng.chance(50),
                 };
                 let fewest = ordered.fewest_atoms().max(1);
-                ordered.atoms = rng.range(fewest.into(), 13) as u16;
+                let most = rng.pick(&[fewest, 13]);
+                ordered.atoms = rng.range(fewest.into(), most.into()) as u16;
                 let known = ordered.known(&mut rng);
                 assert_known(&format!("seed {seed}, {ordered:?}"), &known);
             }

@@ -6,7 +6,7 @@ use lesson_tests::ffi;
 use lesson_tests::known::{self, Known};
 use lesson_tests::listed::{assert_outcome, outcome};
 use lesson_tests::oracle::{self, Driven};
-use lesson_tests::orders::{facts, Order, Ordered};
+use lesson_tests::orders::{fewest_facts, Order, Ordered};
 use lesson_tests::rng::{seed, Rng};
 
 /// The bytes of a listing's head.
@@ -102,9 +102,9 @@ fn assert_long_listed(what: &str, known: &Known, listing: &[u8], length: usize) 
 /// A book of any sizes with so many choices at most, among so many facts. In a quarter of them or
 /// more each setting has a state.
 fn any(rng: &mut Rng, order: Order, choices: u16, atoms: u16) -> Ordered {
-    let most = (0..=choices).rfind(|&choices| facts(choices) <= atoms);
+    let most = (0..=choices).rfind(|&choices| fewest_facts(choices) <= atoms);
     let choices = rng.range(0, most.unwrap_or(0).into()) as u16;
-    let mut left = usize::from(atoms - facts(choices));
+    let mut left = usize::from(atoms - fewest_facts(choices));
     let cuts = match left > 0 && rng.chance(50) {
         true => rng.range(1, 4) as u16,
         false => 0,
@@ -159,7 +159,7 @@ fn records_of_1_to_32_bytes_are_listed_in_every_order() {
             // Choices, their helpers and what follows from them in the last byte alone.
             let last_byte = Ordered {
                 at_the_end: true,
-                ..Ordered::new(order, 3, 8 * width)
+                ..Ordered::new(order, 2, 8 * width)
             };
             let mut of_any_sizes = |choices| {
                 let atoms = 8 * width - rng.below(8) as u16;
