@@ -11,7 +11,7 @@ use lib.ListN.{length, getD, drop}
 use Rattle.base.specs.Bounds.{maxBody}
 use Rattle.base.specs.Lists.{all, any, upTo}
 use Rattle.format.specs.Book.{literalOf, literalsOf, arrowOf, ruleOf}
-use Rattle.book.specs.Causes.{arrowOk, ruleLength, atomBelow, ruleOk}
+use Rattle.book.specs.Causes.{arrowOk, ruleLength, atomBelow, headOk, ruleOk}
 use Rattle.base.proofs.UpTo.{passed, failed, upTo-lt, upTo-has}
 use Rattle.base.proofs.Members.{any-at, any-of}
 
@@ -59,7 +59,7 @@ module _ (l n : ℕ) (r : List ℕ) where
     unfolding ruleOk ruleOf
     rule-layer h = sym (rw (of-length (length r) low high odd, le-ltb (getD r 0 0) l (omega arith)) refl)
 
-    module _ (h : x < l) (u : Bool) (eu : u ≡ atomBelow n (literalOf (getD r 1 0) (getD r 2 0))) where
+    module _ (h : x < l) (u : Bool) (eu : u ≡ headOk n (literalOf (getD r 1 0) (getD r 2 0))) where
       pub rule-head : u ≡ false → false ≡ ruleOk l n r
       unfolding ruleOk ruleOf
       rule-head f = sym (rw (of-length (length r) low high odd, lt-ltb (getD r 0 0) l (omega arith), ← eu, f) refl)

@@ -7,7 +7,7 @@ use lib.ListN.{length}
 use Rattle.base.specs.Bounds.{maxAtoms, maxLayers, maxArrows, maxRules, maxBody}
 use Rattle.base.specs.Lists.{all, any, upTo}
 use Rattle.layers.specs.Layers.{repeats, below}
-use Rattle.format.specs.Book.{Literal, version, lengthField, atomCount, layerCount, sectionCount, arrowSection, ruleSection, arrowRecords, ruleRecords, arrowOf, ruleOf, arrowsOf}
+use Rattle.format.specs.Book.{Literal, version, lengthField, atomCount, layerCount, sectionCount, arrowSection, ruleSection, arrowRecords, ruleRecords, arrowOf, ruleOf, isFalsity, arrowsOf}
 use Rattle.format.specs.Sections.{hasBrokenSection}
 use Rattle.book.specs.declared.Cause.{Cause}
 use Rattle.book.specs.declared.Cause.the-variants.{TooShort, WrongVersion, WrongLength, BrokenSection, OutOfRange, BadRecord, RepeatedArrow, Cycle}
@@ -28,10 +28,14 @@ ruleLength k = any (λ b. eqb k (3 + 2 * b)) (upTo (maxBody + 1))
 unfoldable pub atomBelow : ℕ → Literal → Bool
 atomBelow n l = ltb (l .atom) n
 
--- a rule has such a length, its layer is below L, and the facts of its head and of its body are below n
+-- a head's fact is below n; document 02, (c): or the head is the plain 32,767, whatever n is
+unfoldable pub headOk : ℕ → Literal → Bool
+headOk n l = atomBelow n l || isFalsity l
+
+-- a rule has such a length, its layer is below L, its head is lawful, and the facts of its body are below n
 unfoldable pub ruleOk : ℕ → ℕ → List ℕ → Bool
 ruleOk layers n r =
-    ruleLength (length r) && ltb (ruleOf r .layer) layers && atomBelow n (ruleOf r .head) && all (atomBelow n) (ruleOf r .body)
+    ruleLength (length r) && ltb (ruleOf r .layer) layers && headOk n (ruleOf r .head) && all (atomBelow n) (ruleOf r .body)
 
 -- The causes but for 4, which is `hasBrokenSection` of the crate below.
 module _ (s : List ℕ) where
@@ -53,7 +57,7 @@ module _ (s : List ℕ) where
       not (within 1 maxAtoms (atomCount s)) || not (within 1 maxLayers (layerCount s))
       || not (within 0 maxArrows (sectionCount s (arrowSection s))) || not (within 0 maxRules (sectionCount s (ruleSection s)))
 
-  -- 6: a record's length not of its kind, a layer not below L, or a literal's fact not below n
+  -- 6: a record's length not of its kind, a layer not below L, or a literal's fact not below n, but for the head of a constraint
   unfoldable pub hasBadRecord : Bool
   hasBadRecord =
       not (all (arrowOk (layerCount s)) (arrowRecords s)) || not (all (ruleOk (layerCount s) (atomCount s)) (ruleRecords s))

@@ -10,7 +10,7 @@ ghost use Rattle.layers.specs.Layers.{link, repeats, sameArrow};
 ghost use Rattle.layers.specs.Masks.{marked, LowerMasks};
 ghost use Rattle.format.specs.Book.{records, literalOf, literalsOf, arrowOf, arrowsOf};
 ghost use Rattle.format.specs.Sections.{hasBrokenSection};
-ghost use Rattle.book.specs.Causes.{within, arrowOk, atomBelow, ruleOk, isOutOfRange, hasBadRecord, repeatsArrow, tests, firstOf, verdict};
+ghost use Rattle.book.specs.Causes.{within, arrowOk, atomBelow, headOk, ruleOk, isOutOfRange, hasBadRecord, repeatsArrow, tests, firstOf, verdict};
 ghost use Rattle.book.specs.Checks.{HeaderOf, Checks};
 ghost use Rattle.book.specs.declared.Verdict.the-variants.{Refused};
 ghost use Rattle.book.specs.Numbers.{numberOf};
@@ -23,6 +23,7 @@ use base::wide;
 use format::be16;
 use format::be32;
 use format::broken_section;
+use format::is_falsity;
 use format::literal_value;
 use format::record_end;
 
@@ -127,6 +128,16 @@ pub fn literals_ok(literals: &[u8], atoms: usize) -> bool
 // Bytes of the longest record of a rule: a layer, a head and a whole body.
 const LONGEST_RULE: usize = 3 + 2 * MAX_BODY;
 
+// Whether the literal of two bytes is a lawful head: its fact is below the number of facts, or it is the head of a constraint.
+fn head_ok(a: u8, b: u8, atoms: usize) -> bool
+    ensures { λ r. ⌜ r ≡ headOk atoms (literalOf a b) ⌝ }
+{
+    if atom_ok(a, b, atoms) {
+        return true;
+    }
+    is_falsity(a, b)
+}
+
 // Whether a rule's record has length 3 + 2b with b up to MAX_BODY, a layer below L and facts below n.
 pub fn rule_ok(rec: &[u8], layers: usize, atoms: usize) -> bool
     ensures { λ r. ⌜ r ≡ ruleOk layers atoms (now (rec .entry)) ⌝ }
@@ -144,7 +155,7 @@ pub fn rule_ok(rec: &[u8], layers: usize, atoms: usize) -> bool
     if layers <= wide(rec[0]) {
         return false;
     }
-    if !atom_ok(rec[1], rec[2], atoms) {
+    if !head_ok(rec[1], rec[2], atoms) {
         return false;
     }
     literals_ok(&rec[3..len], atoms)

@@ -1,9 +1,9 @@
 -- Document 01, "The book": its fields, its two sections, their records, and the facts, layers, arrows and rules that they give.
 -- Each definition is total: a byte past the end reads as 0, and what that means is left to the causes. Assumes nothing.
-use mathlib.Core.Bool.{Bool, true, _&&_}
+use mathlib.Core.Bool.{Bool, true, not, _&&_}
 use mathlib.Core.List.{List, [], _∷_, map}
 use Prim.Native.Nat.{ℕ, zero, suc, _+_, _*_, _%_, min}
-use lib.Dec.{leb}
+use lib.Dec.{eqb, leb}
 use lib.ListN.{length, getD, take, drop}
 use Rattle.layers.specs.Layers.{Arrow}
 
@@ -85,6 +85,14 @@ arrowOf r = record { earlier = getD r 0 0; later = getD r 1 0 }
 -- a rule record: its layer, its head literal, then its body literals
 unfoldable pub ruleOf : List ℕ → Rule
 ruleOf r = record { layer = getD r 0 0; head = literalOf (getD r 1 0) (getD r 2 0); body = literalsOf (drop 3 r) }
+
+-- Document 02, (c): the plain literal 32,767, which names no fact. As a head it is the "false" of 003.
+unfoldable pub isFalsity : Literal → Bool
+isFalsity l = eqb (l .atom) 32767 && not (l .negated)
+
+-- a rule record with that head: its body must never hold
+unfoldable pub isConstraint : Rule → Bool
+isConstraint r = isFalsity (r .head)
 
 -- The fields of the book, at their offsets.
 module _ (s : List ℕ) where

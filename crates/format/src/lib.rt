@@ -5,7 +5,7 @@ ghost use mathlib.Core.Bool.{_&&_};
 ghost use Prim.Native.Nat.{_+_, _*_, _≤_, _<_};
 ghost use lib.Dec.{eqb};
 ghost use lib.ListN.{length};
-ghost use Rattle.format.specs.Book.{u16At, u32At, records, meetsEnd, recordEnd};
+ghost use Rattle.format.specs.Book.{u16At, u32At, records, meetsEnd, recordEnd, literalOf, isFalsity};
 ghost use Rattle.format.specs.Sections.{wholeSection, hasBrokenSection};
 use base::wide;
 
@@ -32,6 +32,13 @@ pub fn literal_value(a: u8, b: u8) -> usize
     ensures { λ r. ⌜ (r ≡ a * 256 + b) × (r < 65536) ⌝ }
 {
     wide(a) * 256 + wide(b)
+}
+
+// Whether the literal of two bytes is the plain 32,767, the head of a constraint.
+pub fn is_falsity(a: u8, b: u8) -> bool
+    ensures { λ r. ⌜ r ≡ isFalsity (literalOf a b) ⌝ }
+{
+    literal_value(a, b) == 32767
 }
 
 // Whether the records of a section's bytes meet its end, and their number is the count.

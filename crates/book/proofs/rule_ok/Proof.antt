@@ -28,17 +28,17 @@ wide-requires c κs = search needs
 returns-4 : tie.Need-returns-4
 returns-4 c = rule-layer (c .before .before .before .before .before .before .before .args .layers) (c .before .before .before .before .before .before .before .args .atoms) (c .before .before .before .before .before .before .before .args .rec .now) (c .before .before .before .before .before .if1 .left) (c .before .before .before .before .if2 .left) (c .before .before .before .if3 .left) (c .before .wide .result) (c .before .wide .ensures .0) (c .if4 .taken)
 
-shared-slice-read-atom-ok : tie.Need-shared-slice-read-atom-ok
-shared-slice-read-atom-ok c = search needs
+shared-slice-read-head-ok : tie.Need-shared-slice-read-head-ok
+shared-slice-read-head-ok c = search needs
 
-shared-slice-read-atom-ok-2 : tie.Need-shared-slice-read-atom-ok-2
-shared-slice-read-atom-ok-2 c = search needs
+shared-slice-read-head-ok-2 : tie.Need-shared-slice-read-head-ok-2
+shared-slice-read-head-ok-2 c = search needs
 
-atom-ok-requires : tie.Need-atom-ok-requires
-atom-ok-requires c κs = search needs
+head-ok-requires : tie.Need-head-ok-requires
+head-ok-requires c κs = search needs
 
 returns-5 : tie.Need-returns-5
-returns-5 c = rule-head (c .before .before .before .before .before .before .before .before .before .before .before .args .layers) (c .before .before .before .before .before .before .before .before .before .before .before .args .atoms) (c .before .before .before .before .before .before .before .before .before .before .before .args .rec .now) (c .before .before .before .before .before .before .before .before .before .if1 .left) (c .before .before .before .before .before .before .before .before .if2 .left) (c .before .before .before .before .before .before .before .if3 .left) (c .before .before .before .before .before .wide .result) (c .before .before .before .before .before .wide .ensures .0) (search needs) (c .before .atom-ok .result) (c .before .atom-ok .ensures) (not-true _ (c .if5 .taken))
+returns-5 c = rule-head (c .before .before .before .before .before .before .before .before .before .before .before .args .layers) (c .before .before .before .before .before .before .before .before .before .before .before .args .atoms) (c .before .before .before .before .before .before .before .before .before .before .before .args .rec .now) (c .before .before .before .before .before .before .before .before .before .if1 .left) (c .before .before .before .before .before .before .before .before .if2 .left) (c .before .before .before .before .before .before .before .if3 .left) (c .before .before .before .before .before .wide .result) (c .before .before .before .before .before .wide .ensures .0) (search needs) (c .before .head-ok .result) (c .before .head-ok .ensures) (not-true _ (c .if5 .taken))
 
 part-literals-ok-start : tie.Need-part-literals-ok-start
 part-literals-ok-start c = search needs
@@ -52,7 +52,7 @@ literals-ok-requires c κs = search needs
 returns-6 : tie.Need-returns-6
 returns-6 c =
     let r = c .before .before .before .before .before .before .before .before .before .before .before .before .before .args .rec .now in
-    rule-body (c .before .before .before .before .before .before .before .before .before .before .before .before .before .args .layers) (c .before .before .before .before .before .before .before .before .before .before .before .before .before .args .atoms) r (c .before .before .before .before .before .before .before .before .before .before .before .if1 .left) (c .before .before .before .before .before .before .before .before .before .before .if2 .left) (c .before .before .before .before .before .before .before .before .before .if3 .left) (c .before .before .before .before .before .before .before .wide .result) (c .before .before .before .before .before .before .before .wide .ensures .0) (search needs) (c .before .before .before .atom-ok .result) (c .before .before .before .atom-ok .ensures) (not-false _ (c .before .before .if5 .left)) (c .literals-ok .result) (take (length r - 3) (drop 3 r)) (take-all (length r - 3) (drop 3 r) (simp length-drop (omega arith))) (c .literals-ok .ensures)
+    rule-body (c .before .before .before .before .before .before .before .before .before .before .before .before .before .args .layers) (c .before .before .before .before .before .before .before .before .before .before .before .before .before .args .atoms) r (c .before .before .before .before .before .before .before .before .before .before .before .if1 .left) (c .before .before .before .before .before .before .before .before .before .before .if2 .left) (c .before .before .before .before .before .before .before .before .before .if3 .left) (c .before .before .before .before .before .before .before .wide .result) (c .before .before .before .before .before .before .before .wide .ensures .0) (search needs) (c .before .before .before .head-ok .result) (c .before .before .before .head-ok .ensures) (not-false _ (c .before .before .if5 .left)) (c .literals-ok .result) (take (length r - 3) (drop 3 r)) (take-all (length r - 3) (drop 3 r) (simp length-drop (omega arith))) (c .literals-ok .ensures)
 
 pub rule-ok-spec : {M : Type 1} → statement M
 rule-ok-spec =
@@ -64,9 +64,9 @@ rule-ok-spec =
     shared-slice-read-wide
     wide-requires
     returns-4
-    shared-slice-read-atom-ok
-    shared-slice-read-atom-ok-2
-    atom-ok-requires
+    shared-slice-read-head-ok
+    shared-slice-read-head-ok-2
+    head-ok-requires
     returns-5
     part-literals-ok-start
     part-literals-ok-end
