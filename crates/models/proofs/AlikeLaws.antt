@@ -1,8 +1,8 @@
--- Two programs with as many facts, the same rules and the same displacements among them are alike: they have the same stable models,
--- in the same order, and the same branching facts. Neither order nor repetition of rules counts. Assumes nothing.
+-- Two programs with as many facts, the same rules, the same displacements among them and the same constraints are alike: they have the
+-- same stable models, in the same order, and the same branching facts. Neither order nor repetition of rules or constraints counts. Assumes nothing.
 use mathlib.Core.Path.{_≡_, refl, sym, subst, ap, ap₂, _∙_}
 use mathlib.Core.Bool.{Bool, _&&_, _||_}
-use mathlib.Core.List.{List, [], _∷_}
+use mathlib.Core.List.{List, [], _∷_, List·Memᴰ·head, List·Memᴰ·tail}
 use Prim.Native.Nat.{ℕ, _<_}
 use lib.Dec.{T, T-not, not-T, eqb}
 use lib.ListN.{length}
@@ -16,17 +16,31 @@ use Rattle.models.specs.Listing.{interpretations, stableModels, listingO
 use Rattle.models.proofs.LeastLaws.{stable-sound, stable-complete}
 use Rattle.models.proofs.InterpretationLaws.{agree-same}
 use Rattle.base.proofs.Members.{_∈_, any-at, any-of, same-test}
+use Rattle.base.proofs.UpTo.{failed}
 
 pub filter-same : {A : Type 0} (p q : A → Bool) → ((x : A) → p x ≡ q x) → (xs : List A) → filter p xs ≡ filter q xs
 unfolding filter
 filter-same p q h [] = refl
 filter-same {A} p q h (x ∷ xs) = ap₂ (λ (c : Bool) (ys : List A). consIf c x ys) (h x) (filter-same p q h xs)
 
+-- the same, where the tests agree on the list's members
+pub filter-within : {A : Type 0} (p q : A → Bool) (xs : List A) → ((x : A) → x ∈ xs → p x ≡ q x) → filter p xs ≡ filter q xs
+unfolding filter
+filter-within p q [] h = refl
+filter-within {A} p q (x ∷ xs) h = ap₂ (λ (c : Bool) (ys : List A). consIf c x ys) (h x (List·Memᴰ·head refl)) (filter-within p q xs (λ y k. h y (List·Memᴰ·tail k)))
+
+pub filter-none : {A : Type 0} (p : A → Bool) (xs : List A) → ((x : A) → x ∈ xs → T (p x) → ⊥) → filter p xs ≡ []
+unfolding filter consIf
+filter-none p [] h = refl
+filter-none p (x ∷ xs) h = rw (failed (p x) (h x (List·Memᴰ·head refl))) (filter-none p xs (λ y k. h y (List·Memᴰ·tail k)))
+
 pub flip : {P Q : Program} → Alike P Q → Alike Q P
 flip a = record {
   atoms-same = sym (a .atoms-same);
   to = a .from;
   from = a .to;
+  constraints-to = a .constraints-from;
+  constraints-from = a .constraints-to;
   overrides-same = λ t r k j. sym (a .overrides-same t r (a .from t k) (a .from r j));
 }
 
@@ -58,6 +72,7 @@ module _ {P Q : Program} (a : Alike P Q) (m : Interpretation) where
   pub alike-model : StableModel P m → StableModel Q m
   alike-model s = record {
     size = s .size ∙ a .atoms-same;
+    allowed = λ body k. s .allowed body (a .constraints-from body k);
     exact = λ l h.
         let y : l .atom < P .atoms = subst (λ (n : ℕ). l .atom < n) (sym (a .atoms-same)) h in
         (λ d. s .exact l y .0 (derived-to (flip a) m l d), λ t. derived-to a m l (s .exact l y .1 t));

@@ -1,17 +1,18 @@
 -- The computed tests and the statements agree: `least` has exactly what is `Derived`, and `stable` is `StableModel`.
 -- Assumes nothing.
 use mathlib.Core.Path.{_≡_, refl, sym, subst}
+use mathlib.Core.Logic.{_↔_}
 use mathlib.Core.Bool.{Bool, true, false, not, Bool·beq}
-use mathlib.Core.List.{List, map, Memᴰ·map, Memᴰ·of-map}
+use mathlib.Core.List.{List, [], map, Memᴰ·map, Memᴰ·of-map, List·Memᴰ·not-nil}
 use Prim.Native.Nat.{ℕ, _<_}
-use lib.Dec.{T, eqb, eqb-refl, eqb→eq}
+use lib.Dec.{T, T-not, not-T, eqb, eqb-refl, eqb→eq}
 use lib.ListN.{length}
-use Rattle.base.specs.Lists.{filter, upTo}
+use Rattle.base.specs.Lists.{all, filter, upTo}
 use Rattle.base.specs.Closure.{Clause, Consequence, given, by-clause, member}
 use Rattle.models.specs.Program.{Program}
 use Rattle.format.specs.Book.{Literal, Rule}
-use Rattle.models.specs.StableModels.{Interpretation, atomHolds, positive, negative, signed, holds, sameLiteral, rejected, default, defaults, activeRules, clauseOf, least, agreesAt, stable, Derived, by-default, by-rule, StableModel}
-use Rattle.base.proofs.Members.{_∈_, and-left, and-right, and-both, filter-from, filter-into, all-at, all-of, same-test}
+use Rattle.models.specs.StableModels.{Interpretation, atomHolds, positive, negative, signed, holds, sameLiteral, rejected, default, defaults, activeRules, clauseOf, least, agreesAt, settled, forbidden, stable, Derived, by-default, by-rule, StableModel}
+use Rattle.base.proofs.Members.{_∈_, and-left, and-right, and-both, filter-from, filter-into, all-at, all-of, any-at, any-of, same-test}
 use Rattle.base.proofs.UpTo.{upTo-lt, upTo-has}
 use Rattle.base.proofs.ClosureLaws.{member-sound, member-complete, closure-sound, closure-complete}
 
@@ -77,28 +78,60 @@ module _ (P : Program) (m : Interpretation) where
   told f t true = beq-same (member sameLiteral (negative f) (least P m)) (not (atomHolds m f)) (and-right (Bool·beq (member sameLiteral (positive f) (least P m)) (atomHolds m f)) (Bool·beq (member sameLiteral (negative f) (least P m)) (not (atomHolds m f))) t)
   told f t false = beq-same (member sameLiteral (positive f) (least P m)) (atomHolds m f) (and-left (Bool·beq (member sameLiteral (positive f) (least P m)) (atomHolds m f)) (Bool·beq (member sameLiteral (negative f) (least P m)) (not (atomHolds m f))) t)
 
+  -- what the reached names say of each literal
+  abbrev pub Exact : Type 0
+  Exact = (l : Literal) → l .atom < P .atoms → Derived P m l ↔ T (holds m l)
+
+  -- no constraint's body holds
+  abbrev pub Allowed : Type 0
+  Allowed = (body : List Literal) → body ∈ P .constraints → ((l : Literal) → l ∈ body → T (holds m l)) → ⊥
+
+  settled-sound : T (settled P m) → Exact
+  unfolding settled holds
+  settled-sound t l h =
+      let q : member sameLiteral l (least P m) ≡ signed (l .negated) (atomHolds m (l .atom)) = told (l .atom) (all-at (agreesAt (least P m) m) t (upTo-has (P .atoms) (l .atom) h)) (l .negated) in
+      (λ r. subst T q (in-literal (least-complete l r)), λ u. least-sound l (literal-in l (least P m) (subst T (sym q) u)))
+
+  pub forbidden-sound : T (forbidden P m) → Allowed → ⊥
+  unfolding forbidden
+  forbidden-sound t a =
+      let v : (b : List Literal) × b ∈ P .constraints × T (all (holds m) b) = any-at (all (holds m)) (P .constraints) t in
+      a (v .0) (v .1) (λ l i. all-at (holds m) (v .2) i)
+
+  pub forbidden-complete : (body : List Literal) → body ∈ P .constraints → ((l : Literal) → l ∈ body → T (holds m l)) → T (forbidden P m)
+  unfolding forbidden
+  forbidden-complete body k h = any-of (all (holds m)) k (all-of (holds m) body h)
+
   pub stable-sound : length m ≡ P .atoms → T (stable P m) → StableModel P m
-  unfolding stable holds
+  unfolding stable
   stable-sound e t = record {
     size = e;
-    exact = λ l h.
-        let q : member sameLiteral l (least P m) ≡ signed (l .negated) (atomHolds m (l .atom)) = told (l .atom) (all-at (agreesAt (least P m) m) t (upTo-has (P .atoms) (l .atom) h)) (l .negated) in
-        (λ r. subst T q (in-literal (least-complete l r)), λ u. least-sound l (literal-in l (least P m) (subst T (sym q) u)));
+    exact = settled-sound (and-left (settled P m) (not (forbidden P m)) t);
+    allowed = λ body k h. T-not (forbidden P m) (and-right (settled P m) (not (forbidden P m)) t) (forbidden-complete body k h);
   }
 
   same-beq : (a c : Bool) → (T a → T c) → (T c → T a) → T (Bool·beq a c)
   same-beq a c f g = subst (λ (x : Bool). T (Bool·beq a x)) (same-test a c f g) (beq-refl a)
 
-  pub stable-complete : StableModel P m → T (stable P m)
-  unfolding stable agreesAt holds signed
-  stable-complete w =
+  settled-complete : Exact → T (settled P m)
+  unfolding settled agreesAt holds signed
+  settled-complete exact =
       all-of (agreesAt (least P m) m) (upTo (P .atoms))
       (λ f k.
       let h : f < P .atoms = upTo-lt (P .atoms) f k in
       and-both (Bool·beq (member sameLiteral (positive f) (least P m)) (atomHolds m f)) (Bool·beq (member sameLiteral (negative f) (least P m)) (not (atomHolds m f)))
       (same-beq (member sameLiteral (positive f) (least P m)) (atomHolds m f)
-      (λ t. w .exact (positive f) h .0 (least-sound (positive f) (literal-in (positive f) (least P m) t)))
-      (λ t. in-literal (least-complete (positive f) (w .exact (positive f) h .1 t))))
+      (λ t. exact (positive f) h .0 (least-sound (positive f) (literal-in (positive f) (least P m) t)))
+      (λ t. in-literal (least-complete (positive f) (exact (positive f) h .1 t))))
       (same-beq (member sameLiteral (negative f) (least P m)) (not (atomHolds m f))
-      (λ t. w .exact (negative f) h .0 (least-sound (negative f) (literal-in (negative f) (least P m) t)))
-      (λ t. in-literal (least-complete (negative f) (w .exact (negative f) h .1 t)))))
+      (λ t. exact (negative f) h .0 (least-sound (negative f) (literal-in (negative f) (least P m) t)))
+      (λ t. in-literal (least-complete (negative f) (exact (negative f) h .1 t)))))
+
+  pub stable-complete : StableModel P m → T (stable P m)
+  unfolding stable
+  stable-complete w =
+      and-both (settled P m) (not (forbidden P m)) (settled-complete (w .exact)) (not-T (forbidden P m) (λ t. forbidden-sound t (w .allowed)))
+
+  -- where there is no constraint, nothing is forbidden
+  pub free-allowed : P .constraints ≡ [] → Allowed
+  free-allowed e body k h = List·Memᴰ·not-nil (subst (λ (bs : List (List Literal)). body ∈ bs) e k)

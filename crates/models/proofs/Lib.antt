@@ -10,3 +10,4 @@ pub mod ListingLaws
 pub mod ExampleLaws
 pub mod AlikeLaws
 pub mod SwitchedOffLaws
+pub mod ConstraintLaws

@@ -1,8 +1,8 @@
 -- What the set of layers that are switched off leaves as it was: the order of layers, and with 0, where no bit is set, every program. And
 -- where every rule's layer is off, only defaults are left, so that the empty state is the one stable state. Assumes nothing.
-use mathlib.Core.Path.{_≡_, refl, sym, ap, subst, _∙_}
+use mathlib.Core.Path.{_≡_, refl, sym, ap, ap₂, subst, _∙_}
 use mathlib.Core.Bool.{Bool, true, false, not, _&&_, _||_}
-use mathlib.Core.List.{List, [], _∷_, List·Memᴰ·head, List·Memᴰ·cases-cons, List·Memᴰ·not-nil}
+use mathlib.Core.List.{List, [], _∷_, map, List·Memᴰ·head, List·Memᴰ·cases-cons, List·Memᴰ·not-nil}
 use mathlib.Core.Logic.{_⊎_, inl, inr}
 use Prim.Native.Nat.{ℕ, _<_, _^_}
 use native.Mathlib.Nat.{zero-div}
@@ -10,19 +10,19 @@ use lib.Dec.{T, T-not, not-T, eqb}
 use lib.ListN.{length, getD, replicate, length-replicate}
 use lib.Seq.{ext-getD}
 use Rattle.base.specs.Lists.{consIf, any, filter, upTo}
-use Rattle.base.proofs.Members.{_∈_, and-right, any-at, filter-from}
+use Rattle.base.proofs.Members.{_∈_, and-left, and-right, any-at, filter-from}
 use Rattle.base.proofs.MapLaws.{constant-at}
 use Rattle.base.proofs.UpTo.{failed}
 use Rattle.layers.specs.Layers.{below}
-use Rattle.format.specs.Book.{Literal, Rule, Book}
+use Rattle.format.specs.Book.{Literal, Rule, Book, isConstraint}
 use Rattle.models.specs.Program.{Program, inSet, relevant, programAt}
 use Rattle.models.specs.StableModels.{Interpretation, atomHolds, positive, sameLiteral, signed, holds, bodyHolds, default, stable, Derived, by-default, by-rule, StableModel}
 use Rattle.models.specs.Branching.{canReject, branching, branchingAtoms, branchingCount}
 use Rattle.models.specs.Listing.{stableModels}
 use Rattle.models.specs.SwitchedOff.{wholeProgram, NothingOff, PathsKept, EveryRuleOff, AllOff}
-use Rattle.models.proofs.AlikeLaws.{filter-same}
+use Rattle.models.proofs.AlikeLaws.{filter-same, filter-none}
 use Rattle.models.proofs.InterpretationLaws.{listed}
-use Rattle.models.proofs.LeastLaws.{stable-sound, stable-complete}
+use Rattle.models.proofs.LeastLaws.{stable-sound, stable-complete, free-allowed}
 
 -- ---- paths kept
 none-in : (i : ℕ) → inSet 0 i ≡ false
@@ -53,14 +53,19 @@ relevant-none b layer r = rw (none-in (r .layer)) (and-true (eqb (r .layer) laye
 program-none : (b : Book) (layer : ℕ) → programAt b layer 0 ≡ wholeProgram b layer
 unfolding programAt wholeProgram
 program-none b layer =
-    ap (λ (rs : List Rule). record { atoms = b .atoms; rules = rs; below = below (b .arrows) })
-    (filter-same (relevant b layer 0) (λ r. eqb (r .layer) layer || below (b .arrows) (r .layer) layer) (relevant-none b layer) (b .rules))
+    ap₂ (λ (rs cs : List Rule). record { atoms = b .atoms; rules = rs; constraints = map (λ r. r .body) cs; below = below (b .arrows) })
+    (same-filter (λ r. not (isConstraint r))) (same-filter isConstraint)
+  where
+    same-filter : (p : Rule → Bool) → filter (λ r. relevant b layer 0 r && p r) (b .rules) ≡ filter (λ r. (eqb (r .layer) layer || below (b .arrows) (r .layer) layer) && p r) (b .rules)
+    same-filter p =
+        filter-same (λ r. relevant b layer 0 r && p r) (λ r. (eqb (r .layer) layer || below (b .arrows) (r .layer) layer) && p r)
+        (λ r. ap (λ (c : Bool). c && p r) (relevant-none b layer r)) (b .rules)
 
 pub nothing-off : NothingOff
 nothing-off = record { same-rules = relevant-none; same-program = program-none }
 
 -- ---- no rule at all
-module _ (P : Program) (none : (r : Rule) → r ∈ P .rules → ⊥) where
+module _ (P : Program) (none : (r : Rule) → r ∈ P .rules → ⊥) (free : P .constraints ≡ []) where
   abbrev empty : Interpretation
   empty = replicate (P .atoms) false
 
@@ -88,6 +93,7 @@ module _ (P : Program) (none : (r : Rule) → r ∈ P .rules → ⊥) where
   unfolding holds signed
   empty-stable = record {
     size = length-replicate (P .atoms) false;
+    allowed = free-allowed P empty free;
     exact = λ l h. (
       λ d. rw (negated-only empty l d, empty-at (l .atom)) tt,
       empty-exact (l .atom) (l .negated) h,
@@ -127,15 +133,27 @@ module _ (P : Program) (none : (r : Rule) → r ∈ P .rules → ⊥) where
   count-zero = ap length (none-left (upTo (P .atoms)))
 
 -- ---- every rule's layer off
+none-relevant : (b : Book) (layer off : ℕ) → EveryRuleOff b off → (r : Rule) → r ∈ b .rules → T (relevant b layer off r) → ⊥
+unfolding relevant
+none-relevant b layer off h r k t =
+    T-not (inSet off (r .layer)) (and-right (eqb (r .layer) layer || below (b .arrows) (r .layer) layer) (not (inSet off (r .layer))) t) (h r k)
+
 rules-off : (b : Book) (layer off : ℕ) → EveryRuleOff b off → (r : Rule) → r ∈ programAt b layer off .rules → ⊥
-unfolding programAt relevant
+unfolding programAt
 rules-off b layer off h r k =
-    let v : r ∈ b .rules × T (relevant b layer off r) = filter-from (relevant b layer off) (b .rules) k in
-    T-not (inSet off (r .layer)) (and-right (eqb (r .layer) layer || below (b .arrows) (r .layer) layer) (not (inSet off (r .layer))) (v .1)) (h r (v .0))
+    let v : r ∈ b .rules × T (relevant b layer off r && not (isConstraint r)) = filter-from (λ r. relevant b layer off r && not (isConstraint r)) (b .rules) k in
+    none-relevant b layer off h r (v .0) (and-left (relevant b layer off r) (not (isConstraint r)) (v .1))
+
+-- so are the constraints
+constraints-off : (b : Book) (layer off : ℕ) → EveryRuleOff b off → programAt b layer off .constraints ≡ []
+unfolding programAt
+constraints-off b layer off h =
+    ap (map (λ r. r .body))
+    (filter-none (λ r. relevant b layer off r && isConstraint r) (b .rules) (λ r k t. none-relevant b layer off h r k (and-left (relevant b layer off r) (isConstraint r) t)))
 
 pub all-off : AllOff
 unfolding programAt
 all-off = record {
-  one-state = λ b layer off h. models-empty (programAt b layer off) (rules-off b layer off h);
-  none-branch = λ b layer off h. count-zero (programAt b layer off) (rules-off b layer off h);
+  one-state = λ b layer off h. models-empty (programAt b layer off) (rules-off b layer off h) (constraints-off b layer off h);
+  none-branch = λ b layer off h. count-zero (programAt b layer off) (rules-off b layer off h) (constraints-off b layer off h);
 }

@@ -1,5 +1,5 @@
--- Document 01's starred classroom examples, the last as document 02, (i), has it, as one table and one theorem: the bytes of the
--- listing, and g. Assumes nothing.
+-- Document 01's starred classroom examples, one of them as document 02, (i), has it, and one of document 02, (c), as one table and one
+-- theorem: the bytes of the listing, and g. Assumes nothing.
 use mathlib.Core.Bool.{Bool, true, false, _&&_}
 use mathlib.Core.List.{List, [], _∷_, _++_, map}
 use Prim.Native.Nat.{ℕ}
@@ -8,9 +8,9 @@ use lib.ListN.{length}
 use Rattle.base.specs.Lists.{consIf, all, any, filter, flat, upTo}
 use Rattle.base.specs.Closure.{member, fires, extend, saturate, closure}
 use Rattle.layers.specs.Layers.{backwards, layersBelow, below}
-use Rattle.format.specs.Book.{u16At, u32At, recordsIn, records, sectionBytes, sectionEnd, sectionRecords, literalOf, literalsOf, arrowOf, ruleOf, atomCount, layerCount, ruleSection, arrowRecords, ruleRecords, arrowsOf, rulesOf, bookOf}
+use Rattle.format.specs.Book.{u16At, u32At, recordsIn, records, sectionBytes, sectionEnd, sectionRecords, literalOf, literalsOf, arrowOf, ruleOf, isFalsity, isConstraint, atomCount, layerCount, ruleSection, arrowRecords, ruleRecords, arrowsOf, rulesOf, bookOf}
 use Rattle.models.specs.Program.{Program, inSet, relevant, programAt}
-use Rattle.models.specs.StableModels.{atomHolds, complement, sameLiteral, signed, holds, bodyHolds, leansOnItself, clauseOf, overrides, rejected, default, defaults, activeRules, least, agreesAt, stable}
+use Rattle.models.specs.StableModels.{atomHolds, complement, sameLiteral, signed, holds, bodyHolds, leansOnItself, clauseOf, overrides, rejected, default, defaults, activeRules, least, agreesAt, settled, forbidden, stable}
 use Rattle.models.specs.Branching.{canReject, branching, branchingAtoms, branchingCount}
 use Rattle.models.specs.Listing.{interpretations, stableModels, bitValue, bitsValue, packed, be16, be32, recordSize, recordOf, listingOf, listing}
 
@@ -37,6 +37,10 @@ q = 0 ∷ 1 ∷ []
 
 unfoldable pub notQ : List ℕ
 notQ = 128 ∷ 1 ∷ []
+
+-- the head of a constraint
+unfoldable pub never : List ℕ
+never = 127 ∷ 255 ∷ []
 
 -- a rule of a layer: its head, and the literals of its body
 unfoldable pub ruleIn : ℕ → List ℕ → List (List ℕ) → List ℕ
@@ -104,6 +108,13 @@ table =
       written = 1 ∷ 0 ∷ 0 ∷ 0 ∷ 11 ∷ 0 ∷ 1 ∷ 0 ∷ 0 ∷ 0 ∷ 0 ∷ [];
       branches = 0;
     }
+    -- p if not q, q if not p, never p
+    ∷ record {
+      book = bytesOf 2 1 [] (ruleIn 0 p (notQ ∷ []) ∷ ruleIn 0 q (notP ∷ []) ∷ ruleIn 0 never (p ∷ []) ∷ []);
+      layer = 0;
+      written = 1 ∷ 0 ∷ 0 ∷ 0 ∷ 12 ∷ 0 ∷ 2 ∷ 0 ∷ 0 ∷ 0 ∷ 1 ∷ 64 ∷ [];
+      branches = 2;
+    }
     ∷ []
 
 unfoldable pub sameBytes : List ℕ → List ℕ → Bool
@@ -121,5 +132,5 @@ right e = sameBytes (listing (seen e)) (e .written) && eqb (branchingCount (seen
 
 -- Every example of the table is right; `examples-say` of proofs/ExampleLaws.antt gives the equations.
 pub examples : T (all right table)
-unfolding framed section bytesOf p notP q notQ ruleIn arrow bookB table sameBytes seen right consIf all any filter flat upTo member fires extend saturate closure backwards layersBelow below u16At u32At recordsIn records sectionBytes sectionEnd sectionRecords literalOf literalsOf arrowOf ruleOf atomCount layerCount ruleSection arrowRecords ruleRecords arrowsOf rulesOf bookOf inSet relevant programAt atomHolds complement sameLiteral signed holds bodyHolds leansOnItself clauseOf overrides rejected default defaults activeRules least agreesAt stable canReject branching branchingAtoms branchingCount interpretations stableModels bitValue bitsValue packed be16 be32 recordSize recordOf listingOf listing
+unfolding framed section bytesOf p notP q notQ never ruleIn arrow bookB table sameBytes seen right consIf all any filter flat upTo member fires extend saturate closure backwards layersBelow below u16At u32At recordsIn records sectionBytes sectionEnd sectionRecords literalOf literalsOf arrowOf ruleOf isFalsity isConstraint atomCount layerCount ruleSection arrowRecords ruleRecords arrowsOf rulesOf bookOf inSet relevant programAt atomHolds complement sameLiteral signed holds bodyHolds leansOnItself clauseOf overrides rejected default defaults activeRules least agreesAt settled forbidden stable canReject branching branchingAtoms branchingCount interpretations stableModels bitValue bitsValue packed be16 be32 recordSize recordOf listingOf listing
 examples = tt

@@ -5,5 +5,6 @@ pub mod Branching
 pub mod Listing
 pub mod SelfLeaning
 pub mod SwitchedOff
+pub mod Constraints
 pub mod Condition3
 pub mod Examples

@@ -1,18 +1,22 @@
 -- What a driven layer sees of a book. Every later definition takes this, and not the whole book: what happens at a layer
--- follows from the number of facts, the relevant rules, and which of their layers lie below which. Assumes nothing.
+-- follows from the number of facts, the relevant rules, the relevant constraints, and which of the rules' layers lie below which.
+-- Assumes nothing.
 use mathlib.Core.Bool.{Bool, not, _&&_, _||_}
-use mathlib.Core.List.{List}
+use mathlib.Core.List.{List, map}
 use Prim.Native.Nat.{ℕ}
 use lib.Dec.{eqb}
 use Rattle.base.specs.Lists.{filter}
 use Rattle.layers.specs.Layers as layers
 use Rattle.layers.specs.Masks.{bitOf}
-use Rattle.format.specs.Book.{Rule, Book}
+use Rattle.format.specs.Book.{Literal, Rule, Book, isConstraint}
 
 pub record Program : Type 0 where
   -- document 01: the number n of facts
   pub atoms : ℕ
+  -- those with a head; constraints are kept apart, so that displacing, reaching and branching go by these alone
   pub rules : List Rule
+  -- document 02, (c): bodies that must never hold
+  pub constraints : List (List Literal)
   pub below : ℕ → ℕ → Bool
 
 -- Document 02, (h): bit i of the set is layer i's, and a layer whose bit is set is switched off for one drive.
@@ -24,6 +28,15 @@ inSet off i = eqb (bitOf off i) 1
 unfoldable pub relevant : Book → ℕ → ℕ → Rule → Bool
 relevant b layer off r = (eqb (r .layer) layer || layers.below (b .arrows) (r .layer) layer) && not (inSet off (r .layer))
 
--- the book as the driven layer sees it: its relevant rules, in their order
+-- the book as the driven layer sees it: its relevant rules, in their order, and the bodies of its relevant constraints
 unfoldable pub programAt : Book → ℕ → ℕ → Program
-programAt b layer off = record { atoms = b .atoms; rules = filter (relevant b layer off) (b .rules); below = layers.below (b .arrows) }
+programAt b layer off = record {
+  atoms = b .atoms;
+  rules = filter (λ r. relevant b layer off r && not (isConstraint r)) (b .rules);
+  constraints = map (λ r. r .body) (filter (λ r. relevant b layer off r && isConstraint r) (b .rules));
+  below = layers.below (b .arrows);
+}
+
+-- the same facts and rules with other constraints
+unfoldable pub constrained : Program → List (List Literal) → Program
+constrained P bodies = record { atoms = P .atoms; rules = P .rules; constraints = bodies; below = P .below }

@@ -1,5 +1,5 @@
--- Document 01, "What a stable state is" (000, section 3, Definition 6), with the one exception of document 02, (i): once computed, and
--- once as the published inductive statement. proofs/LeastLaws.antt proves that the two agree. Assumes nothing.
+-- Document 01, "What a stable state is" (000, section 3, Definition 6), with the one exception of document 02, (i), and the
+-- constraints of document 02, (c): once computed, and once as the published inductive statement. proofs/LeastLaws.antt proves that the two agree. Assumes nothing.
 use mathlib.Core.Path.{_≡_}
 use mathlib.Core.Logic.{_↔_}
 use mathlib.Core.Bool.{Bool, true, false, not, _&&_, Bool·beq}
@@ -84,9 +84,17 @@ module _ (P : Program) where
   unfoldable pub least : Interpretation → List Literal
   least m = closure sameLiteral (map clauseOf (activeRules m)) (defaults m)
 
-  -- Document 01: stable, computed.
+  -- Document 01: stable, computed, as far as the rules go: the reached names are those that m gives.
+  unfoldable pub settled : Interpretation → Bool
+  settled m = let names : List Literal = least m in all (agreesAt names m) (upTo (P .atoms))
+
+  -- Document 02, (c): the body of a constraint holds.
+  unfoldable pub forbidden : Interpretation → Bool
+  forbidden m = any (all (holds m)) (P .constraints)
+
+  -- Document 01: stable, computed; document 02, (c): and no constraint's body holds.
   unfoldable pub stable : Interpretation → Bool
-  stable m = let names : List Literal = least m in all (agreesAt names m) (upTo (P .atoms))
+  stable m = settled m && not (forbidden m)
 
   -- Document 01: reached, as a statement. The defaults, and the head of each undisplaced rule all of whose body literals are reached.
   pub data Derived (m : Interpretation) : Literal → Type 0 where
@@ -95,9 +103,11 @@ module _ (P : Program) where
         → ((l : Literal) → List·Memᴰ l (r .body) → Derived m l) → Derived m (r .head)
 
   -- Document 01: M is a stable state, the mission's stable model: the reached names are exactly, for each fact, the one that M gives.
+  -- Document 02, (c): "a state in which such a relevant rule's body holds no longer counts".
   pub record StableModel (m : Interpretation) : Type 0 where
     pub size : length m ≡ P .atoms
     pub exact : (l : Literal) → l .atom < P .atoms → Derived m l ↔ T (holds m l)
+    pub allowed : (body : List Literal) → List·Memᴰ body (P .constraints) → ((l : Literal) → List·Memᴰ l body → T (holds m l)) → ⊥
 
   -- every literal of a rule names a fact of the book: cause 6 sees to that
   pub record WellFormed : Type 0 where

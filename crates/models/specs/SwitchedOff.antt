@@ -1,14 +1,14 @@
 -- Document 02, (h), of the definitions: what the set of layers that are switched off leaves as it was, and what is left where every
 -- rule's layer is off. proofs/SwitchedOffLaws.antt proves it. Assumes nothing.
 use mathlib.Core.Path.{_≡_}
-use mathlib.Core.Bool.{false, _||_}
-use mathlib.Core.List.{[], _∷_, List·Memᴰ}
+use mathlib.Core.Bool.{false, not, _&&_, _||_}
+use mathlib.Core.List.{[], _∷_, map, List·Memᴰ}
 use Prim.Native.Nat.{ℕ}
 use lib.Dec.{T, eqb}
 use lib.ListN.{replicate}
 use Rattle.base.specs.Lists.{filter}
 use Rattle.layers.specs.Layers.{below}
-use Rattle.format.specs.Book.{Rule, Book}
+use Rattle.format.specs.Book.{Rule, Book, isConstraint}
 use Rattle.models.specs.Program.{Program, inSet, relevant, programAt}
 use Rattle.models.specs.Branching.{branchingCount}
 use Rattle.models.specs.Listing.{stableModels}
@@ -19,11 +19,12 @@ pub record PathsKept : Type 0 where
   pub same-order : (b : Book) (layer off i j : ℕ) → programAt b layer off .below i j ≡ below (b .arrows) i j
   pub counts-beyond : (b : Book) (layer off : ℕ) (r : Rule) → inSet off (r .layer) ≡ false → relevant b layer off r ≡ relevant b layer 0 r
 
--- document 01's text: the rules of the driven layer and of the layers below it
+-- document 01's text: the rules of the driven layer and of the layers below it, of which those with the head 32,767 are constraints
 unfoldable pub wholeProgram : Book → ℕ → Program
 wholeProgram b layer = record {
   atoms = b .atoms;
-  rules = filter (λ r. eqb (r .layer) layer || below (b .arrows) (r .layer) layer) (b .rules);
+  rules = filter (λ r. (eqb (r .layer) layer || below (b .arrows) (r .layer) layer) && not (isConstraint r)) (b .rules);
+  constraints = map (λ r. r .body) (filter (λ r. (eqb (r .layer) layer || below (b .arrows) (r .layer) layer) && isConstraint r) (b .rules));
   below = below (b .arrows);
 }
 
