@@ -24,6 +24,7 @@ use Rattle.models.specs.Branching.{branching, branchingAtoms}
 use Rattle.models.proofs.LeastLaws.{beq-same}
 use Rattle.table.specs.Rows.{rowCount}
 use Rattle.table.specs.Tabled.{tabled}
+use Rattle.table.proofs.TabledLaws.{tabled-free}
 use Rattle.filling.specs.Marks.{literalMarked, Conflict, Fills}
 use Rattle.tester.specs.Masks.{RejectedMasks}
 use Rattle.leaf.specs.Contested.{Uncontested}
@@ -258,7 +259,7 @@ module _ {book rows atoms : List ℕ} {n : ℕ} (w : Searchable book rows atoms 
           found : T (stable P (take n p))
           found =
               uncontested-stable (w .formed) (w .table) (k .masks) (setting-start (k .denied)) (k .before .undisputed .among) (k .before .undisputed .clear) (k .before .follows) (k .filled) refl (take n p) size kept same-on
-              (subst (λ (x : Interpretation). Uncontested book rows rejects x early (rowCount rows)) cut (er (not-true r tr)))
+              (subst (λ (x : Interpretation). Uncontested book rows rejects x early (rowCount rows)) cut (er (not-true r tr))) (tabled-free book rows n)
 
 -- ---- the filling from the undisputed part of the start
 module _ {book rows rejects : List ℕ} {start assumed : List Bool} (u : Undisputed rejects start assumed) {p q : List Bool} {c : Bool} (filled : Fills book rows rejects assumed p q c) where

@@ -3,7 +3,7 @@
 -- filling from the defaults would come to the same. Used by the search. Assumes nothing.
 use mathlib.Core.Path.{_≡_, refl, sym, ap, subst, _∙_}
 use mathlib.Core.Bool.{Bool, true, false, not, _&&_, _||_, true≢false, false≢true}
-use mathlib.Core.List.{List}
+use mathlib.Core.List.{List, []}
 use Prim.Native.Nat.{ℕ, _<_}
 use lib.Dec.{T, T-not, not-T, eqb, eqb→eq}
 use lib.ListN.{length, getD}
@@ -15,7 +15,7 @@ use Rattle.models.specs.Branching.{canReject, branching}
 use Rattle.base.proofs.Members.{_∈_, and-left, and-right, and-both, all-at, all-of, any-at, any-of}
 use Rattle.base.proofs.UpTo.{passed}
 use Rattle.models.proofs.BranchingLaws.{branch, rejected-same}
-use Rattle.models.proofs.LeastLaws.{literal-same, literal-refl, stable-complete}
+use Rattle.models.proofs.LeastLaws.{literal-same, literal-refl, stable-complete, free-allowed}
 use Rattle.layers.specs.Masks.{bitOf}
 use Rattle.layers.proofs.BitLaws.{zero-bit}
 use Rattle.table.specs.Names.{nameOf}
@@ -175,5 +175,5 @@ module _ {P : Program} {book rows rejects : List ℕ} {o : Interpretation} {assu
   holds-derived f false h t = follows-derived (λ x u. let v : (x < P .atoms) × T (not (atomHolds m x)) = start-denied x u in denied-derived x (v .0) (v .1)) (positive f) (holds-follows f false h (λ e. absurd (false≢true e)) t)
   holds-derived f true h t = denied-derived f h t
 
-  pub uncontested-stable : T (stable P m)
-  uncontested-stable = stable-complete P m (record { size = size; exact = λ l h. (derived-holds l, holds-derived (l .atom) (l .negated) h) })
+  pub uncontested-stable : P .constraints ≡ [] → T (stable P m)
+  uncontested-stable none = stable-complete P m (record { size = size; exact = λ l h. (derived-holds l, holds-derived (l .atom) (l .negated) h); allowed = free-allowed P m none })

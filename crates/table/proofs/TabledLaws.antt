@@ -1,8 +1,8 @@
 -- A table of a program is also one of the program that it stands for by itself, and the two are alike. Used where a call hands its
 -- table to what searches it, which then knows neither arrows nor the driven layer. Assumes nothing.
-use mathlib.Core.Path.{_≡_, refl, sym, subst}
+use mathlib.Core.Path.{_≡_, refl, sym, subst, _∙_}
 use mathlib.Core.Bool.{Bool, _&&_}
-use mathlib.Core.List.{List}
+use mathlib.Core.List.{List, []}
 use Prim.Native.Nat.{ℕ, _-_, _*_, _<_}
 use lib.Dec.{T, eqb, eqb-refl, eqb→eq}
 use lib.ListN.{take}
@@ -10,10 +10,11 @@ use Rattle.base.specs.Lists.{any, upTo}
 use Rattle.base.proofs.Members.{_∈_, and-left, and-right, and-both, any-at, any-of, same-test}
 use Rattle.base.proofs.UpTo.{upTo-lt, upTo-has}
 use Rattle.layers.specs.Masks.{bitOf}
-use Rattle.format.specs.Book.{Rule}
-use Rattle.models.specs.Program.{Program}
+use Rattle.format.specs.Book.{Literal, Rule}
+use Rattle.models.specs.Program.{Program, constrained}
 use Rattle.models.specs.StableModels.{overrides}
 use Rattle.models.specs.Alike.{Alike}
+use Rattle.models.proofs.ConstraintLaws.{constrained-overrides}
 use Rattle.models.proofs.SelfLeaningLaws.{overrides-asks, overrides-of}
 use Rattle.table.specs.Rows.{rowSize, rowCount, rowLayer, overridden, rowAt, rowsOf}
 use Rattle.table.specs.Table.{Tabulates, TableMade}
@@ -24,6 +25,10 @@ use Rattle.table.proofs.TableLaws.{lent-table}
 pub tabled-atoms : (book rows : List ℕ) (n : ℕ) → tabled book rows n .atoms ≡ n
 unfolding tabled
 tabled-atoms book rows n = refl
+
+pub tabled-free : (book rows : List ℕ) (n : ℕ) → tabled book rows n .constraints ≡ []
+unfolding tabled
+tabled-free book rows n = refl
 
 module _ {P : Program} {book rows : List ℕ} (w : Tabulates P book rows) where
   abbrev Q : Program
@@ -64,13 +69,16 @@ module _ {P : Program} {book rows : List ℕ} (w : Tabulates P book rows) where
       (overrides-into (v .0) (v .1) r (subst (λ (rs : List Rule). r ∈ rs) (sym (w .rules)) j) (subst (λ (x : Rule). T (overrides P x r)) (sym (v .2)) o)))
       (overrides-from t r)
 
-  pub tabled-alike : Alike P Q
-  unfolding tabled
-  tabled-alike = record {
+  -- with the program's constraints put back, the two are alike
+  pub tabled-alike : (bodies : List (List Literal)) → bodies ≡ P .constraints → Alike P (constrained Q bodies)
+  unfolding tabled constrained
+  tabled-alike bodies e = record {
     atoms-same = refl;
     to = λ r k. subst (λ (rs : List Rule). r ∈ rs) (sym (w .rules)) k;
     from = λ r k. subst (λ (rs : List Rule). r ∈ rs) (w .rules) k;
-    overrides-same = overrides-same;
+    constraints-to = λ b k. subst (λ (bs : List (List Literal)). b ∈ bs) (sym e) k;
+    constraints-from = λ b k. subst (λ (bs : List (List Literal)). b ∈ bs) e k;
+    overrides-same = λ t r k j. overrides-same t r k j ∙ sym (constrained-overrides Q bodies t r);
   }
 
   pub tabled-table : Tabulates Q book rows
@@ -85,8 +93,8 @@ module _ {P : Program} {book rows : List ℕ} (w : Tabulates P book rows) where
 
 -- the table as the code lends it, with n for the facts of its program
 module _ {P : Program} {book rows : List ℕ} {count : ℕ} (made : TableMade P book rows count) {n : ℕ} (e : n ≡ P .atoms) where
-  pub lent-alike : Alike P (tabled book (take (rowSize * count - 0) rows) n)
-  lent-alike = subst (λ (k : ℕ). Alike P (tabled book (take (rowSize * count - 0) rows) k)) (sym e) (tabled-alike (lent-table made))
+  pub lent-alike : (bodies : List (List Literal)) → bodies ≡ P .constraints → Alike P (constrained (tabled book (take (rowSize * count - 0) rows) n) bodies)
+  lent-alike bodies eb = subst (λ (k : ℕ). Alike P (constrained (tabled book (take (rowSize * count - 0) rows) k) bodies)) (sym e) (tabled-alike (lent-table made) bodies eb)
 
   pub lent-tabled : Tabulates (tabled book (take (rowSize * count - 0) rows) n) book (take (rowSize * count - 0) rows)
   lent-tabled =

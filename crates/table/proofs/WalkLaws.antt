@@ -1,26 +1,24 @@
 -- The rows are made in one walk over the rules' records by length byte: what the record at an offset gives, what the walk keeps,
 -- and that it ends with the rows of the rules that pass the mask. Used by make_rows. Assumes nothing.
 use mathlib.Core.Path.{_≡_, refl, sym, ap, ap₂, subst, _∙_}
-use mathlib.Core.Bool.{Bool, true, false, false≢true}
+use mathlib.Core.Bool.{Bool, true, false, not, _&&_, false≢true}
 use mathlib.Core.List.{List, [], _∷_, _++_, map, append-assoc, append-nil, List·Memᴰ·head, List·Memᴰ·tail}
-use Prim.Native.Nat.{ℕ, zero, suc, _+_, _*_, _-_, _/_, _^_, _<_, _≤_}
+use Prim.Native.Nat.{ℕ, zero, suc, _+_, _*_, _-_, _/_, _<_, _≤_}
 use native.Mathlib.Decide.{decLt}
 use native.Mathlib.Numerals.{add-one}
 use native.Mathlib.Omega.{arith}
-use borrow.Author.Tests.{eq-eqb, ne-eqb}
-use lib.Bits.{bitAnd}
+use lib.Dec.{eqb}
 use lib.ListN.{length, getD, set, length-set, take, drop, length-take}
 use lib.Seq.{getD-set-same, getD-set-other, getD-take, getD-drop, drop-drop, take-nil}
 use Rattle.base.specs.Bounds.{maxAtoms, maxNames, maxLayers, maxRules}
 use Rattle.base.specs.Lists.{consIf, filter, upTo}
 use Rattle.layers.specs.Masks.{bitOf}
-use Rattle.format.specs.Book.{Literal, Rule, literalOf, literalsOf, ruleOf, records, meetsEnd, recordEnd}
+use Rattle.format.specs.Book.{Literal, Rule, literalOf, literalsOf, ruleOf, isFalsity, isConstraint, records, meetsEnd, recordEnd}
 use Rattle.base.proofs.Members.{_∈_}
 use Rattle.base.proofs.MapLaws.{map-snoc, map-same}
-use Rattle.layers.proofs.WarshallLaws.{test-bit}
 use Rattle.format.proofs.Offsets.{records-cut, records-done, meets-fails, meets-more, count-more}
 use Rattle.table.specs.Names.{literalNamed}
-use Rattle.table.specs.Rows.{rowSize, rowAt, rowsOf, inMask}
+use Rattle.table.specs.Rows.{rowSize, rowAt, rowsOf, inMask, takesRule}
 use Rattle.table.specs.Table.{RuleRecord, RuleRecords, RowsMade}
 use Rattle.table.proofs.RowLaws.{row-same}
 
@@ -60,7 +58,7 @@ pub record RecordAt (s : List ℕ) (at : ℕ) : Type 0 where
   pub long : 3 ≤ getD s at 0
   pub ends : at + 1 + getD s at 0 ≤ length s
   pub layer-low : getD s (at + 1) 0 < maxLayers
-  pub atom-low : literalOf (getD s (at + 2) 0) (getD s (at + 3) 0) .atom < maxAtoms
+  pub atom-low : isFalsity (literalOf (getD s (at + 2) 0) (getD s (at + 3) 0)) ≡ false → literalOf (getD s (at + 2) 0) (getD s (at + 3) 0) .atom < maxAtoms
   pub count : length (records (drop at s)) ≡ 1 + length (records (drop (at + 1 + getD s at 0) s))
   pub whole : meetsEnd (drop (at + 1 + getD s at 0) s) ≡ true
   pub each : (r : List ℕ) → r ∈ records (drop (at + 1 + getD s at 0) s) → RuleRecord r
@@ -91,12 +89,12 @@ module _ (s : List ℕ) (at : ℕ) (h : at < length s) (w : meetsEnd (drop at s)
   size = omega (arith, first-record .long, length-take (getD s at 0) (drop (at + 1) s))
 
   pub record-at : RecordAt s at
-  unfolding filter ruleAt
+  unfolding filter ruleAt isConstraint
   record-at = record {
     long = size;
     ends = omega (arith, room);
     layer-low = subst (λ (r : Rule). r .layer < maxLayers) (rule-here s at size) (first-record .layer-low);
-    atom-low = subst (λ (r : Rule). r .head .atom < maxAtoms) (rule-here s at size) (first-record .atom-low);
+    atom-low = λ e. subst (λ (r : Rule). r .head .atom < maxAtoms) (rule-here s at size) (first-record .atom-low (ap isConstraint (rule-here s at size) ∙ e));
     count = count-more s at h;
     whole = sym (meets-more s at h room) ∙ w;
     each = λ r k. every r (subst (λ (rs : List (List ℕ)). r ∈ rs) (sym split) (List·Memᴰ·tail k));
@@ -105,7 +103,7 @@ module _ (s : List ℕ) (at : ℕ) (h : at < length s) (w : meetsEnd (drop at s)
         ∙ ap (λ (r : Rule). consIf (p r) r (filter p (map ruleOf (records (drop (at + 1 + getD s at 0) s))))) (rule-here s at size);
   }
 
-rules-end : (p : Rule → Bool) (s : List ℕ) (at : ℕ) → length s ≤ at → filter p (map ruleOf (records (drop at s))) ≡ []
+pub rules-end : (p : Rule → Bool) (s : List ℕ) (at : ℕ) → length s ≤ at → filter p (map ruleOf (records (drop at s))) ≡ []
 unfolding filter
 rules-end p s at h = ap (λ (rs : List (List ℕ)). filter p (map ruleOf rs)) (records-done s at h)
 
@@ -119,7 +117,7 @@ pub record RowsSoFar (book : List ℕ) (first mask : ℕ) (rows : List ℕ) (k a
   pub part : (j : ℕ) → j < k → getD rows (rowSize * j) 0 + getD rows (rowSize * j + 1) 0 ≤ length book
   pub name : (j : ℕ) → j < k → getD rows (rowSize * j + 2) 0 < maxNames
   pub layer-low : (j : ℕ) → j < k → getD rows (rowSize * j + 3) 0 < maxLayers
-  pub rules : map (rowAt book rows) (upTo k) ++ filter (inMask mask) (map ruleOf (records (drop at book))) ≡ filter (inMask mask) (map ruleOf (records (drop first book)))
+  pub rules : map (rowAt book rows) (upTo k) ++ filter (takesRule mask) (map ruleOf (records (drop at book))) ≡ filter (takesRule mask) (map ruleOf (records (drop first book)))
 
 pub rows-start : (book : List ℕ) (first mask : ℕ) (rows : List ℕ) → length rows ≡ rowSize * maxRules → RuleRecords (drop first book) → first ≤ length book → RowsSoFar book first mask rows 0 first
 unfolding upTo
@@ -143,18 +141,10 @@ module _ {book : List ℕ} {first mask : ℕ} {rows : List ℕ} {k at : ℕ} (w 
   pub free : k < maxRules
   free = omega (arith, w .room, here .count)
 
-  taken : bitAnd (mask / 2 ^ getD book (at + 1) 0) 1 ≡ 1 → inMask mask (ruleAt book at) ≡ true
-  unfolding inMask ruleAt
-  taken e = eq-eqb (bitOf mask (getD book (at + 1) 0)) 1 (sym (test-bit mask (getD book (at + 1) 0)) ∙ e)
-
-  passed-over : (bitAnd (mask / 2 ^ getD book (at + 1) 0) 1 ≡ 1 → ⊥) → inMask mask (ruleAt book at) ≡ false
-  unfolding inMask ruleAt
-  passed-over n = ne-eqb (bitOf mask (getD book (at + 1) 0)) 1 (λ e. n (test-bit mask (getD book (at + 1) 0) ∙ e))
-
   later : List Rule
-  later = filter (inMask mask) (map ruleOf (records (drop (at + 1 + getD book at 0) book)))
+  later = filter (takesRule mask) (map ruleOf (records (drop (at + 1 + getD book at 0) book)))
 
-  skip : (bitAnd (mask / 2 ^ getD book (at + 1) 0) 1 ≡ 1 → ⊥) → RowsSoFar book first mask rows k (at + 1 + getD book at 0)
+  skip : takesRule mask (ruleAt book at) ≡ false → RowsSoFar book first mask rows k (at + 1 + getD book at 0)
   unfolding consIf later
   skip n = record {
     within = here .ends;
@@ -167,7 +157,7 @@ module _ {book : List ℕ} {first mask : ℕ} {rows : List ℕ} {k at : ℕ} (w 
     layer-low = w .layer-low;
     rules =
         ap (λ (x : List Rule). map (rowAt book rows) (upTo k) ++ x)
-        (sym (here .rules (inMask mask) ∙ ap (λ (c : Bool). consIf c (ruleAt book at) later) (passed-over n)))
+        (sym (here .rules (takesRule mask) ∙ ap (λ (c : Bool). consIf c (ruleAt book at) later) n))
         ∙ w .rules;
   }
 
@@ -258,7 +248,7 @@ module _ {book : List ℕ} {first mask : ℕ} {rows : List ℕ} {k at : ℕ} (w 
         go (yes a) = f j a
         go (no a) = subst P {x = k} {y = j} (omega arith) g
 
-    more : bitAnd (mask / 2 ^ getD book (at + 1) 0) 1 ≡ 1 → RowsSoFar book first mask r4 (k + 1) (at + 1 + getD book at 0)
+    more : takesRule mask (ruleAt book at) ≡ true → RowsSoFar book first mask r4 (k + 1) (at + 1 + getD book at 0)
     unfolding consIf later
     more e = record {
       within = here .ends;
@@ -275,7 +265,7 @@ module _ {book : List ℕ} {first mask : ℕ} {rows : List ℕ} {k at : ℕ} (w 
           ap (λ (x : List Rule). x ++ later) longer
           ∙ append-assoc (map (rowAt book rows) (upTo k)) (ruleAt book at ∷ []) later
           ∙ ap (λ (x : List Rule). map (rowAt book rows) (upTo k) ++ x)
-          (sym (here .rules (inMask mask) ∙ ap (λ (c : Bool). consIf c (ruleAt book at) later) (taken e)))
+          (sym (here .rules (takesRule mask) ∙ ap (λ (c : Bool). consIf c (ruleAt book at) later) e))
           ∙ w .rules;
     }
 
@@ -300,19 +290,33 @@ module _ {book : List ℕ} {first mask : ℕ} {rows : List ℕ} {k at : ℕ} (w 
         ap (λ (x : ℕ). map (rowAt book (take (rowSize * k) rows)) (upTo x)) count
         ∙ map-same (rowAt book (take (rowSize * k) rows)) (rowAt book rows) k (λ j b. row-same book (take (rowSize * k) rows) rows j (λ c d. getD-take (rowSize * k) rows (rowSize * j + c) 0 (omega arith)))
         ∙ sym (append-nil (map (rowAt book rows) (upTo k)))
-        ∙ ap (λ (x : List Rule). map (rowAt book rows) (upTo k) ++ x) (sym (rules-end (inMask mask) book at h))
+        ∙ ap (λ (x : List Rule). map (rowAt book rows) (upTo k) ++ x) (sym (rules-end (takesRule mask) book at h))
         ∙ w .rules;
   }
 
--- as the code has it: the length byte and the layer are in locals
-module _ {book : List ℕ} {first mask : ℕ} {rows : List ℕ} {k at : ℕ} (w : RowsSoFar book first mask rows k at) (h : at < length book) (len layer : ℕ) (el : len ≡ getD book at 0) (ey : layer ≡ getD book (at + 1) 0) where
-  pub rows-skip : (bitAnd (mask / 2 ^ layer) 1 ≡ 1 → ⊥) → RowsSoFar book first mask rows k (at + 1 + len)
-  rows-skip n = subst (λ (x : ℕ). RowsSoFar book first mask rows k (at + 1 + x)) (sym el) (skip w h (subst (λ (x : ℕ). bitAnd (mask / 2 ^ x) 1 ≡ 1 → ⊥) ey n))
+-- as the code has it: the length byte, the layer and what is tested of them are in locals
+module _ {book : List ℕ} {first mask : ℕ} {rows : List ℕ} {k at : ℕ} (w : RowsSoFar book first mask rows k at) (h : at < length book) (len layer : ℕ) (el : len ≡ getD book at 0) (ey : layer ≡ getD book (at + 1) 0)
+    (t : Bool) (et : t ≡ (eqb (bitOf mask layer) 1 && not (isFalsity (literalOf (getD book (at + 2) 0) (getD book (at + 3) 0))))) where
+  takes : t ≡ takesRule mask (ruleAt book at)
+  unfolding takesRule inMask isConstraint ruleAt
+  takes = et ∙ ap (λ (x : ℕ). eqb (bitOf mask x) 1 && not (isFalsity (literalOf (getD book (at + 2) 0) (getD book (at + 3) 0)))) ey
 
-  pub rows-more : (name : ℕ) → literalNamed name ≡ literalOf (getD book (at + 2) 0) (getD book (at + 3) 0) → name < maxNames → bitAnd (mask / 2 ^ layer) 1 ≡ 1
+  -- a record that is taken has a head with a name
+  pub head-named : t ≡ true → literalOf (getD book (at + 2) 0) (getD book (at + 3) 0) .atom < maxAtoms
+  head-named e = here w h .atom-low (second (eqb (bitOf mask layer) 1) (isFalsity (literalOf (getD book (at + 2) 0) (getD book (at + 3) 0))) (sym et ∙ e))
+    where
+      second : (a b : Bool) → (a && not b) ≡ true → b ≡ false
+      second true true z = sym z
+      second true false z = refl
+      second false b z = absurd (false≢true z)
+
+  pub rows-skip : t ≡ false → RowsSoFar book first mask rows k (at + 1 + len)
+  rows-skip n = subst (λ (x : ℕ). RowsSoFar book first mask rows k (at + 1 + x)) (sym el) (skip w h (sym takes ∙ n))
+
+  pub rows-more : (name : ℕ) → literalNamed name ≡ literalOf (getD book (at + 2) 0) (getD book (at + 3) 0) → name < maxNames → t ≡ true
       → RowsSoFar book first mask (set (set (set (set rows (rowSize * k) (at + 4)) (rowSize * k + 1) (len - 3)) (rowSize * k + 2) name) (rowSize * k + 3) layer) (k + 1) (at + 1 + len)
   unfolding r1 r2 r3 r4
   rows-more name en bn e =
       subst (λ (x : ℕ). RowsSoFar book first mask (set (set (set (set rows (rowSize * k) (at + 4)) (rowSize * k + 1) (x - 3)) (rowSize * k + 2) name) (rowSize * k + 3) layer) (k + 1) (at + 1 + x)) (sym el)
       (subst (λ (x : ℕ). RowsSoFar book first mask (set (set (set (set rows (rowSize * k) (at + 4)) (rowSize * k + 1) (getD book at 0 - 3)) (rowSize * k + 2) name) (rowSize * k + 3) x) (k + 1) (at + 1 + getD book at 0)) (sym ey)
-      (more w h name en bn (subst (λ (x : ℕ). bitAnd (mask / 2 ^ x) 1 ≡ 1) ey e)))
+      (more w h name en bn (sym takes ∙ e)))

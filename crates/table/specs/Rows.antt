@@ -1,6 +1,6 @@
 -- The rows of the table: six numbers a rule, in rows of eight, one rule after the other. Assumes nothing.
 use mathlib.Core.Path.{_≡_}
-use mathlib.Core.Bool.{Bool, not}
+use mathlib.Core.Bool.{Bool, not, _&&_}
 use mathlib.Core.List.{List, map}
 use Prim.Native.Nat.{ℕ, _+_, _*_, _/_, _%_, _<_, _≤_}
 use lib.Dec.{eqb}
@@ -8,7 +8,7 @@ use lib.ListN.{length, getD, set, take, drop}
 use Rattle.base.specs.Bounds.{maxNames, maxLayers}
 use Rattle.base.specs.Lists.{upTo}
 use Rattle.layers.specs.Masks.{bitOf}
-use Rattle.format.specs.Book.{Rule, literalsOf}
+use Rattle.format.specs.Book.{Rule, literalsOf, isConstraint}
 use Rattle.table.specs.Names.{literalNamed, nameOf}
 
 -- numbers of a row, the last two of which say nothing
@@ -72,6 +72,13 @@ pub record SameRules (rows other : List ℕ) : Type 0 where
 -- a rule whose layer is in the mask
 unfoldable pub inMask : ℕ → Rule → Bool
 inMask mask r = eqb (bitOf mask (r .layer)) 1
+
+-- of these the rules proper, and the constraints
+unfoldable pub takesRule : ℕ → Rule → Bool
+takesRule mask r = inMask mask r && not (isConstraint r)
+
+unfoldable pub takesConstraint : ℕ → Rule → Bool
+takesConstraint mask r = inMask mask r && isConstraint r
 
 -- a rule is alive unless its layer's bit is set in the mask at its head's name
 unfoldable pub alive : List ℕ → Rule → Bool

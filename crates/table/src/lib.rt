@@ -4,18 +4,22 @@ ghost use mathlib.Core.Path.{_≡_};
 ghost use Prim.Native.Nat.{_*_, _<_, _≤_};
 ghost use Rattle.base.specs.Bounds.{maxAtoms, maxNames, maxLayers, maxRules};
 ghost use lib.ListN.{length, drop};
+ghost use mathlib.Core.Bool.{not, _&&_};
+ghost use lib.Dec.{eqb};
 ghost use Rattle.base.specs.Lists.{all, any};
-ghost use Rattle.format.specs.Book.{literalOf, literalsOf};
+ghost use Rattle.layers.specs.Masks.{bitOf};
+ghost use Rattle.format.specs.Book.{literalOf, literalsOf, isFalsity};
 ghost use Rattle.models.specs.StableModels.{atomHolds, complement, sameLiteral, holds, bodyHolds, leansOnItself};
 ghost use Rattle.table.specs.Names.{literalNamed, literalNumbered};
 ghost use Rattle.table.specs.Rows.{rowSize, rowCount, headName, rowLayer, overridden, withMask, rowBody, rowAt, alive, RowsBounded, RowsFit, SameRules};
 ghost use Rattle.table.specs.Overriding.{HeadLayers, unlessLeaning, Overridden};
-ghost use Rattle.table.specs.Table.{programOf, RuleRecords, Prepared, RowsMade, TableMade};
+ghost use Rattle.table.specs.Table.{programOf, RuleRecords, Prepared, RelevantLayers, RowsMade, TableMade};
 use base::MAX_ATOMS;
 use base::MAX_LAYERS;
 use base::MAX_NAMES;
 use base::wide;
 use base::wide16;
+use format::is_falsity;
 use format::literal_value;
 
 // Numbers of a row: two more than it holds, so that a row's place is a shift and no multiplication, which every pass over the rows feels.
@@ -138,6 +142,25 @@ fn name_of(a: u8, b: u8) -> usize
     v - 32768 + MAX_ATOMS
 }
 
+// Whether the mask has the layer.
+pub fn has_layer(mask: u32, layer: usize) -> bool
+    requires { ⌜ layer < maxLayers ⌝ }
+    ensures { λ r. ⌜ r ≡ eqb (bitOf mask layer) 1 ⌝ }
+{
+    (mask >> (layer as u32)) & 1 == 1
+}
+
+// Whether a record with that layer and head gives a row: the mask has its layer, and it is no constraint, whose head has no name.
+fn takes_rule(mask: u32, layer: usize, a: u8, b: u8) -> bool
+    requires { ⌜ layer < maxLayers ⌝ }
+    ensures { λ r. ⌜ r ≡ (eqb (bitOf mask layer) 1 && not (isFalsity (literalOf a b))) ⌝ }
+{
+    if has_layer(mask, layer) {
+        return !is_falsity(a, b);
+    }
+    false
+}
+
 // Writes the rows of the rules whose layer is in the mask, in their order, and says how many there are: one walk over the records by
 // length byte.
 pub fn make_rows(book: &[u8], first: usize, mask: u32, rows: &mut [u16]) -> usize
@@ -152,8 +175,10 @@ pub fn make_rows(book: &[u8], first: usize, mask: u32, rows: &mut [u16]) -> usiz
     while at < book.len() {
         let len = wide(book[at]);
         let layer = wide(book[at + 1]);
-        if (mask >> (layer as u32)) & 1 == 1 {
-            let head = name_of(book[at + 2], book[at + 3]);
+        let a = book[at + 2];
+        let b = book[at + 3];
+        if takes_rule(mask, layer, a, b) {
+            let head = name_of(a, b);
             let i = ROW_SIZE * count;
             rows[i] = (at + 4) as u16;
             rows[i + 1] = (len - 3) as u16;
@@ -261,6 +286,16 @@ pub fn overridden_layers(book: &[u8], rows: &mut [u16], lower: [u32; MAX_LAYERS]
     }
 }
 
+// The mask of the layers whose rules count at a layer: itself and those below it, without those that are switched off.
+pub fn relevant_layers(lower: [u32; MAX_LAYERS], layer: usize, off: u32) -> u32
+    requires { ⌜ layer < maxLayers ⌝ }
+    ensures { λ r. ⌜ RelevantLayers lower layer off r ⌝ }
+{
+    let under = lower[layer];
+    let all = under | (1 << (layer as u32));
+    all ^ (all & off)
+}
+
 // Writes the table of the program at a layer, of the rules of that layer and of those below it that are not switched off, and says how
 // many there are.
 pub fn rule_table(
@@ -276,9 +311,8 @@ pub fn rule_table(
     requires { ⌜ length (now rows) ≡ rowSize * maxRules ⌝ }
     ensures { λ r. ⌜ TableMade (programOf (now (book .entry)) layer off) (now (book .entry)) (now (rows .exit)) r ⌝ }
 {
-    let under = lower[layer];
-    let all = under | (1 << (layer as u32));
-    let count = make_rows(book, first, all ^ (all & off), rows);
+    let mask = relevant_layers(lower, layer, off);
+    let count = make_rows(book, first, mask, rows);
     overridden_layers(book, &mut rows[0..ROW_SIZE * count], lower);
     count
 }

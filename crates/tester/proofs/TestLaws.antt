@@ -3,7 +3,7 @@
 -- Used by is_stable; SettingMarks uses the first half. Assumes nothing.
 use mathlib.Core.Path.{_≡_, sym, ap, subst, _∙_}
 use mathlib.Core.Bool.{Bool, true, false, not, _&&_, Bool·beq}
-use mathlib.Core.List.{List}
+use mathlib.Core.List.{List, []}
 use Prim.Native.Nat.{ℕ, _<_, _≤_}
 use native.Mathlib.Omega.{arith}
 use lib.Dec.{T, T-not, not-T, eqb, eqb→eq}
@@ -16,7 +16,7 @@ use Rattle.models.specs.Program.{Program}
 use Rattle.models.specs.StableModels.{Interpretation, atomHolds, positive, negative, complement, sameLiteral, signed, holds, bodyHolds, overrides, rejected, default, stable, Derived, by-default, by-rule, StableModel, WellFormed}
 use Rattle.base.proofs.Members.{_∈_, and-left, and-right, and-both, all-at, all-of, any-at, any-of, same-test}
 use Rattle.base.proofs.UpTo.{failed, upTo-lt, upTo-has}
-use Rattle.models.proofs.LeastLaws.{beq-refl, literal-same, literal-refl, stable-sound, stable-complete, beq-same}
+use Rattle.models.proofs.LeastLaws.{beq-refl, literal-same, literal-refl, stable-sound, stable-complete, free-allowed, beq-same}
 use Rattle.table.specs.Names.{literalNamed, nameOf}
 use Rattle.table.specs.Rows.{rowCount, headName, rowAt, rowsOf, alive}
 use Rattle.table.specs.Table.{Tabulates}
@@ -190,15 +190,15 @@ module _ {P : Program} {book rows : List ℕ} (w : Tabulates P book rows) where
               let z : StableModel P m = stable-sound P m (sz ∙ en) t in
               same-test (literalMarked p q l) (holds m l) (λ u. z .exact l h .0 (marked-derived l u)) (λ u. derived-marked l (z .exact l h .1 u))
 
-          hold-stable : ((l : Literal) → l .atom < P .atoms → literalMarked p q l ≡ holds m l) → T (stable P m)
-          hold-stable f =
+          hold-stable : P .constraints ≡ [] → ((l : Literal) → l .atom < P .atoms → literalMarked p q l ≡ holds m l) → T (stable P m)
+          hold-stable free f =
               stable-complete P m
-              (record { size = sz ∙ en; exact = λ l h. (λ r. subst T (f l h) (derived-marked l r), λ u. marked-derived l (subst T (sym (f l h)) u)) })
+              (record { size = sz ∙ en; exact = λ l h. (λ r. subst T (f l h) (derived-marked l r), λ u. marked-derived l (subst T (sym (f l h)) u)); allowed = free-allowed P m free })
 
-          pub agree-stable : (r : Bool) → r ≡ all (marksAgree p q m) (upTo n) → r ≡ stable P m
-          agree-stable r e =
+          pub agree-stable : P .constraints ≡ [] → (r : Bool) → r ≡ all (marksAgree p q m) (upTo n) → r ≡ stable P m
+          agree-stable free r e =
               e ∙ same-test (all (marksAgree p q m) (upTo n)) (stable P m)
-              (λ t. hold-stable (λ l h. agree-literal p q m l (all-at (marksAgree p q m) t (upTo-has n (l .atom) (omega arith)))))
+              (λ t. hold-stable free (λ l h. agree-literal p q m l (all-at (marksAgree p q m) t (upTo-has n (l .atom) (omega arith)))))
               (λ t. all-of (marksAgree p q m) (upTo n) (λ f k.
               let h : f < n = upTo-lt n f k in
               literal-agree p q m f (marks-hold t (positive f) (omega arith)) (marks-hold t (negative f) (omega arith))))

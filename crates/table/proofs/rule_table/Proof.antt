@@ -1,22 +1,12 @@
 -- The rows are those of the relevant rules, since the mask has the driven layer and those below it, without the layers that are
 -- switched off; their masks are written in front of what is left of the array.
-use mathlib.Core.Path.{refl}
 use Rattle.table.proofs.TableLaws.{lent-fits, table-made}
 use borrow.Author.Needs.{needs}
 use Rattle.table.proofs.rule_table.Statement.{statement}
 use Rattle.table.proofs.rule_table.Tie as tie
 
-mul-under : tie.Need-mul-under
-mul-under c = search needs
-
-array-read-under : tie.Need-array-read-under
-array-read-under c = search needs
-
-cast-all : tie.Need-cast-all
-cast-all c = search needs
-
-shl-all : tie.Need-shl-all
-shl-all c = search needs
+relevant-layers-requires : tie.Need-relevant-layers-requires
+relevant-layers-requires c κs = search needs
 
 make-rows-requires : tie.Need-make-rows-requires
 make-rows-requires c κs = search needs
@@ -40,20 +30,13 @@ same-length : tie.Need-same-length
 same-length c = search needs
 
 returns : tie.Need-returns
-returns c =
-    let s = c .before .before .before .before .before .before .before .before .before .before in
-    let w = c .before .before .before .before .before .before .make-rows in
-    let o = c .before .before .overridden-layers in
-    table-made (s .args .book .now) (s .args .first) _ _ (w .result) (w .ensures) _ (o .ensures .0) (s .args .t5) (s .pre .0) (s .args .layer) (s .args .off) (s .pre .1 .0) refl (o .ensures .1)
+returns c = table-made (c .before .before .before .before .before .before .before .before .before .before .before .args .book .now) (c .before .before .before .before .before .before .before .before .before .before .before .args .first) _ _ (c .before .before .before .before .before .before .make-rows .result) (c .before .before .before .before .before .before .make-rows .ensures) _ (c .before .before .overridden-layers .ensures .0) (c .before .before .before .before .before .before .before .before .before .before .before .args .lower) (c .before .before .before .before .before .before .before .before .before .before .before .pre .0) (c .before .before .before .before .before .before .before .before .before .before .before .args .layer) (c .before .before .before .before .before .before .before .before .before .before .before .args .off) (c .before .before .before .before .before .before .before .before .before .before .before .pre .1 .0) (c .before .before .before .before .before .before .before .before .relevant-layers .ensures) (c .before .before .overridden-layers .ensures .1)
 
 pub rule-table-spec : {M : Type 1} → statement M
 rule-table-spec =
     tie.close
     (tie.spec
-    mul-under
-    array-read-under
-    cast-all
-    shl-all
+    relevant-layers-requires
     make-rows-requires
     mul-overridden-layers
     sub-overridden-layers

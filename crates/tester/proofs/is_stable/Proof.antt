@@ -1,6 +1,7 @@
 -- A violated row or a conflict rules stability out; else what is filled from the defaults is what is derived, and the comparison
 -- decides.
 use mathlib.Core.Path.{_∙_}
+use Rattle.table.proofs.TabledLaws.{tabled-free}
 use Rattle.tester.proofs.TestLaws.{violated-unstable, conflict-unstable, agree-stable}
 use borrow.Author.Needs.{needs}
 use Rattle.tester.proofs.is_stable.Statement.{statement}
@@ -49,7 +50,7 @@ same-length-2 c = search needs
 returns-3 : tie.Need-returns-3
 returns-3 c =
     let h = c .before .before .before .before .before .before .before .before .before .before .before .before .before .before .before .before .before .before .before .before .before .before .before .before .pre in
-    agree-stable (h .1 .0) (c .before .before .before .before .before .before .before .before .before .before .before .before .before .before .before .before .before .before .reject .ensures) (h .0) (h .1 .1 .0) (h .1 .1 .1 .0) (c .before .before .before .before .before .before .before .before .before .before .before .before .before .before .before .supported .ensures .support (c .before .before .before .before .before .before .before .before .before .before .before .before .before .if1 .left)) (c .before .before .before .before .before .before .before .before .before .before .before .defaults-of .ensures) (c .before .before .before .before .before .before .before .before .before .fill .ensures) (h .1 .1 .1 .1 .0) (c .before .before .before .before .before .before .if2 .left) (c .marks-agree .result) (c .marks-agree .ensures)
+    agree-stable (h .1 .0) (c .before .before .before .before .before .before .before .before .before .before .before .before .before .before .before .before .before .before .reject .ensures) (h .0) (h .1 .1 .0) (h .1 .1 .1 .0) (c .before .before .before .before .before .before .before .before .before .before .before .before .before .before .before .supported .ensures .support (c .before .before .before .before .before .before .before .before .before .before .before .before .before .if1 .left)) (c .before .before .before .before .before .before .before .before .before .before .before .defaults-of .ensures) (c .before .before .before .before .before .before .before .before .before .fill .ensures) (h .1 .1 .1 .1 .0) (c .before .before .before .before .before .before .if2 .left) (tabled-free (c .before .before .before .before .before .before .before .before .before .before .before .before .before .before .before .before .before .before .before .before .before .before .before .before .args .book .now) (c .before .before .before .before .before .before .before .before .before .before .before .before .before .before .before .before .before .before .before .before .before .before .before .before .args .rows .now) (c .before .before .before .before .before .before .before .before .before .before .before .before .before .before .before .before .before .before .before .before .before .before .before .before .args .n)) (c .marks-agree .result) (c .marks-agree .ensures)
 
 pub is-stable-spec : {M : Type 1} → statement M
 is-stable-spec =
