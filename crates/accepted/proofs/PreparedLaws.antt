@@ -28,7 +28,7 @@ module _ (s : List ℕ) (e : IsAccepted s) where
     few = omega (arith, whole-sections .rules .count, in-ranges .rules-few);
     each = λ r k.
         let g : RuleGood _ _ r = good-rule s e r k in
-        record { long = g .long; layer-low = omega (arith, g .layer-low, in-ranges .layers-few); atom-low = omega (arith, g .head-low, in-ranges .atoms-few) };
+        record { long = g .long; layer-low = omega (arith, g .layer-low, in-ranges .layers-few); atom-low = λ c. omega (arith, g .head-low c, in-ranges .atoms-few) };
   }
 
   starts-inside : ruleSection s + 6 ≤ length s

@@ -1,22 +1,23 @@
--- What acceptance says of the records: each rule's record has a layer, a head and a body within the bounds, so the program at any
+-- What acceptance says of the records: each rule's record has a layer, a head, unless it is a constraint, and a body within the bounds, so the program at any
 -- layer is well formed, and the book is short. PreparedLaws and the calls above cite it. Assumes nothing.
-use mathlib.Core.Path.{_≡_, sym, subst}
+use mathlib.Core.Path.{_≡_, sym, ap, subst, _∙_}
+use mathlib.Core.Logic.{⊎-elim}
 use mathlib.Core.Bool.{Bool, false, not, _&&_, _||_}
 use mathlib.Core.List.{List, Memᴰ·of-map}
 use Prim.Native.Nat.{ℕ, _+_, _*_, _<_, _≤_}
 use native.Mathlib.Omega.{arith}
 use borrow.Author.Tests.{ltb-true, eqb-true, not-false}
-use lib.Dec.{T, eqb, ltb, eqb→eq}
+use lib.Dec.{T, T-not, eqb, ltb, eqb→eq}
 use lib.ListN.{length}
 use Rattle.base.specs.Lists.{all, upTo}
-use Rattle.base.proofs.Members.{_∈_, and-left, and-right, filter-from, all-at, any-at}
-use Rattle.base.proofs.UpTo.{passed, true-of, upTo-lt}
-use Rattle.format.specs.Book.{Literal, Rule, records, sectionRecords, arrowOf, ruleOf, atomCount, layerCount, ruleSection, arrowRecords, ruleRecords, rulesOf, bookOf}
+use Rattle.base.proofs.Members.{_∈_, or-cases, and-left, and-right, filter-from, all-at, any-at}
+use Rattle.base.proofs.UpTo.{passed, failed, true-of, upTo-lt}
+use Rattle.format.specs.Book.{Literal, Rule, records, sectionRecords, arrowOf, ruleOf, isFalsity, isConstraint, atomCount, layerCount, ruleSection, arrowRecords, ruleRecords, rulesOf, bookOf}
 use Rattle.format.proofs.SectionLaws.{or-first, or-second}
 use Rattle.models.specs.Program.{relevant, programAt}
 use Rattle.models.specs.StableModels.{WellFormed}
 use Rattle.table.specs.Table.{programOf}
-use Rattle.book.specs.Causes.{arrowOk, ruleLength, atomBelow, ruleOk, hasBadRecord}
+use Rattle.book.specs.Causes.{arrowOk, ruleLength, atomBelow, headOk, ruleOk, hasBadRecord}
 use Rattle.book.proofs.RangeLaws.{Ranges, ranges}
 use Rattle.book.proofs.Accepted.{accepted-lawful, meets-short}
 use Rattle.accepted.specs.Accepted.{IsAccepted}
@@ -26,7 +27,7 @@ pub record RuleGood (l n : ℕ) (r : List ℕ) : Type 0 where
   pub long : 3 ≤ length r
   pub short : length r ≤ 35
   pub layer-low : ruleOf r .layer < l
-  pub head-low : ruleOf r .head .atom < n
+  pub head-low : isConstraint (ruleOf r) ≡ false → ruleOf r .head .atom < n
   pub body-low : (x : Literal) → x ∈ ruleOf r .body → x .atom < n
 
 length-in : (k : ℕ) → T (ruleLength k) → (3 ≤ k) × (k ≤ 35)
@@ -41,12 +42,17 @@ atom-low : (n : ℕ) (x : Literal) → T (atomBelow n x) → x .atom < n
 unfolding atomBelow
 atom-low n x t = ltb-true (x .atom) n (passed (ltb (x .atom) n) t)
 
+head-low : (n : ℕ) (r : List ℕ) → T (headOk n (ruleOf r .head)) → isConstraint (ruleOf r) ≡ false → ruleOf r .head .atom < n
+unfolding headOk isConstraint
+head-low n r t e =
+    ⊎-elim (λ u. atom-low n (ruleOf r .head) u) (λ u. absurd (subst T e u)) (or-cases (atomBelow n (ruleOf r .head)) (isFalsity (ruleOf r .head)) t)
+
 rule-good : (l n : ℕ) (r : List ℕ) → T (ruleOk l n r) → RuleGood l n r
 unfolding ruleOk
 rule-good l n r t =
     let a : Bool = ruleLength (length r) in
     let b : Bool = ltb (ruleOf r .layer) l in
-    let c : Bool = atomBelow n (ruleOf r .head) in
+    let c : Bool = headOk n (ruleOf r .head) in
     let d : Bool = all (atomBelow n) (ruleOf r .body) in
     let abc : T (a && b && c) = and-left (a && b && c) d t in
     let ab : T (a && b) = and-left (a && b) c abc in
@@ -54,7 +60,7 @@ rule-good l n r t =
       long = length-in (length r) (and-left a b ab) .0;
       short = length-in (length r) (and-left a b ab) .1;
       layer-low = ltb-true (ruleOf r .layer) l (passed b (and-right a b ab));
-      head-low = atom-low n (ruleOf r .head) (and-right (a && b) c abc);
+      head-low = head-low n r (and-right (a && b) c abc);
       body-low = λ x k. atom-low n x (all-at (atomBelow n) (and-right (a && b && c) d t) k);
     }
 
@@ -89,20 +95,23 @@ module _ (s : List ℕ) (e : IsAccepted s) where
       meets-short (sectionRecords s (ruleSection s)) 35 (w .rules .meets) (λ r k. good-rule r k .short) in
       omega (arith, section-length s 8 (w .arrows), section-length s (ruleSection s) (w .rules), w .arrows .count, w .rules .count, g .arrows-few, g .rules-few, w .second, w .ends)
 
-  -- a rule of the program at a layer stands for a record of the book
-  rule-from : (layer off : ℕ) (r : Rule) → r ∈ programOf s layer off .rules → (x : List ℕ) × x ∈ ruleRecords s × (ruleOf x ≡ r)
+  -- a rule of the program at a layer stands for a record of the book, which is no constraint
+  rule-from : (layer off : ℕ) (r : Rule) → r ∈ programOf s layer off .rules → (x : List ℕ) × x ∈ ruleRecords s × (ruleOf x ≡ r) × (isConstraint r ≡ false)
   unfolding programAt bookOf rulesOf
-  rule-from layer off r k = Memᴰ·of-map ruleOf (ruleRecords s) (filter-from (relevant (bookOf s) layer off) (rulesOf s) k .0)
+  rule-from layer off r k =
+      let v : r ∈ rulesOf s × T (relevant (bookOf s) layer off r && not (isConstraint r)) = filter-from (λ r. relevant (bookOf s) layer off r && not (isConstraint r)) (rulesOf s) k in
+      let u : (x : List ℕ) × x ∈ ruleRecords s × (ruleOf x ≡ r) = Memᴰ·of-map ruleOf (ruleRecords s) (v .0) in
+      (u .0, u .1, u .2, failed (isConstraint r) (T-not (isConstraint r) (and-right (relevant (bookOf s) layer off r) (not (isConstraint r)) (v .1))))
 
   -- every literal of the program at a layer names a fact of the book
   pub accepted-formed : (layer off : ℕ) → WellFormed (programOf s layer off)
   unfolding programAt bookOf
   accepted-formed layer off = record {
     heads = λ r k.
-        let v : (x : List ℕ) × x ∈ ruleRecords s × (ruleOf x ≡ r) = rule-from layer off r k in
-        subst (λ (t : Rule). t .head .atom < atomCount s) (v .2) (good-rule (v .0) (v .1) .head-low);
+        let v = rule-from layer off r k in
+        subst (λ (t : Rule). t .head .atom < atomCount s) (v .2) (good-rule (v .0) (v .1) .head-low (ap isConstraint (v .2) ∙ v .3));
     bodies = λ r k l i.
-        let v : (x : List ℕ) × x ∈ ruleRecords s × (ruleOf x ≡ r) = rule-from layer off r k in
+        let v = rule-from layer off r k in
         good-rule (v .0) (v .1) .body-low l (subst (λ (t : Rule). l ∈ t .body) (sym (v .2)) i);
   }
 

@@ -8,10 +8,12 @@ ghost use Rattle.layers.specs.Masks.{LowerMasks};
 ghost use Rattle.format.specs.Book.{arrowsOf, bookOf};
 ghost use Rattle.table.specs.Rows.{rowSize};
 ghost use Rattle.table.specs.Table.{programOf, TableMade};
+ghost use Rattle.bans.specs.Bans.{BansMade};
 ghost use Rattle.book.specs.Causes.{firstOf};
 ghost use Rattle.book.specs.Checks.{Checks};
 ghost use Rattle.accepted.specs.Accepted.{IsAccepted};
 ghost use Rattle.accepted.specs.Driven.{hasAbsentLayer, drivenTests, layerTests};
+use bans::ban_table;
 use base::MAX_LAYERS;
 use book::Cause;
 use book::Checked;
@@ -46,6 +48,24 @@ pub fn prepare(
 {
     let header = read_header(book);
     rule_table(book, header.rules + 6, layer, off, lower, rows)
+}
+
+// Writes the numbers of the constraints that count at a layer, as `prepare` does the rules' rows, and says how many there are.
+pub fn prepare_bans(
+    book: &[u8],
+    layer: usize,
+    off: u32,
+    lower: [u32; MAX_LAYERS],
+    bans: &mut [u32],
+) -> usize
+    requires { ⌜ IsAccepted (now book) ⌝ }
+    requires { ⌜ layer < bookOf (now book) .layers ⌝ }
+    requires { ⌜ LowerMasks (arrowsOf (now book)) lower ⌝ }
+    requires { ⌜ length (now bans) ≡ maxRules ⌝ }
+    ensures { λ r. ⌜ BansMade (programOf (now (book .entry)) layer off .constraints) (now (book .entry)) (now (bans .exit)) r ⌝ }
+{
+    let header = read_header(book);
+    ban_table(book, header.rules + 6, layer, off, lower, bans)
 }
 
 // Whether the set has a layer that a book of so many layers lacks. A book of MAX_LAYERS lacks none: every set is lawful there, and 32 bits
