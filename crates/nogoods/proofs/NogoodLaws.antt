@@ -13,14 +13,16 @@ use lib.Seq.{getD-set-same, getD-set-other, getD-take, length-take-le}
 use Rattle.base.specs.Bounds.{maxAtoms, maxNames}
 use Rattle.layers.specs.Masks.{bitOf}
 use Rattle.layers.proofs.BitLaws.{or-left, or-right, some-bit}
-use Rattle.format.specs.Book.{Literal}
+use Rattle.format.specs.Book.{Literal, literalsOf}
+use Rattle.base.proofs.Members.{_∈_}
+use Rattle.bans.specs.Bans.{banBytes, bodyOf}
 use Rattle.models.specs.StableModels.{positive, negative, complement}
 use Rattle.table.specs.Names.{literalNamed}
 use Rattle.table.specs.Rows.{rowCount, headName, rowAt, overridden, alive}
 use Rattle.table.proofs.NameLaws.{name-low, name-high, one-name}
 use Rattle.setting.specs.RuleMasks.{AtomBits, BodyMasked}
 use Rattle.setting.proofs.BitMaskLaws.{joined-keeps, joined-has}
-use Rattle.nogoods.specs.Nogoods.{maxNogoods, Rejectable, Within, AllWithin, NogoodOf, NogoodsTo, Nogoods, withNogood, NogoodPut, no-nogood, one-nogood}
+use Rattle.nogoods.specs.Nogoods.{maxNogoods, Rejectable, Within, AllWithin, NogoodOf, NogoodAt, NogoodsTo, Nogoods, withNogood, NogoodPut, no-nogood, one-nogood}
 
 -- ---- what can be rejected
 pub rejectable-start : (rows : List ℕ) → Rejectable rows (replicate {A = ℕ} maxNames 0) 0
@@ -85,15 +87,23 @@ module _ (book rows rejectable bits : List ℕ) (j : ℕ) (bj : j < rowCount row
     head-in = subst (Within bits (bitOr s x) d) (ap complement (sym (name-high h b) ∙ ap literalNamed eh)) (within-bit bits (bitOr s x) d (positive (h - maxAtoms)) false refl x ex n (λ i z. or-right s x i z));
   }
 
--- ---- the entries
-pub entries-start : (book rows rejectable bits masks : List ℕ) → length masks ≡ 2 * maxNogoods → NogoodsTo book rows rejectable bits masks 0
-entries-start book rows rejectable bits masks e = record { size = e; room = omega arith; each = λ k h. absurd (omega arith) }
+-- ---- a constraint
+pub ban-within : (book bits : List ℕ) (ban : ℕ) (part : List ℕ) → part ≡ banBytes book ban → {s d : ℕ} {whole : Bool} → BodyMasked bits (literalsOf part) s d whole → whole ≡ true → AllWithin bits s d (bodyOf book ban)
+unfolding bodyOf
+ban-within book bits ban part e {s} {d} m t l k =
+    let q : l ∈ literalsOf part = subst (λ (x : List ℕ). l ∈ literalsOf x) (sym e) k in
+    let b : (i : ℕ) × (bitOf (getD bits (l .atom) 0) i ≡ 1) = m .all-have t l q in
+    record { place = b .0; atom-bit = b .1; bit = m .full l q (b .0) (b .1) }
 
-module _ {book rows rejectable bits masks : List ℕ} {n : ℕ} (w : NogoodsTo book rows rejectable bits masks n) (b : n < maxNogoods) (j s d : ℕ) (x : NogoodOf book rows rejectable bits j s d) where
+-- ---- the entries
+pub entries-start : (book rows bans rejectable bits masks : List ℕ) → length masks ≡ 2 * maxNogoods → NogoodsTo book rows bans rejectable bits masks 0
+entries-start book rows bans rejectable bits masks e = record { size = e; room = omega arith; each = λ k h. absurd (omega arith) }
+
+module _ {book rows bans rejectable bits masks : List ℕ} {n : ℕ} (w : NogoodsTo book rows bans rejectable bits masks n) (b : n < maxNogoods) (s d : ℕ) (x : NogoodAt book rows bans rejectable bits s d) where
   abbrev twoMore : List ℕ
   twoMore = withNogood masks n s d
 
-  entries-more : NogoodsTo book rows rejectable bits twoMore (n + 1)
+  entries-more : NogoodsTo book rows bans rejectable bits twoMore (n + 1)
   entries-more = record { size = sized ∙ length-set masks (2 * n) s ∙ w .size; room = omega arith; each = λ k h. go k h (decLt k n) }
     where
       sized : length twoMore ≡ length (set masks (2 * n) s)
@@ -108,21 +118,21 @@ module _ {book rows rejectable bits masks : List ℕ} {n : ℕ} (w : NogoodsTo b
       before : (y : ℕ) → y < 2 * n → getD twoMore y 0 ≡ getD masks y 0
       before y h = getD-set-other (set masks (2 * n) s) (2 * n + 1) y d 0 (λ e. omega arith) ∙ getD-set-other masks (2 * n) y s 0 (λ e. omega arith)
 
-      go : (k : ℕ) → k < n + 1 → Dec (k < n) → (i : ℕ) × NogoodOf book rows rejectable bits i (getD twoMore (2 * k) 0) (getD twoMore (2 * k + 1) 0)
-      go k h (yes y) = let v = w .each k y in (v .0, rw (before (2 * k) (omega arith), before (2 * k + 1) (omega arith)) (v .1))
+      go : (k : ℕ) → k < n + 1 → Dec (k < n) → NogoodAt book rows bans rejectable bits (getD twoMore (2 * k) 0) (getD twoMore (2 * k + 1) 0)
+      go k h (yes y) = rw (before (2 * k) (omega arith), before (2 * k + 1) (omega arith)) (w .each k y)
       go k h (no y) =
           let e : n ≡ k = omega arith in
-          subst (λ (z : ℕ). (i : ℕ) × NogoodOf book rows rejectable bits i (getD twoMore (2 * z) 0) (getD twoMore (2 * z + 1) 0)) e (j, rw (first, second) x)
+          subst (λ (z : ℕ). NogoodAt book rows bans rejectable bits (getD twoMore (2 * z) 0) (getD twoMore (2 * z + 1) 0)) e (rw (first, second) x)
 
 -- a nogood more, if it is whole, or none
-pub entries-put : {book rows rejectable bits masks : List ℕ} {n : ℕ} → NogoodsTo book rows rejectable bits masks n → {j s d : ℕ} {whole : Bool} {masks′ : List ℕ} {n′ : ℕ}
-    → (whole ≡ true → NogoodOf book rows rejectable bits j s d) → NogoodPut masks n s d whole masks′ n′ → NogoodsTo book rows rejectable bits masks′ n′
+pub entries-put : {book rows bans rejectable bits masks : List ℕ} {n : ℕ} → NogoodsTo book rows bans rejectable bits masks n → {s d : ℕ} {whole : Bool} {masks′ : List ℕ} {n′ : ℕ}
+    → (whole ≡ true → NogoodAt book rows bans rejectable bits s d) → NogoodPut masks n s d whole masks′ n′ → NogoodsTo book rows bans rejectable bits masks′ n′
 entries-put w f no-nogood = w
-entries-put w {j} {s} {d} f (one-nogood t b) = entries-more w b j s d (f t)
+entries-put w {s} {d} f (one-nogood t b) = entries-more w b s d (f t)
 
 -- the entries, lent
-pub nogoods-lent : {book rows atoms rejectable bits masks : List ℕ} {n : ℕ} → NogoodsTo book rows rejectable bits masks n → Rejectable rows rejectable (rowCount rows)
-    → AtomBits atoms bits (length atoms) → (m : ℕ) → m ≡ 2 * n → Nogoods book rows atoms (take m masks) (length (take m masks) / 2)
+pub nogoods-lent : {book rows bans atoms rejectable bits masks : List ℕ} {n : ℕ} → NogoodsTo book rows bans rejectable bits masks n → Rejectable rows rejectable (rowCount rows)
+    → AtomBits atoms bits (length atoms) → (m : ℕ) → m ≡ 2 * n → Nogoods book rows bans atoms (take m masks) (length (take m masks) / 2)
 nogoods-lent {rejectable = rejectable} {bits = bits} {masks = masks} {n = n} w r b m q =
     let l : length (take m masks) ≡ m = length-take-le m masks (omega (arith, w .size, w .room)) in
     record {
@@ -131,6 +141,5 @@ nogoods-lent {rejectable = rejectable} {bits = bits} {masks = masks} {n = n} w r
       bits = bits;
       bits-of = b;
       each = λ k h.
-          let x = w .each k (omega arith) in
-          (x .0, rw (getD-take m masks (2 * k) 0 (omega arith), getD-take m masks (2 * k + 1) 0 (omega arith)) (x .1));
+          rw (getD-take m masks (2 * k) 0 (omega arith), getD-take m masks (2 * k + 1) 0 (omega arith)) (w .each k (omega arith));
     }

@@ -1,5 +1,6 @@
--- A nogood: what no stable model has together. A rule that nothing can reject gives one, its body and the opposite of its head. Where
--- all these are branching atoms it is two masks over them, bit i for the i-th: those that stand in it and those that do not.
+-- A nogood: what no stable model has together. A rule that nothing can reject gives one, its body and the opposite of its head; so does a
+-- constraint, its body. Where all these are branching atoms it is two masks over them, bit i for the i-th: those that stand in it and
+-- those that do not.
 -- Assumes nothing.
 use mathlib.Core.Path.{_≡_}
 use mathlib.Core.Bool.{Bool, true, cond}
@@ -14,6 +15,7 @@ use Rattle.format.specs.Book.{Literal}
 use Rattle.models.specs.StableModels.{complement}
 use Rattle.table.specs.Names.{literalNamed}
 use Rattle.table.specs.Rows.{rowCount, headName, rowAt, overridden, alive}
+use Rattle.bans.specs.Bans.{bodyOf}
 use Rattle.setting.specs.RuleMasks.{AtomBits}
 
 -- nogoods that a plan has room for
@@ -42,19 +44,24 @@ pub record NogoodOf (book rows rejectable bits : List ℕ) (j standing denied : 
   pub body-in : AllWithin bits standing denied (rowAt book rows j .body)
   pub head-in : Within bits standing denied (complement (rowAt book rows j .head))
 
+-- what two masks are a nogood of: a row, or a constraint
+pub data NogoodAt (book rows bans rejectable bits : List ℕ) (standing denied : ℕ) : Type 0 where
+  of-row : (j : ℕ) → NogoodOf book rows rejectable bits j standing denied → NogoodAt book rows bans rejectable bits standing denied
+  of-ban : (k : ℕ) → k < length bans → AllWithin bits standing denied (bodyOf book (getD bans k 0)) → NogoodAt book rows bans rejectable bits standing denied
+
 -- as the code makes them: the first n entries, two masks each, are nogoods
-pub record NogoodsTo (book rows rejectable bits masks : List ℕ) (n : ℕ) : Type 0 where
+pub record NogoodsTo (book rows bans rejectable bits masks : List ℕ) (n : ℕ) : Type 0 where
   pub size : length masks ≡ 2 * maxNogoods
   pub room : n ≤ maxNogoods
-  pub each : (k : ℕ) → k < n → (j : ℕ) × NogoodOf book rows rejectable bits j (getD masks (2 * k) 0) (getD masks (2 * k + 1) 0)
+  pub each : (k : ℕ) → k < n → NogoodAt book rows bans rejectable bits (getD masks (2 * k) 0) (getD masks (2 * k + 1) 0)
 
 -- the first n entries, two masks each, are nogoods
-pub record Nogoods (book rows atoms masks : List ℕ) (n : ℕ) : Type 0 where
+pub record Nogoods (book rows bans atoms masks : List ℕ) (n : ℕ) : Type 0 where
   pub rejectable : List ℕ
   pub rejects-all : Rejectable rows rejectable (rowCount rows)
   pub bits : List ℕ
   pub bits-of : AtomBits atoms bits (length atoms)
-  pub each : (k : ℕ) → k < n → (j : ℕ) × NogoodOf book rows rejectable bits j (getD masks (2 * k) 0) (getD masks (2 * k + 1) 0)
+  pub each : (k : ℕ) → k < n → NogoodAt book rows bans rejectable bits (getD masks (2 * k) 0) (getD masks (2 * k + 1) 0)
 
 -- entry k with other masks
 abbrev pub withNogood : List ℕ → ℕ → ℕ → ℕ → List ℕ

@@ -1,17 +1,20 @@
-// Nogoods: a rule that nothing can reject, with a body that holds and a head that does not, is in no stable model. Where a rule's atoms
-// all branch, two masks say it, and the search leaves out every group of settings that has them decided so.
+// Nogoods: a rule that nothing can reject, with a body that holds and a head that does not, is in no stable model, nor is a constraint
+// with a body that holds. Where all atoms branch, two masks say it, and the search leaves out every group of settings that has them decided so.
 ghost use mathlib.Core.Path.{_≡_};
 ghost use mathlib.Core.Bool.{true};
 ghost use Prim.Native.Nat.{_*_, _/_, _<_};
-ghost use lib.ListN.{length};
+ghost use lib.ListN.{length, getD};
 ghost use Rattle.base.specs.Bounds.{maxNames};
 ghost use Rattle.table.specs.Rows.{rowCount, rowAt, RowsBounded, RowsFit};
+ghost use Rattle.bans.specs.Bans.{bodyOf, BansFit};
 ghost use Rattle.setting.specs.RuleMasks.{BodyMasked};
-ghost use Rattle.nogoods.specs.Nogoods.{maxNogoods, Rejectable, NogoodOf, NogoodPut, Violated};
+ghost use Rattle.nogoods.specs.Nogoods.{maxNogoods, Rejectable, AllWithin, NogoodOf, NogoodPut, Violated};
+use bans::ban_body;
 use base::MAX_ATOMS;
 use base::MAX_NAMES;
 use setting::BodyMasks;
 use setting::bits_of;
+use setting::body_masks;
 use table::ROW_SIZE;
 use table::opposite;
 use table::row_alive;
@@ -89,6 +92,25 @@ pub fn row_nogood(
         standing: standing | bit,
         denied,
         whole: body.whole,
+    }
+}
+
+// The nogood of a constraint: its body, whole where all its atoms branch. A body that speaks for and against an atom never holds, and
+// would only be tried in vain.
+pub fn ban_nogood(book: &[u8], bans: &[u32], bits: &[u32], k: usize) -> Nogood
+    requires { ⌜ BansFit (now book) (now bans) ⌝ }
+    requires { ⌜ k < length (now bans) ⌝ }
+    ensures { λ r. ⌜ (r .whole ≡ true → AllWithin (now (bits .entry)) (r .standing) (r .denied) (bodyOf (now (book .entry)) (getD (now (bans .entry)) k 0))) ⌝ }
+{
+    let body = body_masks(bits, ban_body(book, bans, k));
+    let mut whole = body.whole;
+    if body.plain & body.negated != 0 {
+        whole = false;
+    }
+    Nogood {
+        standing: body.plain,
+        denied: body.negated,
+        whole,
     }
 }
 

@@ -56,7 +56,7 @@ pub struct BodyMasks {
 }
 
 // An atom that does not branch has no bit, and leaves the masks as they are.
-fn body_masks(bits: &[u32], body: &[u8]) -> BodyMasks
+pub fn body_masks(bits: &[u32], body: &[u8]) -> BodyMasks
     ensures { λ r. ⌜ BodyMasked (now (bits .entry)) (literalsOf (now (body .entry))) (r .plain) (r .negated) (r .whole) ⌝ }
 {
     let mut plain = 0;
