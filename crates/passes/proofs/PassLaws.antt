@@ -16,7 +16,7 @@ use Rattle.models.specs.Branching.{branchingAtoms, branchingCount}
 use Rattle.models.specs.Listing.{stableModels, recordSize, recordOf}
 use Rattle.records.specs.Written.{sorted}
 use Rattle.records.proofs.OrderLaws.{sorted-length, sorted-listed}
-use Rattle.table.specs.Tabled.{tabled}
+use Rattle.bans.specs.Bans.{barred}
 use Rattle.search.specs.declared.Goal.{Goal}
 use Rattle.search.specs.declared.Goal.the-variants as goals
 use Rattle.search.specs.declared.Visit.{Visit}
@@ -29,6 +29,7 @@ use Rattle.setting.proofs.BitMaskLaws.{single}
 use Rattle.layers.proofs.BitLaws.{pow-fits}
 use Rattle.leaf.specs.Searchable.{Searchable}
 use Rattle.leaf.proofs.FoundLaws.{found-stable, stable-found, found-once, found-count}
+use Rattle.search.proofs.AllowedLaws.{barred-formed, barred-listed, barred-size}
 use Rattle.search.proofs.KeptLaws.{room-less}
 use Rattle.search.proofs.VisitLaws.{searched-goal, searched-count, searched-weight}
 use Rattle.passes.specs.Tallied.{searched, Passed, Tallied, Bounds}
@@ -92,21 +93,21 @@ from-all P atoms left e {asked} {n} o {v} {p} {v′} {p′} s =
     subst (λ (k : ℕ). Searched asked n (foundBy (atSetting P atoms) (drop k atoms) o) v p v′ p′) {x = length atoms - left} {y = 0} (omega arith) s
 
 -- the call of the search
-module _ {book rows atoms : List ℕ} {n : ℕ} (w : Searchable book rows atoms n) where
+module _ {book rows atoms : List ℕ} {n : ℕ} (w : Searchable book rows atoms n) (bans : List ℕ) where
   abbrev P : Program
-  P = tabled book rows n
+  P = barred book rows bans n
 
   pub found-is : foundBy (atSetting P atoms) atoms (settingOf atoms 0) ≡ searched P
   unfolding searched
   found-is =
       ap (λ (o : Interpretation). foundBy (atSetting P atoms) atoms o) (sym (setting-none atoms))
-      ∙ ap (λ (l : List ℕ). foundBy (atSetting P l) l (replicate maxAtoms false)) (w .listed)
+      ∙ ap (λ (l : List ℕ). foundBy (atSetting P l) l (replicate maxAtoms false)) (barred-listed w bans)
 
   pub start-fits : 0 + 2 ^ length atoms ≤ 4294967296
   start-fits = omega (arith, pow-le-pow-right {n = 2} (omega arith) (w .atoms-few))
 
   atoms-low : P .atoms ≤ maxAtoms
-  atoms-low = subst (λ (k : ℕ). k ≤ maxAtoms) (w .size) (w .few)
+  atoms-low = subst (λ (k : ℕ). k ≤ maxAtoms) (barred-size w bans) (w .few)
 
   abbrev start : Goal → Visit
   start goal = record { goal = goal; count = 0; weight = 0 }
@@ -117,7 +118,7 @@ module _ {book rows atoms : List ℕ} {n : ℕ} (w : Searchable book rows atoms 
   start-kept goal asked left e part a r =
       let all : undecided atoms left ≡ atoms = ap (λ (k : ℕ). drop k atoms) {x = length atoms - left} {y = 0} (omega arith) in
       let count : length (foundBy (atSetting P atoms) (undecided atoms left) (settingOf atoms 0)) ≡ length (stableModels P) =
-      ap (λ (fs : List ℕ). length (foundBy (atSetting P atoms) fs (settingOf atoms 0))) all ∙ ap length found-is ∙ searched-length P (w .formed) atoms-low in
+      ap (λ (fs : List ℕ). length (foundBy (atSetting P atoms) fs (settingOf atoms 0))) all ∙ ap length found-is ∙ searched-length P (barred-formed w bans) atoms-low in
       record { asks = a; room = room-less goal n (0 + length (foundBy (atSetting P atoms) (undecided atoms left) (settingOf atoms 0))) (length (stableModels P)) part (omega (arith, count)) r; light = omega arith }
 
   module _ {goal : Goal} {asked part : List ℕ} {end : Visit} {part′ : List ℕ} (s : Passed P atoms n goal asked part end part′) where
@@ -146,7 +147,7 @@ module _ {book rows atoms : List ℕ} {n : ℕ} (w : Searchable book rows atoms 
         ∙ sym (s .split) ∙ found-is
 
     seen-few : length (s .seen) ≤ length (stableModels P)
-    seen-few = omega (arith, ap length (sym found-is ∙ s .split), length-append (s .seen) (s .rest), searched-length P (w .formed) atoms-low)
+    seen-few = omega (arith, ap length (sym found-is ∙ s .split), length-append (s .seen) (s .rest), searched-length P (barred-formed w bans) atoms-low)
 
     -- a pass for every model
     module _ (every : goal ≡ goals.List) where
@@ -155,12 +156,12 @@ module _ {book rows atoms : List ℕ} {n : ℕ} (w : Searchable book rows atoms 
       none-reached = rw every refl
 
       pub all-counted : end .count ≡ length (stableModels P)
-      all-counted = counted ∙ ap length (all-seen none-reached) ∙ searched-length P (w .formed) atoms-low
+      all-counted = counted ∙ ap length (all-seen none-reached) ∙ searched-length P (barred-formed w bans) atoms-low
 
       all-sorted : sorted n (s .seen) ≡ stableModels P
       all-sorted =
-          ap (λ (l : List Interpretation). sorted n l) (all-seen none-reached) ∙ ap (λ (k : ℕ). sorted k (searched P)) (w .size)
-          ∙ searched-sorted P (w .formed) atoms-low
+          ap (λ (l : List Interpretation). sorted n l) (all-seen none-reached) ∙ ap (λ (k : ℕ). sorted k (searched P)) (barred-size w bans)
+          ∙ searched-sorted P (barred-formed w bans) atoms-low
 
       pub all-written : part′ ≡ flat (map (recordOf n) (stableModels P)) ++ drop (length (stableModels P) * recordSize n) part
       unfolding keptBy
@@ -175,7 +176,7 @@ module _ {book rows atoms : List ℕ} {n : ℕ} (w : Searchable book rows atoms 
     pub counted-past : (room : ℕ) → goal ≡ goals.Count room → Bounds (length (stableModels P)) room (end .count)
     unfolding reaches
     counted-past room e = record {
-      enough = λ h. let q : reaches goal (end .count) (end .weight) ≡ false = rw e (le-ltb room (end .count) h) in omega (arith, counted, ap length (all-seen q), searched-length P (w .formed) atoms-low);
+      enough = λ h. let q : reaches goal (end .count) (end .weight) ≡ false = rw e (le-ltb room (end .count) h) in omega (arith, counted, ap length (all-seen q), searched-length P (barred-formed w bans) atoms-low);
       past = λ h. omega (arith, counted, seen-few);
     }
 
@@ -184,7 +185,7 @@ module _ {book rows atoms : List ℕ} {n : ℕ} (w : Searchable book rows atoms 
   unfolding branchingCount
   every-setting g every room eg e h =
       let small : g ≤ 20 = omega (arith, eg, w .atoms-few) in
-      let m : length (stableModels P) ≤ 2 ^ g = subst (λ (k : ℕ). length (stableModels P) ≤ 2 ^ k) (sym (eg ∙ ap length (w .listed))) (models-le P (w .formed) atoms-low) in
+      let m : length (stableModels P) ≤ 2 ^ g = subst (λ (k : ℕ). length (stableModels P) ≤ 2 ^ k) (sym (eg ∙ ap length (barred-listed w bans))) (models-le P (barred-formed w bans) atoms-low) in
       record { enough = λ _. omega (arith, e, pow-fits g (omega arith), m); past = λ k. absurd (omega (arith, h, k)) }
 
 -- a part without room holds all the records, if it has the room for them

@@ -12,19 +12,21 @@ ghost use Rattle.format.specs.Book.{arrowsOf, bookOf};
 ghost use Rattle.models.specs.Listing.{stableModels, recordSize, recordOf};
 ghost use Rattle.table.specs.Rows.{rowSize};
 ghost use Rattle.table.specs.Table.{programOf};
-ghost use Rattle.table.specs.Tabled.{tabled};
 ghost use Rattle.accepted.specs.Accepted.{IsAccepted};
-ghost use Rattle.plan.specs.Plan.{planSize, planAtoms};
+ghost use Rattle.plan.specs.Plan.{planSize, planAtoms, plannedProgram};
 ghost use Rattle.search.specs.Visits.{Asks, RoomFor};
 ghost use Rattle.passes.specs.First.{FirstWritten};
-ghost use Rattle.passes.specs.SetUp.{Ready, SetUp};
+ghost use Rattle.passes.specs.SetUp.{Ready, BansListed, SetUp};
 ghost use Rattle.passes.specs.Tallied.{Passed, Tallied, Bounds};
 use accepted::atom_count;
 use accepted::prepare;
+use accepted::prepare_bans;
 use base::MAX_BRANCHING;
 use base::MAX_LAYERS;
 use branching::branching_atoms;
 use filling::HINTS;
+use plan::BANS;
+use plan::PLAN;
 use plan::Sizes;
 use plan::make_plan;
 use search::Goal;
@@ -40,8 +42,25 @@ pub struct Driven {
     pub sizes: Sizes,
 }
 
+// Writes the constraints that count at a layer behind the plan, and says how many there are.
+fn put_bans(
+    book: &[u8],
+    layer: usize,
+    off: u32,
+    lower: [u32; MAX_LAYERS],
+    plan: &mut [u32],
+) -> usize
+    requires { ⌜ IsAccepted (now book) ⌝ }
+    requires { ⌜ layer < bookOf (now book) .layers ⌝ }
+    requires { ⌜ LowerMasks (arrowsOf (now book)) lower ⌝ }
+    requires { ⌜ length (now plan) ≡ planSize ⌝ }
+    ensures { λ r. ⌜ BansListed (programOf (now (book .entry)) layer off .constraints) (now (book .entry)) (now (plan .exit)) r ⌝ }
+{
+    prepare_bans(book, layer, off, lower, &mut plan[BANS..PLAN])
+}
+
 // Writes the table of the rules that count at a layer, with the layers of a set switched off, and the plan of a search, which has its
-// branching facts in front.
+// branching facts in front and the constraints behind.
 pub fn set_up(
     book: &[u8],
     layer: usize,
@@ -58,6 +77,7 @@ pub fn set_up(
 {
     let n = atom_count(book);
     let rules = prepare(book, layer, off, lower, rows);
+    let bans = put_bans(book, layer, off, lower, plan);
     let g = branching_atoms(
         book,
         &rows[0..ROW_SIZE * rules],
@@ -71,6 +91,7 @@ pub fn set_up(
             heads: 0,
             nogoods: 0,
             rejecting: 0,
+            bans,
         };
         return Driven {
             rules,
@@ -78,7 +99,7 @@ pub fn set_up(
             sizes: none,
         };
     }
-    let sizes = make_plan(book, &rows[0..ROW_SIZE * rules], plan, n, g);
+    let sizes = make_plan(book, &rows[0..ROW_SIZE * rules], plan, n, g, bans);
     Driven {
         rules,
         few: true,
@@ -103,8 +124,8 @@ fn pass(
 ) -> Visit
     requires { ⌜ Ready (now book) (now rows) (now plan) sizes ⌝ }
     requires { ⌜ Asks goal (now asked) ⌝ }
-    requires { ⌜ RoomFor goal (sizes .n) (length (stableModels (tabled (now book) (now rows) (sizes .n)))) (now part) ⌝ }
-    ensures { λ r. ⌜ Passed (tabled (now (book .entry)) (now (rows .entry)) (sizes .n)) (planAtoms (now (plan .entry)) (sizes .branching)) (sizes .n) goal (now (asked .entry)) (now (part .entry)) r (now (part .exit)) ⌝ }
+    requires { ⌜ RoomFor goal (sizes .n) (length (stableModels (plannedProgram (now book) (now rows) (now plan) sizes))) (now part) ⌝ }
+    ensures { λ r. ⌜ Passed (plannedProgram (now (book .entry)) (now (rows .entry)) (now (plan .entry)) sizes) (planAtoms (now (plan .entry)) (sizes .branching)) (sizes .n) goal (now (asked .entry)) (now (part .entry)) r (now (part .exit)) ⌝ }
 {
     let mut hints: [u16; HINTS] = [0; HINTS];
     let v = Visit {
@@ -124,7 +145,7 @@ fn pass(
 // else they are counted, no further than one past the room.
 pub fn most_records(book: &[u8], rows: &[u16], plan: &[u32], sizes: Sizes, room: usize) -> usize
     requires { ⌜ Ready (now book) (now rows) (now plan) sizes ⌝ }
-    ensures { λ r. ⌜ Bounds (length (stableModels (tabled (now (book .entry)) (now (rows .entry)) (sizes .n)))) room r ⌝ }
+    ensures { λ r. ⌜ Bounds (length (stableModels (plannedProgram (now (book .entry)) (now (rows .entry)) (now (plan .entry)) sizes))) room r ⌝ }
 {
     let settings: u32 = 1 << (sizes.branching as u32);
     let every = settings as usize;
@@ -156,8 +177,8 @@ pub fn tally(
 ) -> Counts
     requires { ⌜ Ready (now book) (now rows) (now plan) sizes ⌝ }
     requires { ⌜ Asks goal (now asked) ⌝ }
-    requires { ⌜ RoomFor goal (sizes .n) (length (stableModels (tabled (now book) (now rows) (sizes .n)))) [] ⌝ }
-    ensures { λ r. ⌜ Tallied (tabled (now (book .entry)) (now (rows .entry)) (sizes .n)) goal (now (asked .entry)) (r .count) (r .weight) ⌝ }
+    requires { ⌜ RoomFor goal (sizes .n) (length (stableModels (plannedProgram (now book) (now rows) (now plan) sizes))) [] ⌝ }
+    ensures { λ r. ⌜ Tallied (plannedProgram (now (book .entry)) (now (rows .entry)) (now (plan .entry)) sizes) goal (now (asked .entry)) (r .count) (r .weight) ⌝ }
 {
     let mut none: [u8; 0] = [];
     let end = pass(book, rows, plan, sizes, goal, asked, &mut none);
@@ -171,8 +192,8 @@ pub fn tally(
 // Where it has no room at all there are none, and nothing is searched.
 pub fn write_all(book: &[u8], rows: &[u16], plan: &[u32], sizes: Sizes, part: &mut [u8]) -> usize
     requires { ⌜ Ready (now book) (now rows) (now plan) sizes ⌝ }
-    requires { ⌜ length (stableModels (tabled (now book) (now rows) (sizes .n))) * recordSize (sizes .n) ≤ length (now part) ⌝ }
-    ensures { λ r. ⌜ (r ≡ length (stableModels (tabled (now (book .entry)) (now (rows .entry)) (sizes .n)))) × (now (part .exit) ≡ flat (map (recordOf (sizes .n)) (stableModels (tabled (now (book .entry)) (now (rows .entry)) (sizes .n)))) ++ drop (length (stableModels (tabled (now (book .entry)) (now (rows .entry)) (sizes .n))) * recordSize (sizes .n)) (now (part .entry))) ⌝ }
+    requires { ⌜ length (stableModels (plannedProgram (now book) (now rows) (now plan) sizes)) * recordSize (sizes .n) ≤ length (now part) ⌝ }
+    ensures { λ r. ⌜ (r ≡ length (stableModels (plannedProgram (now (book .entry)) (now (rows .entry)) (now (plan .entry)) sizes))) × (now (part .exit) ≡ flat (map (recordOf (sizes .n)) (stableModels (plannedProgram (now (book .entry)) (now (rows .entry)) (now (plan .entry)) sizes))) ++ drop (length (stableModels (plannedProgram (now (book .entry)) (now (rows .entry)) (now (plan .entry)) sizes)) * recordSize (sizes .n)) (now (part .entry))) ⌝ }
 {
     if part.len() == 0 {
         return 0;
@@ -186,7 +207,7 @@ pub fn write_all(book: &[u8], rows: &[u16], plan: &[u32], sizes: Sizes, part: &m
 pub fn write_first(book: &[u8], rows: &[u16], plan: &[u32], sizes: Sizes, part: &mut [u8]) -> bool
     requires { ⌜ Ready (now book) (now rows) (now plan) sizes ⌝ }
     requires { ⌜ length (now part) ≡ recordSize (sizes .n) ⌝ }
-    ensures { λ r. ⌜ FirstWritten (tabled (now (book .entry)) (now (rows .entry)) (sizes .n)) (sizes .n) (now (part .entry)) r (now (part .exit)) ⌝ }
+    ensures { λ r. ⌜ FirstWritten (plannedProgram (now (book .entry)) (now (rows .entry)) (now (plan .entry)) sizes) (sizes .n) (now (part .entry)) r (now (part .exit)) ⌝ }
 {
     let nothing: [u8; 0] = [];
     let end = pass(book, rows, plan, sizes, Goal::First, &nothing, part);

@@ -1,16 +1,18 @@
 // What a search reads besides the table, made once a call and in one array: the branching facts, then the masks of the rules' heads and
-// bodies, of the nogoods and of the rows that reject. One pass over the rows, which reads each body once.
+// bodies, of the nogoods and of the rows that reject, and the numbers of the constraints, which are there before. One pass over the rows,
+// which reads each body once.
 ghost use mathlib.Core.Path.{_≡_};
 ghost use Prim.Native.Nat.{_<_, _≤_};
 ghost use lib.ListN.{length};
 ghost use Rattle.base.specs.Bounds.{maxNames, maxRules, maxBranching};
 ghost use Rattle.table.specs.Rows.{rowCount, RowsFit};
+ghost use Rattle.bans.specs.Bans.{BansFit};
 ghost use Rattle.setting.specs.RuleMasks.{Low, AtomBits};
-ghost use Rattle.nogoods.specs.Nogoods.{Rejectable};
-ghost use Rattle.plan.specs.Plan.{planSize, planAtoms, PlanTo, PlanStep, Planned};
+ghost use Rattle.plan.specs.Plan.{planSize, planAtoms, planBans, PlanTo, PlanStep, BansPlanned, Planned};
 use base::MAX_BRANCHING;
 use base::MAX_RULES;
 use nogoods::MAX_NOGOODS;
+use nogoods::ban_nogood;
 use nogoods::put_nogood;
 use nogoods::rejectable_masks;
 use nogoods::row_nogood;
@@ -31,7 +33,9 @@ pub const NOGOODS: usize = MASKS + 3 * MAX_RULES;
 
 pub const REJECTING: usize = NOGOODS + 2 * MAX_NOGOODS;
 
-pub const PLAN: usize = REJECTING + 4 * MAX_RULES;
+pub const BANS: usize = REJECTING + 4 * MAX_RULES;
+
+pub const PLAN: usize = BANS + MAX_RULES;
 
 // How many facts there are, how many of them branch, and how many entries of each kind.
 pub struct Sizes {
@@ -40,6 +44,7 @@ pub struct Sizes {
     pub heads: usize,
     pub nogoods: usize,
     pub rejecting: usize,
+    pub bans: usize,
 }
 
 // Writes a row's entries behind the others.
@@ -72,7 +77,7 @@ fn plan_row(
     let name = opposite(h);
     let layers = row_overridden(rows, j);
     let rejecting = put_rejecting(
-        &mut plan[REJECTING..PLAN],
+        &mut plan[REJECTING..BANS],
         sizes.rejecting,
         body,
         name,
@@ -84,15 +89,41 @@ fn plan_row(
         heads,
         nogoods,
         rejecting,
+        bans: sizes.bans,
     }
 }
 
-// Makes the plan behind the branching facts, which are there already, g of them.
-pub fn make_plan(book: &[u8], rows: &[u16], plan: &mut [u32], n: usize, g: usize) -> Sizes
+// Writes the nogoods of the constraints behind those of the rows, `made` of them, and says how many nogoods there are.
+fn plan_bans(book: &[u8], bits: &[u32], plan: &mut [u32], bans: usize, made: usize) -> usize
+    requires { ⌜ (length (now plan) ≡ planSize) × (bans ≤ maxRules) × BansFit (now book) (planBans (now plan) bans) ⌝ }
+    ensures { λ r. ⌜ BansPlanned (now (book .entry)) (now (bits .entry)) (now (plan .entry)) bans made (now (plan .exit)) r ⌝ }
+{
+    let last = BANS + bans;
+    let mut nogoods = made;
+    let mut k = 0;
+    while k < bans {
+        let nogood = ban_nogood(book, &plan[BANS..last], bits, k);
+        let more = put_nogood(&mut plan[NOGOODS..REJECTING], nogoods, nogood);
+        nogoods = more;
+        k += 1;
+    }
+    nogoods
+}
+
+// Makes the plan between the branching facts and the constraints, which are there already, g and `bans` of them.
+pub fn make_plan(
+    book: &[u8],
+    rows: &[u16],
+    plan: &mut [u32],
+    n: usize,
+    g: usize,
+    bans: usize,
+) -> Sizes
     requires { ⌜ RowsFit (now book) (now rows) ⌝ }
     requires { ⌜ rowCount (now rows) ≤ maxRules ⌝ }
     requires { ⌜ (length (now plan) ≡ planSize) × (g ≤ maxBranching) × Low (planAtoms (now plan) g) ⌝ }
-    ensures { λ r. ⌜ Planned (now (book .entry)) (now (rows .entry)) (planAtoms (now (plan .entry)) g) (now (plan .exit)) r × (r .n ≡ n) × (r .branching ≡ g) ⌝ }
+    requires { ⌜ (bans ≤ maxRules) × BansFit (now book) (planBans (now plan) bans) ⌝ }
+    ensures { λ r. ⌜ Planned (now (book .entry)) (now (rows .entry)) (planAtoms (now (plan .entry)) g) (now (plan .exit)) r × (r .n ≡ n) × (r .branching ≡ g) × (planBans (now (plan .exit)) (r .bans) ≡ planBans (now (plan .entry)) bans) ⌝ }
 {
     let bits = atom_bits(&plan[0..g]);
     let rejectable = rejectable_masks(rows);
@@ -103,6 +134,7 @@ pub fn make_plan(book: &[u8], rows: &[u16], plan: &mut [u32], n: usize, g: usize
         heads: 0,
         nogoods: 0,
         rejecting: 0,
+        bans,
     };
     let mut j = 0;
     while j < count {
@@ -110,5 +142,13 @@ pub fn make_plan(book: &[u8], rows: &[u16], plan: &mut [u32], n: usize, g: usize
         sizes = next;
         j += 1;
     }
-    sizes
+    let nogoods = plan_bans(book, &bits, plan, sizes.bans, sizes.nogoods);
+    Sizes {
+        n: sizes.n,
+        branching: sizes.branching,
+        heads: sizes.heads,
+        nogoods,
+        rejecting: sizes.rejecting,
+        bans: sizes.bans,
+    }
 }

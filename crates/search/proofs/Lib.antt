@@ -1,5 +1,6 @@
 pub mod KeptLaws
 pub mod VisitLaws
+pub mod AllowedLaws
 pub mod StepLaws
 pub mod QuickLaws
 pub mod TurnLaws

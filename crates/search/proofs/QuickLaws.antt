@@ -3,7 +3,7 @@
 use mathlib.Core.Path.{_≡_, refl, sym, ap, subst, _∙_}
 use mathlib.Core.Logic.{⊎-elim}
 use mathlib.Core.Bool.{Bool, true, false, not, _&&_, cond, false≢true}
-use mathlib.Core.List.{List, [], _∷_, List·Memᴰ·head, List·Memᴰ·tail}
+use mathlib.Core.List.{List, [], _∷_, Memᴰ·map, List·Memᴰ·head, List·Memᴰ·tail}
 use Prim.Native.Nat.{ℕ, zero, suc, _+_, _*_, _-_, _/_, _<_, _≤_}
 use native.Mathlib.Decide.{ℕ-discrete}
 use native.Mathlib.Omega.{arith}
@@ -16,12 +16,13 @@ use Rattle.base.proofs.Members.{_∈_, and-left, any-at}
 use Rattle.layers.specs.Masks.{bitOf}
 use Rattle.layers.proofs.BitLaws.{no-bit, or-cases, and-first, and-second, some-bit}
 use Rattle.format.specs.Book.{Literal, Rule}
-use Rattle.models.specs.Program.{Program}
+use Rattle.models.specs.Program.{Program, constrained}
 use Rattle.models.specs.StableModels.{Interpretation, atomHolds, positive, negative, complement, signed, holds, bodyHolds, overrides, rejected, Derived, by-default, by-rule, StableModel}
 use Rattle.models.specs.Branching.{branchingAtoms}
 use Rattle.table.specs.Names.{literalNamed, nameOf}
 use Rattle.table.specs.Rows.{rowCount, headName, rowAt, alive}
 use Rattle.table.specs.Tabled.{tabled}
+use Rattle.bans.specs.Bans.{bodyOf, bodiesOf, barred}
 use Rattle.table.proofs.NameLaws.{name-back, complement-twice}
 use Rattle.table.proofs.RowLaws.{row-in, row-of}
 use Rattle.table.proofs.NamedLaws.{overrides-named}
@@ -29,11 +30,12 @@ use Rattle.setting.specs.Setting.{settingOf}
 use Rattle.setting.specs.RuleMasks.{AtomBits, RuleMask, plainMask, negatedMask, headMask, MaskOf, RuleMasks, Open, Headed}
 use Rattle.setting.proofs.BitMaskLaws.{single, single-only}
 use Rattle.setting.proofs.SettingLaws.{setting-size, setting-false, setting-true}
-use Rattle.nogoods.specs.Nogoods.{Rejectable, Within, NogoodOf, Nogoods, Violated}
+use Rattle.nogoods.specs.Nogoods.{Rejectable, Within, NogoodOf, NogoodAt, of-row, of-ban, Nogoods, Violated}
 use Rattle.insertion.proofs.Once.{Once}
 use Rattle.insertion.proofs.SortedLaws.{getD-member}
 use Rattle.leaf.specs.Found.{atSetting, foundBy}
 use Rattle.search.specs.Decided.{DecidedAt, Decided}
+use Rattle.search.proofs.AllowedLaws.{barred-formed, barred-listed, barred-model}
 use Rattle.leaf.specs.Searchable.{Searchable}
 use Rattle.leaf.proofs.FoundLaws.{branching-small, branching-once, found-decided}
 
@@ -45,10 +47,14 @@ none-set a none = go (ℕ-discrete a 0)
     go (yes e) = e
     go (no n) = let x : (i : ℕ) × (bitOf a i ≡ 1) = some-bit (suc a) a (omega arith) (omega arith) in absurd (none (x .0) (x .1))
 
-module _ {book rows atoms : List ℕ} {n : ℕ} (w : Searchable book rows atoms n) {masks : List ℕ}
+module _ {book rows atoms : List ℕ} {n : ℕ} (w : Searchable book rows atoms n) (bans : List ℕ) {masks : List ℕ}
     (k : RuleMasks book rows atoms masks) {undecided : List ℕ} (o : Interpretation) {standing denied : ℕ} (s : Decided atoms undecided o standing denied) where
+  -- the rules alone, and with the constraints
   abbrev P : Program
   P = tabled book rows n
+
+  abbrev B : Program
+  B = barred book rows bans n
 
   module _ (m : Interpretation) (sm : StableModel P m) (same : (f : ℕ) → f ∈ branchingAtoms P → (f ∈ undecided → ⊥) → atomHolds m f ≡ atomHolds o f) where
     listed-at : (i : ℕ) → i < length atoms → getD atoms i 0 ∈ branchingAtoms P
@@ -147,18 +153,14 @@ module _ {book rows atoms : List ℕ} {n : ℕ} (w : Searchable book rows atoms 
         facing : (t : Rule) (j : ℕ) → t ≡ rowAt book rows j → t .head ≡ complement (r .head) → r .head ≡ complement (literalNamed (headName rows j))
         facing t j et eh = sym (complement-twice (r .head)) ∙ ap complement (sym eh ∙ ap (λ (x : Rule). x .head) et ∙ row-head-is j)
 
-    -- so no nogood is decided
-    no-nogood : {nogoods : List ℕ} {n : ℕ} → Nogoods book rows atoms nogoods n → Violated nogoods n standing denied → ⊥
+    -- so no nogood of a row is decided
+    no-row-nogood : {rejectable bits : List ℕ} → Rejectable rows rejectable (rowCount rows) → (stand deny j : ℕ) → ((l : Literal) → Within bits stand deny l → T (holds m l)) → NogoodOf book rows rejectable bits j stand deny → ⊥
     unfolding rowAt holds signed complement
-    no-nogood {nogoods} g x =
-        let v = g .each (x .place) (x .before) in
-        let j : ℕ = v .0 in
+    no-row-nogood all stand deny j inside y =
         let r : Rule = rowAt book rows j in
-        let y : NogoodOf book rows (g .rejectable) (g .bits) j (getD nogoods (2 * x .place) 0) (getD nogoods (2 * x .place + 1) 0) = v .1 in
         let i : r ∈ P .rules = subst (λ (rs : List Rule). r ∈ rs) (w .table .rules) (row-in book rows j (y .before)) in
-        let inside = within-holds (g .bits-of) (getD nogoods (2 * x .place) 0) (getD nogoods (2 * x .place + 1) 0) (x .stand) (x .deny) in
         let derived : Derived P m (r .head) =
-        by-rule r i (never-rejected (g .rejects-all) r i (headName rows j) (w .table .fits .bounded .name j (y .before)) refl (y .lives))
+        by-rule r i (never-rejected all r i (headName rows j) (w .table .fits .bounded .name j (y .before)) refl (y .lives))
         (λ l q. sm .exact l (w .formed .bodies r i l q) .1 (inside l (y .body-in l q)))
         in
         apart (r .head) (sm .exact (r .head) (w .formed .heads r i) .0 derived) (inside (complement (r .head)) (y .head-in))
@@ -170,23 +172,37 @@ module _ {book rows atoms : List ℕ} {n : ℕ} (w : Searchable book rows atoms 
         apart : (l : Literal) → T (holds m l) → T (holds m (complement l)) → ⊥
         apart l = go (l .negated) (atomHolds m (l .atom))
 
+    -- nor one of a constraint
+    no-nogood : {nogoods : List ℕ} {n : ℕ} → StableModel B m → Nogoods book rows bans atoms nogoods n → Violated nogoods n standing denied → ⊥
+    unfolding constrained bodiesOf
+    no-nogood {nogoods} bm g x = go (g .each (x .place) (x .before))
+      where
+        inside : (l : Literal) → Within (g .bits) (getD nogoods (2 * x .place) 0) (getD nogoods (2 * x .place + 1) 0) l → T (holds m l)
+        inside = within-holds (g .bits-of) (getD nogoods (2 * x .place) 0) (getD nogoods (2 * x .place + 1) 0) (x .stand) (x .deny)
+
+        go : NogoodAt book rows bans (g .rejectable) (g .bits) (getD nogoods (2 * x .place) 0) (getD nogoods (2 * x .place + 1) 0) → ⊥
+        go (of-row j y) = no-row-nogood (g .rejects-all) (getD nogoods (2 * x .place) 0) (getD nogoods (2 * x .place + 1) 0) j inside y
+        go (of-ban b h y) = bm .allowed (bodyOf book (getD bans b 0)) (Memᴰ·map (bodyOf book) (getD-member bans b 0 h)) (λ l q. inside l (y l q))
+
   -- where no model agrees with what is decided there is nothing to find
-  nothing-found : ((m : Interpretation) → StableModel P m → ((f : ℕ) → f ∈ branchingAtoms P → (f ∈ undecided → ⊥) → atomHolds m f ≡ atomHolds o f) → ⊥) → foundBy (atSetting P atoms) undecided o ≡ []
+  nothing-found : ((m : Interpretation) → StableModel B m → ((f : ℕ) → f ∈ branchingAtoms P → (f ∈ undecided → ⊥) → atomHolds m f ≡ atomHolds o f) → ⊥) → foundBy (atSetting B atoms) undecided o ≡ []
   nothing-found none =
-      ap (λ (l : List ℕ). foundBy (atSetting P l) undecided o) (w .listed)
-      ∙ empty (foundBy (atSetting P (branchingAtoms P)) undecided o)
-      (λ m q. let v = found-decided P (w .formed) undecided o m q in none m (v .0) (v .1))
+      ap (λ (l : List ℕ). foundBy (atSetting B l) undecided o) (barred-listed w bans)
+      ∙ empty (foundBy (atSetting B (branchingAtoms B)) undecided o)
+      (λ m q.
+      let v = found-decided B (barred-formed w bans) undecided o m q in
+      none m (v .0) (subst (λ (l : List ℕ). (f : ℕ) → f ∈ l → (f ∈ undecided → ⊥) → atomHolds m f ≡ atomHolds o f) (sym (barred-listed w bans) ∙ w .listed) (v .1)))
     where
       empty : (ms : List Interpretation) → ((m : Interpretation) → m ∈ ms → ⊥) → ms ≡ []
       empty [] h = refl
       empty (m ∷ ms) h = absurd (h m (List·Memᴰ·head refl))
 
   -- a test failed: there is nothing to find
-  pub none-headed : (r : Bool) → (Headed masks (length masks / 3) standing denied → r ≡ true) → not r ≡ true → foundBy (atSetting P atoms) undecided o ≡ []
-  none-headed r told e = nothing-found (λ m sm same. false≢true (subst (λ (c : Bool). not c ≡ true) (told (all-headed m sm same)) e))
+  pub none-headed : (r : Bool) → (Headed masks (length masks / 3) standing denied → r ≡ true) → not r ≡ true → foundBy (atSetting B atoms) undecided o ≡ []
+  none-headed r told e = nothing-found (λ m sm same. false≢true (subst (λ (c : Bool). not c ≡ true) (told (all-headed m (barred-model w bans m sm) same)) e))
 
-  pub none-allowed : {nogoods : List ℕ} → Nogoods book rows atoms nogoods (length nogoods / 2) → (r : Bool) → (r ≡ true → Violated nogoods (length nogoods / 2) standing denied) → r ≡ true → foundBy (atSetting P atoms) undecided o ≡ []
-  none-allowed g r told e = nothing-found (λ m sm same. no-nogood m sm same g (told e))
+  pub none-allowed : {nogoods : List ℕ} → Nogoods book rows bans atoms nogoods (length nogoods / 2) → (r : Bool) → (r ≡ true → Violated nogoods (length nogoods / 2) standing denied) → r ≡ true → foundBy (atSetting B atoms) undecided o ≡ []
+  none-allowed g r told e = nothing-found (λ m sm same. no-nogood m (barred-model w bans m sm) same sm g (told e))
 
 -- ---- what is decided, from call to call
 pub listed-once : {book rows atoms : List ℕ} {n : ℕ} → Searchable book rows atoms n → Once atoms

@@ -14,21 +14,22 @@ use Rattle.search.specs.declared.Visit.{Visit}
 use Rattle.leaf.specs.Found.{atSetting, foundBy}
 use Rattle.search.specs.Visits.{stopped, keptBy, Kept, visited, Searched}
 use Rattle.table.specs.Rows.{rowCount}
-use Rattle.table.specs.Tabled.{tabled}
+use Rattle.bans.specs.Bans.{barred}
 use Rattle.tester.specs.Masks.{RejectedMasks}
 use Rattle.setting.specs.Setting.{settingOf}
 use Rattle.rejecting.specs.Rejecting.{Rejecting, RejectsAt}
 use Rattle.rejecting.proofs.RejectedLaws.{rejected-at}
 use Rattle.leaf.specs.Searchable.{Searchable}
 use Rattle.leaf.proofs.FoundLaws.{setting-one}
+use Rattle.search.proofs.AllowedLaws.{barred-formed, barred-listed}
 use Rattle.search.proofs.VisitLaws.{searched-none, searched-one}
 
 -- no more than so many models, so that the count fits
 abbrev pub limit : ℕ
 limit = 4294967296
 
-abbrev pub leafOf : List ℕ → List ℕ → ℕ → List ℕ → Interpretation → List Interpretation
-leafOf book rows n atoms = atSetting (tabled book rows n) atoms
+abbrev pub leafOf : List ℕ → List ℕ → List ℕ → ℕ → List ℕ → Interpretation → List Interpretation
+leafOf book rows bans n atoms = atSetting (barred book rows bans n) atoms
 
 kept-yes : (ok : Bool) (m : Interpretation) → ok ≡ true → consIf ok m [] ≡ m ∷ []
 unfolding consIf
@@ -100,9 +101,9 @@ module _ (leaf : Interpretation → List Interpretation) (undecided : List ℕ) 
     both-halves o₁ e₁ o₂ e₂ = halves (getD undecided 0 0) refl ∙ ap₂ (λ (x y : Interpretation). foundBy leaf later x ++ foundBy leaf later y) e₁ e₂
 
 -- at most one model for each setting, in the code's words
-pub leaf-one : (book rows atoms : List ℕ) (n : ℕ) → Searchable book rows atoms n → (o : Interpretation) → length (leafOf book rows n atoms o) ≤ 1
-leaf-one book rows atoms n w o =
-    subst (λ (fs : List ℕ). length (atSetting (tabled book rows n) fs o) ≤ 1) (sym (w .listed)) (setting-one (tabled book rows n) (w .formed) o)
+pub leaf-one : (book rows bans atoms : List ℕ) (n : ℕ) → Searchable book rows atoms n → (o : Interpretation) → length (leafOf book rows bans n atoms o) ≤ 1
+leaf-one book rows bans atoms n w o =
+    subst (λ (fs : List ℕ). length (atSetting (barred book rows bans n) fs o) ≤ 1) (sym (barred-listed w bans)) (setting-one (barred book rows bans n) (barred-formed w bans) o)
 
 pub count-fits : (c k : ℕ) → c + 2 ^ k ≤ limit → c < limit
 count-fits c k h = omega (arith, pow-pos k)

@@ -9,12 +9,12 @@ use lib.Bits.{bitOr}
 use lib.ListN.{length, getD, set, take, drop, length-drop, length-append}
 use Rattle.base.specs.Bounds.{maxAtoms}
 use Rattle.models.specs.StableModels.{Interpretation}
-use Rattle.table.specs.Tabled.{tabled}
+use Rattle.bans.specs.Bans.{barred}
 use Rattle.setting.specs.Setting.{settingOf}
 use Rattle.setting.specs.RuleMasks.{Headed}
 use Rattle.setting.proofs.BitMaskLaws.{single}
-use Rattle.nogoods.specs.Nogoods.{Violated}
-use Rattle.plan.specs.Plan.{planAtoms, planMasks, planNogoods, Planned}
+use Rattle.nogoods.specs.Nogoods.{Nogoods, Violated}
+use Rattle.plan.specs.Plan.{planAtoms, planMasks, planNogoods, planBans, Planned}
 use Rattle.plan.specs.declared.Sizes.{Sizes}
 use Rattle.plan.proofs.PartLaws.{part-length}
 use Rattle.leaf.specs.Found.{atSetting, foundBy}
@@ -45,23 +45,23 @@ turned-start atoms left e = record { few = omega arith; decided = subst (λ (l :
     whole : atoms ≡ undecided atoms left
     whole = ap (λ (k : ℕ). drop k atoms) {x = 0} {y = length atoms - left} (omega arith)
 
-module _ {book rows atoms : List ℕ} {n : ℕ} (w : Searchable book rows atoms n) {left standing denied : ℕ} (t : Turned atoms left standing denied) where
+module _ {book rows atoms : List ℕ} {n : ℕ} (w : Searchable book rows atoms n) (bans : List ℕ) {left standing denied : ℕ} (t : Turned atoms left standing denied) where
   abbrev U : List ℕ
   U = undecided atoms left
 
   abbrev leaf : Interpretation → List Interpretation
-  leaf = atSetting (tabled book rows n) atoms
+  leaf = atSetting (barred book rows bans n) atoms
 
   -- the quick tests failed: there is nothing to find
-  pub none-promised : {plan : List ℕ} {s : Sizes} → Planned book rows atoms plan s → (r : Bool)
+  pub none-promised : {plan : List ℕ} {s : Sizes} → Planned book rows atoms plan s → bans ≡ planBans plan (s .bans) → (r : Bool)
       → (r ≡ false → (Headed (planMasks plan (s .heads)) (length (planMasks plan (s .heads)) / 3) standing denied → ⊥) ⊎ Violated (planNogoods plan (s .nogoods)) (length (planNogoods plan (s .nogoods)) / 2) standing denied)
       → r ≡ false → foundBy leaf U (settingOf atoms standing) ≡ []
-  none-promised {plan} {s} p r told e = go (told e)
+  none-promised {plan} {s} p eb r told e = go (told e)
     where
       go : (Headed (planMasks plan (s .heads)) (length (planMasks plan (s .heads)) / 3) standing denied → ⊥) ⊎ Violated (planNogoods plan (s .nogoods)) (length (planNogoods plan (s .nogoods)) / 2) standing denied
           → foundBy leaf U (settingOf atoms standing) ≡ []
-      go (inl f) = quick.none-headed w (p .rule-masks) (settingOf atoms standing) (t .decided) false (λ h. absurd (f h)) refl
-      go (inr m) = quick.none-allowed w (p .rule-masks) (settingOf atoms standing) (t .decided) (p .nogood-masks) true (λ h. m) refl
+      go (inl f) = quick.none-headed w bans (p .rule-masks) (settingOf atoms standing) (t .decided) false (λ h. absurd (f h)) refl
+      go (inr m) = quick.none-allowed w bans (p .rule-masks) (settingOf atoms standing) (t .decided) (subst (λ (l : List ℕ). Nogoods book rows l atoms (planNogoods plan (s .nogoods)) (length (planNogoods plan (s .nogoods)) / 2)) (sym eb) (p .nogood-masks)) true (λ h. m) refl
 
   module _ (some : left ≡ 0 → ⊥) (i : ℕ) (ei : i ≡ length atoms - left) where
     size : length U ≡ left
@@ -122,7 +122,7 @@ module _ {book rows atoms : List ℕ} {n : ℕ} (w : Searchable book rows atoms 
 
     half-few : (o : Interpretation) → length (foundBy leaf (undecided atoms (left - 1)) o) ≤ 2 ^ (left - 1)
     half-few o =
-        let f : length (foundBy leaf (undecided atoms (left - 1)) o) ≤ 2 ^ length (undecided atoms (left - 1)) = found-le leaf (steps.leaf-one book rows atoms n w) (undecided atoms (left - 1)) o in
+        let f : length (foundBy leaf (undecided atoms (left - 1)) o) ≤ 2 ^ length (undecided atoms (left - 1)) = found-le leaf (steps.leaf-one book rows bans atoms n w) (undecided atoms (left - 1)) o in
         subst (λ (k : ℕ). length (foundBy leaf (undecided atoms (left - 1)) o) ≤ 2 ^ k) (undecided-length atoms (left - 1) (omega (arith, t .few))) f
 
     pub first-fits : (c : ℕ) → c + 2 ^ left ≤ steps.limit → c + 2 ^ (left - 1) ≤ steps.limit

@@ -6,23 +6,28 @@ ghost use mathlib.Core.List.{[], _∷_};
 ghost use Prim.Native.Nat.{_+_, _/_, _^_, _<_, _≤_};
 ghost use lib.ListN.{length, take};
 ghost use Rattle.base.specs.Bounds.{maxAtoms, maxRules};
-ghost use Rattle.table.specs.Tabled.{tabled};
+ghost use Rattle.base.specs.Lists.{consIf, all, any};
+ghost use Rattle.models.specs.StableModels.{holds};
+ghost use Rattle.bans.specs.Bans.{bodiesOf, BansFit};
 ghost use Rattle.filling.specs.Marks.{hintSize};
 ghost use Rattle.setting.specs.Setting.{settingOf};
 ghost use Rattle.setting.specs.RuleMasks.{Headed};
 ghost use Rattle.nogoods.specs.Nogoods.{maxNogoods, Violated};
-ghost use Rattle.plan.specs.Plan.{planSize, planAtoms, planMasks, planNogoods, Planned};
+ghost use Rattle.plan.specs.Plan.{planSize, planAtoms, planMasks, planNogoods, planBans, plannedProgram, Planned};
 ghost use Rattle.leaf.specs.Found.{atSetting, foundBy};
 ghost use Rattle.leaf.specs.Searchable.{Searchable};
 ghost use Rattle.search.specs.Decided.{undecided, Turned};
 ghost use Rattle.search.specs.Visits.{Asks, weightOf, keptBy, RoomFor, stopped, Kept, visited, Searched, Combines};
+use bans::banned;
 use base::MAX_ATOMS;
 use base::MAX_NAMES;
 use base::wide;
 use format::be16;
+use leaf::Found;
 use leaf::model_at;
 use merging::merge;
 use nogoods::has_nogood;
+use plan::BANS;
 use plan::MASKS;
 use plan::NOGOODS;
 use plan::REJECTING;
@@ -128,6 +133,49 @@ pub fn meet(state: [bool; MAX_ATOMS], n: usize, asked: &[u8], part: &mut [u8], v
     }
 }
 
+// Whether the body of a constraint holds in a state of the first n facts.
+fn forbids(book: &[u8], plan: &[u32], sizes: Sizes, state: [bool; MAX_ATOMS]) -> bool
+    requires { ⌜ (length (now plan) ≡ planSize) × (sizes .n ≤ maxAtoms) × (sizes .bans ≤ maxRules) ⌝ }
+    requires { ⌜ BansFit (now book) (planBans (now plan) (sizes .bans)) ⌝ }
+    ensures { λ r. ⌜ r ≡ any (all (holds (take (sizes .n) state))) (bodiesOf (now (book .entry)) (planBans (now (plan .entry)) (sizes .bans))) ⌝ }
+{
+    let n = sizes.n;
+    let last = BANS + sizes.bans;
+    banned(book, &plan[BANS..last], &state[0..n])
+}
+
+// The stable model of one setting, if there is one: that of the rules alone, unless the body of a constraint holds in it. A constraint's
+// facts need not branch, so it is tested on the finished state.
+fn find_model(
+    book: &[u8],
+    rows: &[u16],
+    plan: &[u32],
+    sizes: Sizes,
+    standing: u32,
+    hints: &mut [u16],
+) -> Found
+    requires { ⌜ Searchable (now book) (now rows) (planAtoms (now plan) (sizes .branching)) (sizes .n) ⌝ }
+    requires { ⌜ Planned (now book) (now rows) (planAtoms (now plan) (sizes .branching)) (now plan) sizes ⌝ }
+    requires { ⌜ length (now hints) ≡ hintSize ⌝ }
+    ensures { λ r. ⌜ atSetting (plannedProgram (now (book .entry)) (now (rows .entry)) (now (plan .entry)) sizes) (planAtoms (now (plan .entry)) (sizes .branching)) (settingOf (planAtoms (now (plan .entry)) (sizes .branching)) standing) ≡ consIf (r .ok) (take (sizes .n) (r .state)) [] ⌝ }
+{
+    let n = sizes.n;
+    let g = sizes.branching;
+    let end = REJECTING + 4 * sizes.rejecting;
+    let setting = setting_of(&plan[0..g], standing);
+    let mut rejects: [u32; MAX_NAMES] = [0; MAX_NAMES];
+    reject_at(&plan[REJECTING..end], standing, &mut rejects);
+    let found = model_at(book, rows, &rejects, &plan[0..g], n, setting, hints);
+    let state = found.state;
+    if found.ok {
+        return Found {
+            ok: !forbids(book, plan, sizes, state),
+            state,
+        };
+    }
+    Found { ok: false, state }
+}
+
 // Visits the stable model of one setting, if there is one. It is a function of its own so that the recursion's frames stay small.
 pub fn visit_setting(
     book: &[u8],
@@ -142,21 +190,15 @@ pub fn visit_setting(
 ) -> Visit
     requires { ⌜ Searchable (now book) (now rows) (planAtoms (now plan) (sizes .branching)) (sizes .n) ⌝ }
     requires { ⌜ Planned (now book) (now rows) (planAtoms (now plan) (sizes .branching)) (now plan) sizes ⌝ }
-    requires { ⌜ Kept (now asked) (sizes .n) (length (atSetting (tabled (now book) (now rows) (sizes .n)) (planAtoms (now plan) (sizes .branching)) (settingOf (planAtoms (now plan) (sizes .branching)) standing))) v (now part) ⌝ }
+    requires { ⌜ Kept (now asked) (sizes .n) (length (atSetting (plannedProgram (now book) (now rows) (now plan) sizes) (planAtoms (now plan) (sizes .branching)) (settingOf (planAtoms (now plan) (sizes .branching)) standing))) v (now part) ⌝ }
     requires { ⌜ (v .count < 4294967296) × (stopped v ≡ false) ⌝ }
     requires { ⌜ length (now hints) ≡ hintSize ⌝ }
-    ensures { λ r. ⌜ Searched (now (asked .entry)) (sizes .n) (atSetting (tabled (now (book .entry)) (now (rows .entry)) (sizes .n)) (planAtoms (now (plan .entry)) (sizes .branching)) (settingOf (planAtoms (now (plan .entry)) (sizes .branching)) standing)) v (now (part .entry)) r (now (part .exit)) ⌝ }
+    ensures { λ r. ⌜ Searched (now (asked .entry)) (sizes .n) (atSetting (plannedProgram (now (book .entry)) (now (rows .entry)) (now (plan .entry)) sizes) (planAtoms (now (plan .entry)) (sizes .branching)) (settingOf (planAtoms (now (plan .entry)) (sizes .branching)) standing)) v (now (part .entry)) r (now (part .exit)) ⌝ }
 {
-    let n = sizes.n;
-    let g = sizes.branching;
-    let end = REJECTING + 4 * sizes.rejecting;
-    let setting = setting_of(&plan[0..g], standing);
-    let mut rejects: [u32; MAX_NAMES] = [0; MAX_NAMES];
-    reject_at(&plan[REJECTING..end], standing, &mut rejects);
-    let found = model_at(book, rows, &rejects, &plan[0..g], n, setting, hints);
+    let found = find_model(book, rows, plan, sizes, standing, hints);
     let state = found.state;
     if found.ok {
-        return meet(state, n, asked, part, v);
+        return meet(state, sizes.n, asked, part, v);
     }
     v
 }
@@ -213,10 +255,10 @@ pub fn search(
     requires { ⌜ Searchable (now book) (now rows) (planAtoms (now plan) (sizes .branching)) (sizes .n) ⌝ }
     requires { ⌜ Planned (now book) (now rows) (planAtoms (now plan) (sizes .branching)) (now plan) sizes ⌝ }
     requires { ⌜ Turned (planAtoms (now plan) (sizes .branching)) (turn .left) (turn .standing) (turn .denied) ⌝ }
-    requires { ⌜ Kept (now asked) (sizes .n) (length (foundBy (atSetting (tabled (now book) (now rows) (sizes .n)) (planAtoms (now plan) (sizes .branching))) (undecided (planAtoms (now plan) (sizes .branching)) (turn .left)) (settingOf (planAtoms (now plan) (sizes .branching)) (turn .standing)))) v (now part) ⌝ }
+    requires { ⌜ Kept (now asked) (sizes .n) (length (foundBy (atSetting (plannedProgram (now book) (now rows) (now plan) sizes) (planAtoms (now plan) (sizes .branching))) (undecided (planAtoms (now plan) (sizes .branching)) (turn .left)) (settingOf (planAtoms (now plan) (sizes .branching)) (turn .standing)))) v (now part) ⌝ }
     requires { ⌜ v .count + 2 ^ turn .left ≤ 4294967296 ⌝ }
     requires { ⌜ length (now hints) ≡ hintSize ⌝ }
-    ensures { λ r. ⌜ Searched (now (asked .entry)) (sizes .n) (foundBy (atSetting (tabled (now (book .entry)) (now (rows .entry)) (sizes .n)) (planAtoms (now (plan .entry)) (sizes .branching))) (undecided (planAtoms (now (plan .entry)) (sizes .branching)) (turn .left)) (settingOf (planAtoms (now (plan .entry)) (sizes .branching)) (turn .standing))) v (now (part .entry)) r (now (part .exit)) ⌝ }
+    ensures { λ r. ⌜ Searched (now (asked .entry)) (sizes .n) (foundBy (atSetting (plannedProgram (now (book .entry)) (now (rows .entry)) (now (plan .entry)) sizes) (planAtoms (now (plan .entry)) (sizes .branching))) (undecided (planAtoms (now (plan .entry)) (sizes .branching)) (turn .left)) (settingOf (planAtoms (now (plan .entry)) (sizes .branching)) (turn .standing))) v (now (part .entry)) r (now (part .exit)) ⌝ }
 {
     if stops(v) {
         return v;

@@ -1,5 +1,6 @@
 -- What the pass leaves in the part is the record of a model that may be handed out, or the part as it was (`first-written`).
 use mathlib.Core.List.{[]}
+use Rattle.plan.specs.Plan.{planBans}
 use Rattle.passes.proofs.PassLaws.{asks-first, first-room}
 use Rattle.passes.proofs.FirstLaws.{first-written}
 use borrow.Author.Needs.{needs}
@@ -16,7 +17,7 @@ same-length : tie.Need-same-length
 same-length c = search needs
 
 returns : tie.Need-returns
-returns c = first-written (c .before .before .before .before .before .before .before .before .before .before .pre .0 .table) (c .before .before .before .pass .ensures) (c .before .before .before .before .before .before .before .before .before .before .pre .1)
+returns c = first-written (c .before .before .before .before .before .before .before .before .before .before .pre .0 .table) (planBans (c .before .before .before .before .before .before .before .before .before .before .args .plan .now) (c .before .before .before .before .before .before .before .before .before .before .args .sizes .bans)) (c .before .before .before .pass .ensures) (c .before .before .before .before .before .before .before .before .before .before .pre .1)
 
 pub write-first-spec : {M : Type 1} → statement M
 write-first-spec = tie.close (tie.spec slice-aggregate-pass pass-requires same-length returns)

@@ -4,11 +4,11 @@ use mathlib.Core.List.{List}
 use Prim.Native.Nat.{ℕ}
 use lib.ListN.{length}
 use Rattle.setting.proofs.RuleMaskLaws.{masks-put}
-use Rattle.nogoods.specs.Nogoods.{NogoodsTo}
+use Rattle.nogoods.specs.Nogoods.{of-row, NogoodsTo}
 use Rattle.nogoods.proofs.NogoodLaws.{entries-put}
 use Rattle.rejecting.specs.Rejecting.{RejectingMade}
 use Rattle.rejecting.proofs.RejectingLaws.{entry-of, made-put}
-use Rattle.plan.specs.Plan.{masksAt, nogoodsAt, part, planAtoms}
+use Rattle.plan.specs.Plan.{masksAt, nogoodsAt, part, planAtoms, planBans}
 use Rattle.plan.proofs.PlanLaws.{rule-size, nogood-size, rejecting-size, size₁, nogoods-there, size₂, rejecting-there, size₃, plan-step}
 use native.Mathlib.Omega.{arith}
 use borrow.Author.Needs.{needs}
@@ -119,7 +119,7 @@ returns c =
     let bits = s .pre .1 .1 .0 in
     plan-step (a .plan .now) (w .size) m em n en r er (w .few)
     (masks-put (a .book .now) (a .rows .now) (planAtoms (a .plan .now) (a .sizes .branching)) (a .bits .now) (part masksAt nogoodsAt (a .plan .now)) (a .j) (a .sizes .heads) (w .masks-made) bits (body .ensures) (h .result) (h .ensures .0) (x .result) (x .ensures) (omega (arith, w .masks-made .room, w .masks-made .size, s .pre .1 .0 .0, s .pre .1 .0 .1)) (c .before .before .before .before .before .before .before .before .before .before .before .before .before .put-rule .ensures))
-    (entries-put (subst (λ (l : List ℕ). NogoodsTo (a .book .now) (a .rows .now) (a .rejectable .now) (a .bits .now) l (a .sizes .nogoods)) (sym (nogoods-there (a .plan .now) (w .size) m em)) (w .nogoods-made)) (c .before .before .before .before .before .before .before .before .before .before .row-nogood .ensures) (c .before .before .before .before .before .before .before .before .put-nogood .ensures))
+    (entries-put (subst (λ (l : List ℕ). NogoodsTo (a .book .now) (a .rows .now) (planBans (a .plan .now) (a .sizes .bans)) (a .rejectable .now) (a .bits .now) l (a .sizes .nogoods)) (sym (nogoods-there (a .plan .now) (w .size) m em)) (w .nogoods-made)) (λ t. of-row (a .j) (c .before .before .before .before .before .before .before .before .before .before .row-nogood .ensures t)) (c .before .before .before .before .before .before .before .before .put-nogood .ensures))
     (made-put (subst (λ (l : List ℕ). RejectingMade (a .book .now) (a .rows .now) (planAtoms (a .plan .now) (a .sizes .branching)) l (a .j) (a .sizes .rejecting)) (sym (rejecting-there (a .plan .now) (w .size) m em n en)) (w .rejecting-made)) (omega (arith, w .rejecting-made .room, w .rejecting-made .size, ap length (rejecting-there (a .plan .now) (w .size) m em n en), s .pre .1 .0 .0, s .pre .1 .0 .1)) (y .ensures)
     (rw (y .ensures) (entry-of (a .book .now) (a .rows .now) (a .j) bits (body .ensures) (h .result) (o .result) (h .ensures .0) (o .ensures .0) (o .ensures .1))) (c .before .before .put-rejecting .ensures))
 

@@ -1,7 +1,8 @@
 -- `search` meets its contract. The measure is the number of facts that are left. A call that need not go on, one in which nothing can be
 -- found (`none-promised`), a leaf, and two halves with the first fact that is left decided each way (TurnLaws). Assumes nothing.
-use mathlib.Core.Path.{sym, _∙_}
+use mathlib.Core.Path.{refl, sym, _∙_}
 use borrow.Author.Tests.{not-true}
+use Rattle.plan.specs.Plan.{planBans}
 use Rattle.search.proofs.VisitLaws.{searched-stopped}
 use Rattle.search.proofs.StepLaws.{none-searched, count-fits}
 use Rattle.search.proofs.TurnLaws.{atoms-count, shift-is, none-promised, leaf-kept, leaf-searched, turned-first, turned-second, first-kept, first-fits, second-kept, second-fits, combine-counts, combine-room, both-searched}
@@ -47,13 +48,13 @@ search-returns-2 : (t : ℕ) → search-lts.Need-returns-2 (claims t) (search-at
 search-returns-2 t c =
     let a = c .before .before .before .before .before .before .before .before .before .before .args in
     let h = c .before .before .before .before .before .before .before .before .before .before .pre .1 in
-    none-searched (a .asked .now) (a .sizes .n) _ (none-promised (h .0) (h .1 .1 .0) (h .1 .0) (c .before .promising .result) (c .before .promising .ensures) (not-true (c .before .promising .result) (c .if2 .taken))) (a .v) (a .part .now)
+    none-searched (a .asked .now) (a .sizes .n) _ (none-promised (h .0) (planBans (a .plan .now) (a .sizes .bans)) (h .1 .1 .0) (h .1 .0) refl (c .before .promising .result) (c .before .promising .ensures) (not-true (c .before .promising .result) (c .if2 .taken))) (a .v) (a .part .now)
 
 search-visit-setting-requires : (t : ℕ) → search-lts.Need-visit-setting-requires (claims t) (search-at t) search′.Post
 search-visit-setting-requires t c κs =
     let a = c .before .before .before .before .before .before .before .before .before .before .before .before .before .args in
     let h = c .before .before .before .before .before .before .before .before .before .before .before .before .before .pre .1 in
-    (h .0, (h .1 .0, (leaf-kept (h .0) (h .1 .1 .0) (c .before .before .if3 .taken) (a .asked .now) (a .v) (a .part .now) (h .1 .1 .1 .0), ((count-fits (a .v .count) (a .turn .left) (h .1 .1 .1 .1 .0), sym (c .before .before .before .before .before .before .stops .ensures) ∙ c .before .before .before .before .before .if1 .left), h .1 .1 .1 .1 .1))))
+    (h .0, (h .1 .0, (leaf-kept (h .0) (planBans (a .plan .now) (a .sizes .bans)) (h .1 .1 .0) (c .before .before .if3 .taken) (a .asked .now) (a .v) (a .part .now) (h .1 .1 .1 .0), ((count-fits (a .v .count) (a .turn .left) (h .1 .1 .1 .1 .0), sym (c .before .before .before .before .before .before .stops .ensures) ∙ c .before .before .before .before .before .if1 .left), h .1 .1 .1 .1 .1))))
 
 search-same-length : (t : ℕ) → search-lts.Need-same-length (claims t) (search-at t) search′.Post
 search-same-length t c = search needs
@@ -65,7 +66,7 @@ search-returns-3 : (t : ℕ) → search-lts.Need-returns-3 (claims t) (search-at
 search-returns-3 t c =
     let a = c .before .before .before .before .before .before .before .before .before .before .before .before .before .before .before .before .before .before .args in
     let h = c .before .before .before .before .before .before .before .before .before .before .before .before .before .before .before .before .before .before .pre .1 in
-    leaf-searched (h .0) (h .1 .1 .0) (c .before .before .before .before .before .before .before .if3 .taken) (a .asked .now) (a .v) (a .part .now) _ _ (c .before .before .before .before .visit-setting .ensures)
+    leaf-searched (h .0) (planBans (a .plan .now) (a .sizes .bans)) (h .1 .1 .0) (c .before .before .before .before .before .before .before .if3 .taken) (a .asked .now) (a .v) (a .part .now) _ _ (c .before .before .before .before .visit-setting .ensures)
 
 search-sub-bit : (t : ℕ) → search-lts.Need-sub-bit (claims t) (search-at t) search′.Post
 search-sub-bit t c = omega (arith, c .before .before .before .before .before .before .before .before .before .before .before .before .pre .1 .1 .1 .0 .few, atoms-count (c .before .before .before .before .before .before .before .before .before .before .before .before .pre .1 .1 .0))
@@ -84,7 +85,7 @@ search-search-requires t c κs =
     let a = c .before .before .before .before .before .before .before .before .before .before .before .before .before .before .before .args in
     let h = c .before .before .before .before .before .before .before .before .before .before .before .before .before .before .before .pre .1 in
     let some = c .before .before .before .before .if3 .left in
-    (omega (arith, some), (h .0, (h .1 .0, (turned-first (h .0) (h .1 .1 .0) some (a .sizes .branching - a .turn .left) (shift-is (h .1 .0) (a .turn .left)), (first-kept (h .0) (h .1 .1 .0) some (a .sizes .branching - a .turn .left) (shift-is (h .1 .0) (a .turn .left)) (a .asked .now) (a .v) (a .part .now) (h .1 .1 .1 .0), (first-fits (h .0) (h .1 .1 .0) some (a .sizes .branching - a .turn .left) (shift-is (h .1 .0) (a .turn .left)) (a .v .count) (h .1 .1 .1 .1 .0), h .1 .1 .1 .1 .1))))))
+    (omega (arith, some), (h .0, (h .1 .0, (turned-first (h .0) (planBans (a .plan .now) (a .sizes .bans)) (h .1 .1 .0) some (a .sizes .branching - a .turn .left) (shift-is (h .1 .0) (a .turn .left)), (first-kept (h .0) (planBans (a .plan .now) (a .sizes .bans)) (h .1 .1 .0) some (a .sizes .branching - a .turn .left) (shift-is (h .1 .0) (a .turn .left)) (a .asked .now) (a .v) (a .part .now) (h .1 .1 .1 .0), (first-fits (h .0) (planBans (a .plan .now) (a .sizes .bans)) (h .1 .1 .0) some (a .sizes .branching - a .turn .left) (shift-is (h .1 .0) (a .turn .left)) (a .v .count) (h .1 .1 .1 .1 .0), h .1 .1 .1 .1 .1))))))
 
 search-sub-t24-2 : (t : ℕ) → search-lts.Need-sub-t24-2 (claims t) (search-at t) search′.Post
 search-sub-t24-2 t c = search needs
@@ -95,15 +96,15 @@ search-search-requires-2 t c κs =
     let h = c .before .before .before .before .before .before .before .before .before .before .before .before .before .before .before .before .before .before .before .before .before .before .before .pre .1 in
     let some = c .before .before .before .before .before .before .before .before .before .before .before .before .if3 .left in
     let half = c .before .before .before .before .before .before .before .search .ensures in
-    (omega (arith, some, c .before .before .before .before .before .before .before .before .before .before .before .before .before .before .before .before .before .before .before .before .before .before .before .pre .0), (h .0, (h .1 .0, (turned-second (h .0) (h .1 .1 .0) some (a .sizes .branching - a .turn .left) (shift-is (h .1 .0) (a .turn .left)), (second-kept (h .0) (h .1 .1 .0) some (a .sizes .branching - a .turn .left) (shift-is (h .1 .0) (a .turn .left)) (a .asked .now) (a .v) (a .part .now) (h .1 .1 .1 .0) _ _ half (search needs), (second-fits (h .0) (h .1 .1 .0) some (a .sizes .branching - a .turn .left) (shift-is (h .1 .0) (a .turn .left)) (a .asked .now) (a .v) (a .part .now) (h .1 .1 .1 .0) _ _ half (h .1 .1 .1 .1 .0), search needs))))))
+    (omega (arith, some, c .before .before .before .before .before .before .before .before .before .before .before .before .before .before .before .before .before .before .before .before .before .before .before .pre .0), (h .0, (h .1 .0, (turned-second (h .0) (planBans (a .plan .now) (a .sizes .bans)) (h .1 .1 .0) some (a .sizes .branching - a .turn .left) (shift-is (h .1 .0) (a .turn .left)), (second-kept (h .0) (planBans (a .plan .now) (a .sizes .bans)) (h .1 .1 .0) some (a .sizes .branching - a .turn .left) (shift-is (h .1 .0) (a .turn .left)) (a .asked .now) (a .v) (a .part .now) (h .1 .1 .1 .0) _ _ half (search needs), (second-fits (h .0) (planBans (a .plan .now) (a .sizes .bans)) (h .1 .1 .0) some (a .sizes .branching - a .turn .left) (shift-is (h .1 .0) (a .turn .left)) (a .asked .now) (a .v) (a .part .now) (h .1 .1 .1 .0) _ _ half (h .1 .1 .1 .1 .0), search needs))))))
 
 search-combine-requires : (t : ℕ) → search-lts.Need-combine-requires (claims t) (search-at t) search′.Post
 search-combine-requires t c κs =
     let a = c .before .before .before .before .before .before .before .before .before .before .before .before .before .before .before .before .before .before .before .before .before .before .before .before .before .before .before .before .before .args in
     let h = c .before .before .before .before .before .before .before .before .before .before .before .before .before .before .before .before .before .before .before .before .before .before .before .before .before .before .before .before .before .pre .1 in
     let some = c .before .before .before .before .before .before .before .before .before .before .before .before .before .before .before .before .before .before .if3 .left in
-    let counts = combine-counts (h .0) (h .1 .1 .0) some (a .sizes .branching - a .turn .left) (shift-is (h .1 .0) (a .turn .left)) (a .asked .now) (a .v) (a .part .now) (h .1 .1 .1 .0) _ _ (c .before .before .before .before .before .before .before .before .before .before .before .before .before .search .ensures) _ _ (c .before .before .before .before .before .search2 .ensures) (h .1 .1 .1 .1 .0) in
-    ((h .0 .some, h .0 .few, counts .0, counts .1, counts .2), combine-room (h .0) (h .1 .1 .0) some (a .sizes .branching - a .turn .left) (shift-is (h .1 .0) (a .turn .left)) (a .asked .now) (a .v) (a .part .now) (h .1 .1 .1 .0) _ _ (c .before .before .before .before .before .before .before .before .before .before .before .before .before .search .ensures) _ _ (c .before .before .before .before .before .search2 .ensures) (search needs))
+    let counts = combine-counts (h .0) (planBans (a .plan .now) (a .sizes .bans)) (h .1 .1 .0) some (a .sizes .branching - a .turn .left) (shift-is (h .1 .0) (a .turn .left)) (a .asked .now) (a .v) (a .part .now) (h .1 .1 .1 .0) _ _ (c .before .before .before .before .before .before .before .before .before .before .before .before .before .search .ensures) _ _ (c .before .before .before .before .before .search2 .ensures) (h .1 .1 .1 .1 .0) in
+    ((h .0 .some, h .0 .few, counts .0, counts .1, counts .2), combine-room (h .0) (planBans (a .plan .now) (a .sizes .bans)) (h .1 .1 .0) some (a .sizes .branching - a .turn .left) (shift-is (h .1 .0) (a .turn .left)) (a .asked .now) (a .v) (a .part .now) (h .1 .1 .1 .0) _ _ (c .before .before .before .before .before .before .before .before .before .before .before .before .before .search .ensures) _ _ (c .before .before .before .before .before .search2 .ensures) (search needs))
 
 search-same-length-3 : (t : ℕ) → search-lts.Need-same-length-3 (claims t) (search-at t) search′.Post
 search-same-length-3 t c = search needs
@@ -116,7 +117,7 @@ search-returns-4 t c =
     let a = c .before .before .before .before .before .before .before .before .before .before .before .before .before .before .before .before .before .before .before .before .before .before .before .before .before .before .before .before .before .before .before .before .args in
     let h = c .before .before .before .before .before .before .before .before .before .before .before .before .before .before .before .before .before .before .before .before .before .before .before .before .before .before .before .before .before .before .before .before .pre .1 in
     let some = c .before .before .before .before .before .before .before .before .before .before .before .before .before .before .before .before .before .before .before .before .before .if3 .left in
-    both-searched (h .0) (h .1 .1 .0) some (a .sizes .branching - a .turn .left) (shift-is (h .1 .0) (a .turn .left)) (a .asked .now) (a .v) (a .part .now) (h .1 .1 .1 .0) _ _ (c .before .before .before .before .before .before .before .before .before .before .before .before .before .before .before .before .search .ensures) _ _ (c .before .before .before .before .before .before .before .before .search2 .ensures) _ (c .before .before .combine .ensures)
+    both-searched (h .0) (planBans (a .plan .now) (a .sizes .bans)) (h .1 .1 .0) some (a .sizes .branching - a .turn .left) (shift-is (h .1 .0) (a .turn .left)) (a .asked .now) (a .v) (a .part .now) (h .1 .1 .1 .0) _ _ (c .before .before .before .before .before .before .before .before .before .before .before .before .before .before .before .before .search .ensures) _ _ (c .before .before .before .before .before .before .before .before .search2 .ensures) _ (c .before .before .combine .ensures)
 
 pub +search-spec : {M : Type 1} → statement M
 +search-spec = close μ-search λ t. search-lts.spec (claims t)

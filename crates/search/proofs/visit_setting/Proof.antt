@@ -1,68 +1,14 @@
--- The masks say which rows the setting rejects (`setting-rejects`), and the setting's model, if there is one, is met.
-use mathlib.Core.Path.{refl, sym, ap, _∙_}
-use Rattle.models.specs.StableModels.{Interpretation}
-use Rattle.table.specs.Tabled.{tabled}
-use Rattle.rejecting.proofs.RejectingLaws.{rejecting-named}
-use Rattle.plan.specs.Plan.{planAtoms}
-use Rattle.leaf.specs.Found.{atSetting}
-use Rattle.leaf.proofs.ModelLaws.{atoms-low}
-use Rattle.search.proofs.StepLaws.{setting-rejects, setting-met, setting-kept, setting-empty}
+-- The setting's model, if there is one, is met.
+use Rattle.search.proofs.StepLaws.{setting-met, setting-kept, setting-empty}
 use borrow.Author.Needs.{needs}
 use Rattle.search.proofs.visit_setting.Statement.{statement}
 use Rattle.search.proofs.visit_setting.Tie as tie
 
-mul-end : tie.Need-mul-end
-mul-end c = search needs
-
-add-end : tie.Need-add-end
-add-end c = search needs
-
-sub-setting-of : tie.Need-sub-setting-of
-sub-setting-of c = search needs
-
-part-setting-of-start : tie.Need-part-setting-of-start
-part-setting-of-start c = search needs
-
-part-setting-of-end : tie.Need-part-setting-of-end
-part-setting-of-end c = search needs
-
-setting-of-requires : tie.Need-setting-of-requires
-setting-of-requires c κs = (c .before .before .before .before .before .before .before .before .pre .0 .atoms-few, atoms-low (c .before .before .before .before .before .before .before .before .pre .0))
-
-sub-reject-at : tie.Need-sub-reject-at
-sub-reject-at c = search needs
-
-part-reject-at-start : tie.Need-part-reject-at-start
-part-reject-at-start c = search needs
-
-part-reject-at-end : tie.Need-part-reject-at-end
-part-reject-at-end c = search needs
-
-slice-aggregate-reject-at : tie.Need-slice-aggregate-reject-at
-slice-aggregate-reject-at c = search needs
-
-reject-at-requires : tie.Need-reject-at-requires
-reject-at-requires c κs = (rejecting-named (c .before .before .before .before .before .before .before .before .before .before .before .pre .1 .0 .rejecting-masks), refl)
-
-slice-aggregate-model-at : tie.Need-slice-aggregate-model-at
-slice-aggregate-model-at c = search needs
-
-sub-model-at : tie.Need-sub-model-at
-sub-model-at c = search needs
-
-part-model-at-start : tie.Need-part-model-at-start
-part-model-at-start c = search needs
-
-part-model-at-end : tie.Need-part-model-at-end
-part-model-at-end c = search needs
-
-model-at-requires : tie.Need-model-at-requires
-model-at-requires c κs =
-    let h = c .before .before .before .before .before .before .before .before .before .before .before .before .before .before .before .before .pre in
-    (h .0, (setting-rejects (h .0) (c .before .before .before .before .before .before .before .before .before .before .before .before .before .before .before .before .args .standing) _ (c .before .before .before .before .before .before .before .setting-of .ensures) (h .1 .0 .rejecting-masks) (c .before .before .before .before .reject-at .ensures), h .1 .1 .1 .1))
+find-model-requires : tie.Need-find-model-requires
+find-model-requires c κs = (c .before .before .before .before .before .before .before .pre .0, (c .before .before .before .before .before .before .before .pre .1 .0, c .before .before .before .before .before .before .before .pre .1 .1 .1 .1))
 
 meet-requires : tie.Need-meet-requires
-meet-requires c κs = let a = c .before .before .before .before .before .before .before .before .before .before .before .before .before .before .before .before .before .before .before .before .before .before .args in let h = c .before .before .before .before .before .before .before .before .before .before .before .before .before .before .before .before .before .before .before .before .before .before .pre in (h .0 .few, setting-kept (a .asked .now) (a .sizes .n) _ (c .before .before .before .before .before .model-at .result .ok) _ (ap (λ (o : Interpretation). atSetting (tabled (a .book .now) (a .rows .now) (a .sizes .n)) (planAtoms (a .plan .now) (a .sizes .branching)) o) (sym (c .before .before .before .before .before .before .before .before .before .before .before .before .before .setting-of .ensures)) ∙ c .before .before .before .before .before .model-at .ensures) (c .before .if1 .taken) (a .v) (a .part .now) (h .1 .1 .0), h .1 .1 .1 .0 .0, h .1 .1 .1 .0 .1)
+meet-requires c κs = (c .before .before .before .before .before .before .before .before .before .before .before .before .before .pre .0 .few, setting-kept (c .before .before .before .before .before .before .before .before .before .before .before .before .before .args .asked .now) (c .before .before .before .before .before .before .before .before .before .before .before .before .before .args .sizes .n) _ (c .before .before .before .before .before .find-model .result .ok) _ (c .before .before .before .before .before .find-model .ensures) (c .before .if1 .taken) (c .before .before .before .before .before .before .before .before .before .before .before .before .before .args .v) (c .before .before .before .before .before .before .before .before .before .before .before .before .before .args .part .now) (c .before .before .before .before .before .before .before .before .before .before .before .before .before .pre .1 .1 .0), c .before .before .before .before .before .before .before .before .before .before .before .before .before .pre .1 .1 .1 .0 .0, c .before .before .before .before .before .before .before .before .before .before .before .before .before .pre .1 .1 .1 .0 .1)
 
 same-length : tie.Need-same-length
 same-length c = search needs
@@ -71,38 +17,19 @@ same-length-2 : tie.Need-same-length-2
 same-length-2 c = search needs
 
 returns : tie.Need-returns
-returns c =
-    let a = c .before .before .before .before .before .before .before .before .before .before .before .before .before .before .before .before .before .before .before .before .before .before .before .before .before .args in
-    setting-met (a .asked .now) (a .sizes .n) _ (c .before .before .before .before .before .before .before .before .model-at .result .ok) _ (ap (λ (o : Interpretation). atSetting (tabled (a .book .now) (a .rows .now) (a .sizes .n)) (planAtoms (a .plan .now) (a .sizes .branching)) o) (sym (c .before .before .before .before .before .before .before .before .before .before .before .before .before .before .before .before .setting-of .ensures)) ∙ c .before .before .before .before .before .before .before .before .model-at .ensures) (c .before .before .before .before .if1 .taken) (a .v) (a .part .now) _ _ (c .before .before .before .before .before .before .before .before .before .before .before .before .before .before .before .before .before .before .before .before .before .before .before .before .before .pre .1 .1 .1 .0 .1) (c .before .before .meet .ensures)
+returns c = setting-met (c .before .before .before .before .before .before .before .before .before .before .before .before .before .before .before .before .args .asked .now) (c .before .before .before .before .before .before .before .before .before .before .before .before .before .before .before .before .args .sizes .n) _ (c .before .before .before .before .before .before .before .before .find-model .result .ok) _ (c .before .before .before .before .before .before .before .before .find-model .ensures) (c .before .before .before .before .if1 .taken) (c .before .before .before .before .before .before .before .before .before .before .before .before .before .before .before .before .args .v) (c .before .before .before .before .before .before .before .before .before .before .before .before .before .before .before .before .args .part .now) _ _ (c .before .before .before .before .before .before .before .before .before .before .before .before .before .before .before .before .pre .1 .1 .1 .0 .1) (c .before .before .meet .ensures)
 
 same-length-3 : tie.Need-same-length-3
 same-length-3 c = search needs
 
 returns-2 : tie.Need-returns-2
-returns-2 c =
-    let a = c .before .before .before .before .before .before .before .before .before .before .before .before .before .before .before .before .before .before .before .before .before .args in
-    setting-empty (a .asked .now) (a .sizes .n) _ (c .before .before .before .before .model-at .result .ok) _ (ap (λ (o : Interpretation). atSetting (tabled (a .book .now) (a .rows .now) (a .sizes .n)) (planAtoms (a .plan .now) (a .sizes .branching)) o) (sym (c .before .before .before .before .before .before .before .before .before .before .before .before .setting-of .ensures)) ∙ c .before .before .before .before .model-at .ensures) (c .if1 .left) (a .v) (a .part .now)
+returns-2 c = setting-empty (c .before .before .before .before .before .before .before .before .before .before .before .before .args .asked .now) (c .before .before .before .before .before .before .before .before .before .before .before .before .args .sizes .n) _ (c .before .before .before .before .find-model .result .ok) _ (c .before .before .before .before .find-model .ensures) (c .if1 .left) (c .before .before .before .before .before .before .before .before .before .before .before .before .args .v) (c .before .before .before .before .before .before .before .before .before .before .before .before .args .part .now)
 
 pub visit-setting-spec : {M : Type 1} → statement M
 visit-setting-spec =
     tie.close
     (tie.spec
-    mul-end
-    add-end
-    sub-setting-of
-    part-setting-of-start
-    part-setting-of-end
-    setting-of-requires
-    sub-reject-at
-    part-reject-at-start
-    part-reject-at-end
-    slice-aggregate-reject-at
-    reject-at-requires
-    slice-aggregate-model-at
-    sub-model-at
-    part-model-at-start
-    part-model-at-end
-    model-at-requires
+    find-model-requires
     meet-requires
     same-length
     same-length-2
