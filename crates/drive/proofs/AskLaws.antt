@@ -13,7 +13,8 @@ use Rattle.base.specs.Bounds.{maxAtoms}
 use Rattle.models.specs.Program.{Program}
 use Rattle.models.specs.Alike.{Alike}
 use Rattle.table.specs.Table.{programOf}
-use Rattle.table.specs.Tabled.{tabled}
+use Rattle.plan.specs.Plan.{planBans, plannedProgram}
+use Rattle.search.proofs.AllowedLaws.{barred-size}
 use Rattle.book.specs.Causes.{verdictIf, firstOf}
 use Rattle.book.specs.declared.Cause.{Cause}
 use Rattle.book.specs.declared.Cause.the-variants.{NoSuchFact, TooManyBranching}
@@ -110,12 +111,12 @@ fact-low fact n few h = go (decLt fact n)
 -- ---- what the set-up tells
 module _ {P : Program} {book rows plan : List ℕ} {rules : ℕ} {few : Bool} {s : Sizes} (up : SetUp P book rows plan rules few s) (n : ℕ) (e : n ≡ P .atoms) where
   pub same-count : few ≡ true → s .n ≡ n
-  same-count h = up .ready h .table .size ∙ sym (up .alike .atoms-same) ∙ sym e
+  same-count h = barred-size (up .ready h .table) (planBans plan (s .bans)) ∙ sym (up .alike h .atoms-same) ∙ sym e
 
   pub answered : (q : Question) → asksNoFact q n ≡ false → few ≡ true → {old new : List ℕ} {r : Answer}
-      → Answers q (firstOf (ownTests q (tabled book (lentRows rows rules) (s .n)) (length old))) (tabled book (lentRows rows rules) (s .n)) old r new
+      → Answers q (firstOf (ownTests q (plannedProgram book (lentRows rows rules) plan s) (length old))) (plannedProgram book (lentRows rows rules) plan s) old r new
       → Answers q (firstOf (askedTests q P (length old))) P old r new
-  answered q f h {old} x = rw (own-left P n e (length old) q f (up .not-too-many h)) (answers-over q (up .alike) x)
+  answered q f h {old} x = rw (own-left P n e (length old) q f (up .not-too-many h)) (answers-over q (up .alike h) x)
 
 -- ---- the call
 module _ (q : Question) (book : List ℕ) (layer off : ℕ) (old : List ℕ) (v : Verdict) (e : v ≡ firstOf (layerTests book layer off)) where

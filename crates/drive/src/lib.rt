@@ -2,15 +2,14 @@
 // have. A call adds its question, which has its own crate: its last causes, its pass and its reply.
 ghost use mathlib.Core.Path.{_≡_};
 ghost use mathlib.Core.Bool.{false};
-ghost use Prim.Native.Nat.{_<_, _≤_};
+ghost use Prim.Native.Nat.{_<_};
 ghost use lib.ListN.{length};
-ghost use Rattle.base.specs.Bounds.{maxAtoms};
 ghost use Rattle.layers.specs.Masks.{LowerMasks};
 ghost use Rattle.format.specs.Book.{arrowsOf, bookOf};
 ghost use Rattle.book.specs.Causes.{firstOf};
 ghost use Rattle.table.specs.Table.{programOf};
-ghost use Rattle.table.specs.Tabled.{tabled};
 ghost use Rattle.accepted.specs.Accepted.{IsAccepted};
+ghost use Rattle.plan.specs.Plan.{plannedProgram};
 ghost use Rattle.passes.specs.SetUp.{Ready};
 ghost use Rattle.drive.specs.Asked.{ownTests, askedTests, asksNoFact, refusalOf, Answers, Asked};
 use accepted::atom_count;
@@ -77,7 +76,7 @@ fn find_answer(
 ) -> Answer
     requires { ⌜ Ready (now book) (now rows) (now plan) sizes ⌝ }
     requires { ⌜ asksNoFact question (sizes .n) ≡ false ⌝ }
-    ensures { λ r. ⌜ Answers question (firstOf (ownTests question (tabled (now (book .entry)) (now (rows .entry)) (sizes .n)) (length (now (buffer .entry))))) (tabled (now (book .entry)) (now (rows .entry)) (sizes .n)) (now (buffer .entry)) r (now (buffer .exit)) ⌝ }
+    ensures { λ r. ⌜ Answers question (firstOf (ownTests question (plannedProgram (now (book .entry)) (now (rows .entry)) (now (plan .entry)) sizes) (length (now (buffer .entry))))) (plannedProgram (now (book .entry)) (now (rows .entry)) (now (plan .entry)) sizes) (now (buffer .entry)) r (now (buffer .exit)) ⌝ }
 {
     match question {
         Question::List => Answer::Listing(list_models(book, rows, plan, sizes, buffer)),

@@ -14,15 +14,15 @@ use Rattle.base.specs.Lists.{consIf, all, any, filter, flat, upTo}
 use Rattle.base.specs.Closure.{member, fires, extend, saturate, closure}
 use Rattle.base.proofs.Members.{_∈_, and-left, and-right, all-at}
 use Rattle.layers.specs.Layers.{sameArrow, repeats, backwards, layersBelow, below}
-use Rattle.format.specs.Book.{u16At, u32At, recordsIn, records, meetsEndIn, meetsEnd, sectionBytes, sectionCount, sectionEnd, sectionRecords, literalOf, literalsOf, arrowOf, ruleOf, version, lengthField, atomCount, layerCount, ruleSection, arrowRecords, ruleRecords, arrowsOf}
+use Rattle.format.specs.Book.{u16At, u32At, recordsIn, records, meetsEndIn, meetsEnd, sectionBytes, sectionCount, sectionEnd, sectionRecords, literalOf, literalsOf, arrowOf, ruleOf, isFalsity, version, lengthField, atomCount, layerCount, ruleSection, arrowRecords, ruleRecords, arrowsOf}
 use Rattle.format.specs.Sections.{wholeSection, hasBrokenSection}
 use Rattle.models.specs.Program.{Program, inSet}
 use Rattle.models.specs.Branching.{branchingCount}
 use Rattle.models.specs.Listing.{stableModels, listing}
-use Rattle.models.specs.Examples.{Example, framed, section, bytesOf, p, notP, q, notQ, ruleIn, arrow, bookB, table, seen}
+use Rattle.models.specs.Examples.{Example, framed, section, bytesOf, p, notP, q, notQ, never, ruleIn, arrow, bookB, table, seen}
 use Rattle.models.proofs.ExampleLaws.{examples-say}
 use Rattle.table.specs.Table.{programOf}
-use Rattle.book.specs.Causes.{within, arrowOk, ruleLength, atomBelow, ruleOk, isTooShort, hasWrongVersion, hasWrongLength, isOutOfRange, hasBadRecord, repeatsArrow, hasCycle, tests, verdictIf, firstOf}
+use Rattle.book.specs.Causes.{within, arrowOk, ruleLength, atomBelow, headOk, ruleOk, isTooShort, hasWrongVersion, hasWrongLength, isOutOfRange, hasBadRecord, repeatsArrow, hasCycle, tests, verdictIf, firstOf}
 use Rattle.book.specs.declared.Verdict.{Verdict}
 use Rattle.book.specs.declared.Verdict.the-variants.{Accepted, Refused}
 use Rattle.accepted.specs.Driven.{isNoSuchLayer, hasAbsentLayer, drivenTests, layerTests}
@@ -43,7 +43,7 @@ lawful : Example → Bool
 lawful e = accepts (firstOf (layerTests (e .book) (e .layer) 0)) && leb (e .branches) maxBranching
 
 all-lawful : T (all lawful table)
-unfolding accepts lawful consIf all any filter flat upTo member fires extend saturate closure sameArrow repeats backwards layersBelow below u16At u32At recordsIn records meetsEndIn meetsEnd sectionBytes sectionCount sectionEnd sectionRecords literalOf literalsOf arrowOf ruleOf version lengthField atomCount layerCount ruleSection arrowRecords ruleRecords arrowsOf wholeSection hasBrokenSection framed section bytesOf p notP q notQ ruleIn arrow bookB table within arrowOk ruleLength atomBelow ruleOk isTooShort hasWrongVersion hasWrongLength isOutOfRange hasBadRecord repeatsArrow hasCycle tests verdictIf firstOf isNoSuchLayer hasAbsentLayer drivenTests layerTests inSet
+unfolding accepts lawful consIf all any filter flat upTo member fires extend saturate closure sameArrow repeats backwards layersBelow below u16At u32At recordsIn records meetsEndIn meetsEnd sectionBytes sectionCount sectionEnd sectionRecords literalOf literalsOf arrowOf ruleOf isFalsity version lengthField atomCount layerCount ruleSection arrowRecords ruleRecords arrowsOf wholeSection hasBrokenSection framed section bytesOf p notP q notQ never ruleIn arrow bookB table within arrowOk ruleLength atomBelow headOk ruleOk isTooShort hasWrongVersion hasWrongLength isOutOfRange hasBadRecord repeatsArrow hasCycle tests verdictIf firstOf isNoSuchLayer hasAbsentLayer drivenTests layerTests inSet
 all-lawful = tt
 
 accepts-says : (v : Verdict) → T (accepts v) → v ≡ Accepted

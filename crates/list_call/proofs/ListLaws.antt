@@ -21,12 +21,12 @@ use Rattle.models.specs.Listing.{stableModels, recordSize, recordOf, be16, be32
 use Rattle.models.proofs.RecordLaws.{listing-length}
 use Rattle.models.specs.Alike.{Alike}
 use Rattle.models.proofs.AlikeLaws.{alike-models, alike-count, alike-listing}
-use Rattle.table.specs.Tabled.{tabled}
 use Rattle.branching.specs.Marks.{Listed}
 use Rattle.records.proofs.WrittenLaws.{records-fit, head-written}
 use Rattle.leaf.specs.Searchable.{Searchable}
-use Rattle.plan.specs.Plan.{planAtoms}
+use Rattle.plan.specs.Plan.{planAtoms, planBans, plannedProgram}
 use Rattle.plan.specs.declared.Sizes.{Sizes}
+use Rattle.search.proofs.AllowedLaws.{barred-formed, barred-listed, barred-size}
 use Rattle.search.proofs.TurnLaws.{atoms-count}
 use Rattle.passes.specs.SetUp.{Ready}
 use Rattle.passes.specs.Tallied.{Bounds}
@@ -44,24 +44,24 @@ module _ {book rows plan : List ℕ} {sizes : Sizes} (ready : Ready book rows pl
   w = ready .table
 
   abbrev P : Program
-  P = tabled book rows n
+  P = plannedProgram book rows plan sizes
 
   atoms-few : P .atoms ≤ maxAtoms
-  atoms-few = subst (λ (k : ℕ). k ≤ maxAtoms) (w .size) (w .few)
+  atoms-few = subst (λ (k : ℕ). k ≤ maxAtoms) (barred-size w (planBans plan (sizes .bans))) (w .few)
 
   g-is : sizes .branching ≡ branchingCount P
   unfolding branchingCount
-  g-is = sym (atoms-count (ready .planned)) ∙ ap length (w .listed)
+  g-is = sym (atoms-count (ready .planned)) ∙ ap length (barred-listed w (planBans plan (sizes .bans)))
 
   abbrev all : ℕ
   all = length (stableModels P)
 
   k-le : all ≤ 2 ^ maxBranching
-  k-le = omega (arith, models-le P (w .formed) atoms-few, pow-le-pow-right {n = 2} (omega arith) (subst (λ (x : ℕ). x ≤ maxBranching) (atoms-count (ready .planned) ∙ g-is) (w .atoms-few)))
+  k-le = omega (arith, models-le P (barred-formed w (planBans plan (sizes .bans))) atoms-few, pow-le-pow-right {n = 2} (omega arith) (subst (λ (x : ℕ). x ≤ maxBranching) (atoms-count (ready .planned) ∙ g-is) (w .atoms-few)))
 
   size-is : 11 + all * recordSize n ≡ length (listing P)
   unfolding listing
-  size-is = ap (λ (x : ℕ). 11 + all * recordSize x) (w .size) ∙ sym (listing-length (P .atoms) (stableModels P))
+  size-is = ap (λ (x : ℕ). 11 + all * recordSize x) (barred-size w (planBans plan (sizes .bans))) ∙ sym (listing-length (P .atoms) (stableModels P))
 
   module _ (old : List ℕ) where
     refused : length old < 11 + all * recordSize n → Answers (firstOf (roomTests P (length old))) P old (reply.Refused BufferTooShort) old
@@ -124,7 +124,7 @@ module _ {book rows plan : List ℕ} {sizes : Sizes} (ready : Ready book rows pl
                   reply-is = rw v (ap₂ reply.Listed k-is g-is);
                   buffer-is =
                       rw v (head-written n (stableModels P) k (11 + k * width) (11 + most * width) old part buf k-is (ap (λ (x : ℕ). 11 + x) bytes-are) (omega (arith, bytes-are, all-fit)) part-fits f q
-                      ∙ ap₂ (λ (x y : ℕ). listingOf x (stableModels P) ++ drop y old) (w .size) (ap (λ (x : ℕ). 11 + x) bytes-are ∙ size-is));
+                      ∙ ap₂ (λ (x y : ℕ). listingOf x (stableModels P) ++ drop y old) (barred-size w (planBans plan (sizes .bans))) (ap (λ (x : ℕ). 11 + x) bytes-are ∙ size-is));
                 }
 
 -- ---- the program that the table stands for, and the driven layer's

@@ -21,12 +21,12 @@ use Rattle.models.specs.Listing.{recordSize, recordOf}
 use Rattle.models.specs.Alike.{Alike}
 use Rattle.models.proofs.AlikeLaws.{flip, alike-model, alike-models, alike-count}
 use Rattle.table.specs.Table.{programOf}
-use Rattle.table.specs.Tabled.{tabled}
 use Rattle.accepted.specs.Driven.{layerTests}
 use Rattle.accepted.proofs.FirstLaws.{accepted-none}
 use Rattle.leaf.specs.Searchable.{Searchable}
-use Rattle.plan.specs.Plan.{planAtoms}
+use Rattle.plan.specs.Plan.{planAtoms, planBans, plannedProgram}
 use Rattle.plan.specs.declared.Sizes.{Sizes}
+use Rattle.search.proofs.AllowedLaws.{barred-listed, barred-size}
 use Rattle.search.proofs.TurnLaws.{atoms-count}
 use Rattle.passes.specs.SetUp.{Ready}
 use Rattle.passes.specs.Limit.{hasTooManyBranching, hasNoStableState}
@@ -44,14 +44,14 @@ module _ {book rows plan : List ℕ} {sizes : Sizes} (ready : Ready book rows pl
   w = ready .table
 
   abbrev P : Program
-  P = tabled book rows n
+  P = plannedProgram book rows plan sizes
 
   g-is : sizes .branching ≡ branchingCount P
   unfolding branchingCount
-  g-is = sym (atoms-count (ready .planned)) ∙ ap length (w .listed)
+  g-is = sym (atoms-count (ready .planned)) ∙ ap length (barred-listed w (planBans plan (sizes .bans)))
 
   size-is : size ≡ recordSize (P .atoms)
-  size-is = e ∙ ap recordSize (w .size)
+  size-is = e ∙ ap recordSize (barred-size w (planBans plan (sizes .bans)))
 
   pub room-refused : length old < size → Answers (firstOf (roomTests P (length old))) P old (reply.Refused BufferTooShort) old
   unfolding firstOf verdictIf roomTests replyOf
@@ -82,7 +82,7 @@ module _ {book rows plan : List ℕ} {sizes : Sizes} (ready : Ready book rows pl
           let s = f .some b in
           let q : firstOf (roomTests P (length old)) ≡ Accepted = rw (le-ltb (length old) (recordSize (P .atoms)) (omega (arith, size-is)), s .0) refl in
           let m : Interpretation = s .1 .0 in
-          let r : part ≡ recordOf (P .atoms) m = s .1 .2 ∙ ap (λ (k : ℕ). recordOf k m) (w .size) in
+          let r : part ≡ recordOf (P .atoms) m = s .1 .2 ∙ ap (λ (k : ℕ). recordOf k m) (barred-size w (planBans plan (sizes .bans))) in
           rw q (record {
             reply-is = ap reply.Written g-is;
             buffer-is = record { state = m; stable = s .1 .1; bytes = back part ∙ ap₂ (λ (x : List ℕ) (k : ℕ). x ++ drop k old) r size-is };

@@ -1,7 +1,7 @@
 // The call that hands out one state, once its table and plan are made: cause 13 or 14, or a stable state's record, with g.
 ghost use lib.ListN.{length};
-ghost use Rattle.table.specs.Tabled.{tabled};
 ghost use Rattle.book.specs.Causes.{firstOf};
+ghost use Rattle.plan.specs.Plan.{plannedProgram};
 ghost use Rattle.passes.specs.SetUp.{Ready};
 ghost use Rattle.one_call.specs.Reply.{roomTests, Answers};
 use book::Cause;
@@ -24,7 +24,7 @@ pub fn one_found(
     buffer: &mut [u8],
 ) -> OneReply
     requires { ⌜ Ready (now book) (now rows) (now plan) sizes ⌝ }
-    ensures { λ r. ⌜ Answers (firstOf (roomTests (tabled (now (book .entry)) (now (rows .entry)) (sizes .n)) (length (now (buffer .entry))))) (tabled (now (book .entry)) (now (rows .entry)) (sizes .n)) (now (buffer .entry)) r (now (buffer .exit)) ⌝ }
+    ensures { λ r. ⌜ Answers (firstOf (roomTests (plannedProgram (now (book .entry)) (now (rows .entry)) (now (plan .entry)) sizes) (length (now (buffer .entry))))) (plannedProgram (now (book .entry)) (now (rows .entry)) (now (plan .entry)) sizes) (now (buffer .entry)) r (now (buffer .exit)) ⌝ }
 {
     let size = record_size(sizes.n);
     if buffer.len() < size {

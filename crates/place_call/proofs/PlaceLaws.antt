@@ -27,14 +27,14 @@ use Rattle.models.specs.Listing.{stableModels}
 use Rattle.models.specs.Alike.{Alike}
 use Rattle.models.proofs.AlikeLaws.{alike-models, alike-count}
 use Rattle.table.specs.Table.{programOf}
-use Rattle.table.specs.Tabled.{tabled}
 use Rattle.accepted.specs.Driven.{layerTests}
 use Rattle.accepted.proofs.FirstLaws.{accepted-none}
 use Rattle.search.specs.declared.Goal.the-variants.{Settle}
 use Rattle.leaf.specs.Searchable.{Searchable}
 use Rattle.search.specs.Visits.{reaches}
-use Rattle.plan.specs.Plan.{planAtoms}
+use Rattle.plan.specs.Plan.{planAtoms, planBans, plannedProgram}
 use Rattle.plan.specs.declared.Sizes.{Sizes}
+use Rattle.search.proofs.AllowedLaws.{barred-formed, barred-listed, barred-size}
 use Rattle.search.proofs.TurnLaws.{atoms-count}
 use Rattle.passes.specs.SetUp.{Ready}
 use Rattle.passes.specs.Limit.{hasTooManyBranching, hasNoStableState}
@@ -115,7 +115,7 @@ and-false : (b : Bool) → (b && false) ≡ false
 and-false true = refl
 and-false false = refl
 
-module _ {book rows plan : List ℕ} {sizes : Sizes} (ready : Ready book rows plan sizes) {asked : List ℕ} {count standing : ℕ} (t : Tallied (tabled book rows (sizes .n)) Settle asked count standing) (fact : ℕ) (asks : u16At asked 0 ≡ fact) where
+module _ {book rows plan : List ℕ} {sizes : Sizes} (ready : Ready book rows plan sizes) {asked : List ℕ} {count standing : ℕ} (t : Tallied (plannedProgram book rows plan sizes) Settle asked count standing) (fact : ℕ) (asks : u16At asked 0 ≡ fact) where
   abbrev n : ℕ
   n = sizes .n
 
@@ -123,14 +123,14 @@ module _ {book rows plan : List ℕ} {sizes : Sizes} (ready : Ready book rows pl
   w = ready .table
 
   abbrev P : Program
-  P = tabled book rows n
+  P = plannedProgram book rows plan sizes
 
   few : P .atoms ≤ maxAtoms
-  few = subst (λ (k : ℕ). k ≤ maxAtoms) (w .size) (w .few)
+  few = subst (λ (k : ℕ). k ≤ maxAtoms) (barred-size w (planBans plan (sizes .bans))) (w .few)
 
   g-is : sizes .branching ≡ branchingCount P
   unfolding branchingCount
-  g-is = sym (atoms-count (ready .planned)) ∙ ap length (w .listed)
+  g-is = sym (atoms-count (ready .planned)) ∙ ap length (barred-listed w (planBans plan (sizes .bans)))
 
   standing-is : standing ≡ length (filter (λ m. atomHolds m fact) (t .seen))
   standing-is = t .weight-is ∙ settled-weight asked (t .seen) ∙ ap (λ (f : ℕ). length (filter (λ m. atomHolds m f) (t .seen))) asks
@@ -145,28 +145,28 @@ module _ {book rows plan : List ℕ} {sizes : Sizes} (ready : Ready book rows pl
 
   pub refused-state : count ≡ 0 → reply.Refused NoStableState ≡ replyOf (firstOf (stateTests P)) P fact
   unfolding firstOf verdictIf stateTests replyOf
-  refused-state e = rw (tallied-none P (w .formed) few t e) refl
+  refused-state e = rw (tallied-none P (barred-formed w (planBans plan (sizes .bans))) few t e) refl
 
   module _ (some : 0 < count) where
     placed : (p : Place) → placeIn P fact ≡ p → reply.Placed p (sizes .branching) ≡ replyOf (firstOf (stateTests P)) P fact
     unfolding firstOf verdictIf stateTests replyOf
-    placed p e = rw (tallied-some P (w .formed) few t some) (ap₂ reply.Placed (sym e) g-is)
+    placed p e = rw (tallied-some P (barred-formed w (planBans plan (sizes .bans))) few t some) (ap₂ reply.Placed (sym e) g-is)
 
     pub placed-nowhere : standing ≡ 0 → reply.Placed Nowhere (sizes .branching) ≡ replyOf (firstOf (stateTests P)) P fact
     placed-nowhere e =
-        let s = some-state P (tallied-some P (w .formed) few t some) in
+        let s = some-state P (tallied-some P (barred-formed w (planBans plan (sizes .bans))) few t some) in
         placed Nowhere (place-nowhere P fact (s .0) (s .1)
-        (λ m k. fails m (none-pass (λ m. atomHolds m fact) (t .seen) (sym (standing-is) ∙ e) m (seen-into P (w .formed) few t (unsettled (inl e)) m k))))
+        (λ m k. fails m (none-pass (λ m. atomHolds m fact) (t .seen) (sym (standing-is) ∙ e) m (seen-into P (barred-formed w (planBans plan (sizes .bans))) few t (unsettled (inl e)) m k))))
 
     pub placed-in-some : 0 < standing → standing < count → reply.Placed InSome (sizes .branching) ≡ replyOf (firstOf (stateTests P)) P fact
     placed-in-some a b =
         let y = one-passes (λ m. atomHolds m fact) (t .seen) (omega (arith, standing-is)) in
         let z = one-fails (λ m. atomHolds m fact) (t .seen) (omega (arith, standing-is, t .count-is)) in
-        placed InSome (place-in-some P fact (y .0) (seen-from P (w .formed) few t (y .0) (y .1)) (y .2) (z .0) (seen-from P (w .formed) few t (z .0) (z .1)) (z .2))
+        placed InSome (place-in-some P fact (y .0) (seen-from P (barred-formed w (planBans plan (sizes .bans))) few t (y .0) (y .1)) (y .2) (z .0) (seen-from P (barred-formed w (planBans plan (sizes .bans))) few t (z .0) (z .1)) (z .2))
 
     pub placed-every : count ≤ standing → reply.Placed Every (sizes .branching) ≡ replyOf (firstOf (stateTests P)) P fact
     placed-every h =
-        placed Every (place-every P fact (λ m k. pass-all (λ m. atomHolds m fact) (t .seen) (omega (arith, standing-is, t .count-is)) m (seen-into P (w .formed) few t (unsettled (inr h)) m k)))
+        placed Every (place-every P fact (λ m k. pass-all (λ m. atomHolds m fact) (t .seen) (omega (arith, standing-is, t .count-is)) m (seen-into P (barred-formed w (planBans plan (sizes .bans))) few t (unsettled (inr h)) m k)))
 
 -- ---- the program that the table stands for, and the driven layer's
 module _ {P Q : Program} (a : Alike P Q) (fact : ℕ) where

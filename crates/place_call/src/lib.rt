@@ -3,8 +3,8 @@
 ghost use mathlib.Core.Path.{_≡_};
 ghost use Prim.Native.Nat.{_<_};
 ghost use Rattle.base.specs.Bounds.{maxAtoms};
-ghost use Rattle.table.specs.Tabled.{tabled};
 ghost use Rattle.book.specs.Causes.{firstOf};
+ghost use Rattle.plan.specs.Plan.{plannedProgram};
 ghost use Rattle.passes.specs.SetUp.{Ready};
 ghost use Rattle.place_call.specs.Reply.{stateTests, replyOf};
 use book::Cause;
@@ -28,7 +28,7 @@ pub enum PlaceReply {
 pub fn place_found(book: &[u8], rows: &[u16], plan: &[u32], sizes: Sizes, fact: usize) -> PlaceReply
     requires { ⌜ Ready (now book) (now rows) (now plan) sizes ⌝ }
     requires { ⌜ fact < maxAtoms ⌝ }
-    ensures { λ r. ⌜ r ≡ replyOf (firstOf (stateTests (tabled (now (book .entry)) (now (rows .entry)) (sizes .n)))) (tabled (now (book .entry)) (now (rows .entry)) (sizes .n)) fact ⌝ }
+    ensures { λ r. ⌜ r ≡ replyOf (firstOf (stateTests (plannedProgram (now (book .entry)) (now (rows .entry)) (now (plan .entry)) sizes))) (plannedProgram (now (book .entry)) (now (rows .entry)) (now (plan .entry)) sizes) fact ⌝ }
 {
     let asked: [u8; 2] = [(fact / 256 % 256) as u8, (fact % 256) as u8];
     let counts = tally(book, rows, plan, sizes, Goal::Settle, &asked);

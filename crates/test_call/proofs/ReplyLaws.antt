@@ -1,23 +1,26 @@
 -- The answer from the tests made so far, and what "yes" and "no" say: no cause applies, and the candidate's state is a stable model by
 -- the inductive definition, or is none. Used by `test` and `candidate_stable`. Assumes nothing.
 use mathlib.Core.Path.{_≡_, refl, sym, ap, ap₂, subst, _∙_}
-use mathlib.Core.Bool.{Bool, true, false}
+use mathlib.Core.Bool.{Bool, true, false, not, _&&_}
 use mathlib.Core.List.{List, [], _∷_}
 use Prim.Native.Nat.{ℕ, _-_, _*_}
 use native.Mathlib.Omega.{arith}
 use lib.Dec.{T}
 use lib.ListN.{length, take}
 use Rattle.base.proofs.UpTo.{passed, failed}
-use Rattle.format.specs.Book.{bookOf}
-use Rattle.models.specs.Program.{Program}
-use Rattle.models.specs.StableModels.{Interpretation, stable, StableModel}
+use Rattle.format.specs.Book.{Literal, bookOf}
+use Rattle.models.specs.Program.{Program, constrained}
+use Rattle.models.specs.StableModels.{Interpretation, holds, settled, forbidden, stable, StableModel, WellFormed}
 use Rattle.models.specs.Listing.{interpretationOf}
 use Rattle.models.proofs.LeastLaws.{stable-sound, stable-complete}
-use Rattle.models.proofs.AlikeLaws.{alike-stable}
+use Rattle.models.proofs.AlikeLaws.{alike-stable, alike-formed}
+use Rattle.models.proofs.ConstraintLaws.{constrained-filter}
+use Rattle.base.specs.Lists.{all, any}
 use Rattle.table.specs.Rows.{rowSize}
 use Rattle.table.specs.Table.{programOf, TableMade}
 use Rattle.table.specs.Tabled.{tabled}
-use Rattle.table.proofs.TabledLaws.{lent-alike}
+use Rattle.table.proofs.TabledLaws.{tabled-free, lent-alike}
+use Rattle.bans.specs.Bans.{bodiesOf, BansFit, BansMade}
 use Rattle.book.specs.Causes.{verdictIf, firstOf}
 use Rattle.book.specs.declared.Cause.{Cause}
 use Rattle.book.specs.declared.Cause.the-variants.{BadCandidate}
@@ -40,12 +43,48 @@ module _ (n : ℕ) (s : List ℕ) (m : List Bool) (e : take n m ≡ interpretati
   pub lent-size : length (take (n - 0) m) ≡ n
   lent-size = ap (length {A = Bool}) lent-state ∙ read-length n s
 
--- the test of the lent table is that of the driven layer's program
+-- the constraints, as the code lends them
+module _ {bodies : List (List Literal)} {book bans : List ℕ} {count : ℕ} (w : BansMade bodies book bans count) where
+  pub lent-fit : BansFit book (take (count - 0) bans)
+  lent-fit = subst (λ (k : ℕ). BansFit book (take k bans)) {x = count} {y = count - 0} (omega arith) (w .fits)
+
+  pub lent-bodies : (m : Interpretation) (r : Bool) → r ≡ any (all (holds m)) (bodiesOf book (take (count - 0) bans)) → r ≡ any (all (holds m)) bodies
+  lent-bodies m r e =
+      e ∙ ap (λ (bs : List (List Literal)). any (all (holds m)) bs) (ap (λ (k : ℕ). bodiesOf book (take k bans)) {x = count - 0} {y = count} (omega arith) ∙ w .bodies-are)
+
+-- the rules of the lent table are well formed
+pub lent-formed : {P : Program} {book rows : List ℕ} {count : ℕ} → TableMade P book rows count → {n : ℕ} → n ≡ P .atoms → WellFormed P → WellFormed (tabled book (take (rowSize * count - 0) rows) n)
+unfolding constrained
+lent-formed {P} {book} {rows} {count} made {n} e w =
+    let f : WellFormed (constrained (tabled book (take (rowSize * count - 0) rows) n) (P .constraints)) = alike-formed (lent-alike made e (P .constraints) refl) w in
+    record { heads = f .heads; bodies = f .bodies }
+
+-- a state that a constraint forbids is not stable
+pub forbidden-over : (P : Program) (n : ℕ) (s : List ℕ) (m : List Bool) → take n m ≡ interpretationOf n s → (f : Bool)
+    → f ≡ any (all (holds (take (n - 0) m))) (P .constraints) → f ≡ true → false ≡ stable P (interpretationOf n s)
+unfolding stable forbidden
+forbidden-over P n s m q f ef t =
+    let z : any (all (holds (interpretationOf n s))) (P .constraints) ≡ true = ap (λ (o : Interpretation). any (all (holds o)) (P .constraints)) (sym (lent-state n s m q)) ∙ sym ef ∙ t in
+    rw z (sym (and-false (settled P (interpretationOf n s))))
+  where
+    and-false : (c : Bool) → (c && false) ≡ false
+    and-false true = refl
+    and-false false = refl
+
+-- the test of the lent table is that of the driven layer's program, where no constraint forbids the state
 pub stable-over : {P : Program} {book rows : List ℕ} {count : ℕ} → TableMade P book rows count → {n : ℕ} → n ≡ P .atoms
-    → (s : List ℕ) (m : List Bool) → take n m ≡ interpretationOf n s → (r : Bool)
+    → (s : List ℕ) (m : List Bool) → take n m ≡ interpretationOf n s → (f : Bool) → f ≡ any (all (holds (take (n - 0) m))) (P .constraints) → f ≡ false → (r : Bool)
     → r ≡ stable (tabled book (take (rowSize * count - 0) rows) n) (take (n - 0) m) → r ≡ stable P (interpretationOf n s)
-stable-over {P} made {n} e s m q r t =
-    t ∙ sym (alike-stable (lent-alike made e) (take (n - 0) m) (lent-size n s m q ∙ e)) ∙ ap (λ (o : Interpretation). stable P o) (lent-state n s m q)
+stable-over {P} {book} {rows} {count} made {n} e s m q f ef z r t =
+    let Q : Program = tabled book (take (rowSize * count - 0) rows) n in
+    let o : Interpretation = take (n - 0) m in
+    let split : stable P o ≡ (stable Q o && not (any (all (holds o)) (P .constraints))) =
+    alike-stable (lent-alike made e (P .constraints) refl) o (lent-size n s m q ∙ e) ∙ constrained-filter Q (P .constraints) (tabled-free book (take (rowSize * count - 0) rows) n) o in
+    t ∙ sym (split ∙ ap (λ (c : Bool). stable Q o && not c) (sym ef ∙ z) ∙ and-true (stable Q o)) ∙ ap (λ (o : Interpretation). stable P o) (lent-state n s m q)
+  where
+    and-true : (c : Bool) → (c && true) ≡ c
+    and-true true = refl
+    and-true false = refl
 
 module _ (book : List ℕ) (layer off : ℕ) (candidate : List ℕ) where
   -- the verdict on the book and the layer, as the code holds it

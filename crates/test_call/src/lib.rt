@@ -6,7 +6,8 @@ ghost use Prim.Native.Nat.{_<_, _≤_};
 ghost use Rattle.base.specs.Bounds.{maxAtoms};
 ghost use Rattle.layers.specs.Masks.{LowerMasks};
 ghost use Rattle.format.specs.Book.{arrowsOf, bookOf};
-ghost use Rattle.models.specs.StableModels.{stable};
+ghost use Rattle.base.specs.Lists.{all, any};
+ghost use Rattle.models.specs.StableModels.{holds, stable};
 ghost use Rattle.models.specs.Listing.{interpretationOf};
 ghost use Rattle.table.specs.Table.{programOf};
 ghost use Rattle.accepted.specs.Accepted.{IsAccepted};
@@ -15,6 +16,8 @@ ghost use Rattle.test_call.specs.Reply.{testReply};
 use accepted::atom_count;
 use accepted::check_layer;
 use accepted::prepare;
+use accepted::prepare_bans;
+use bans::banned;
 use base::MAX_LAYERS;
 use base::MAX_RULES;
 use book::Cause;
@@ -34,7 +37,20 @@ pub enum TestReply {
     Refused(Cause),
 }
 
-// Whether a candidate's state is stable, once no cause applies: the table is made once, then the test fills from it.
+// Whether the body of a constraint that counts at the layer holds in a state.
+fn forbids(book: &[u8], layer: usize, off: u32, lower: [u32; MAX_LAYERS], m: &[bool]) -> bool
+    requires { ⌜ IsAccepted (now book) ⌝ }
+    requires { ⌜ layer < bookOf (now book) .layers ⌝ }
+    requires { ⌜ LowerMasks (arrowsOf (now book)) lower ⌝ }
+    ensures { λ r. ⌜ r ≡ any (all (holds (now (m .entry)))) (programOf (now (book .entry)) layer off .constraints) ⌝ }
+{
+    let mut bans: [u32; MAX_RULES] = [0; MAX_RULES];
+    let count = prepare_bans(book, layer, off, lower, &mut bans);
+    banned(book, &bans[0..count], m)
+}
+
+// Whether a candidate's state is stable, once no cause applies: no constraint forbids it, and the rules settle it. Their table is made
+// once, then the test fills from it.
 fn candidate_stable(
     book: &[u8],
     layer: usize,
@@ -51,6 +67,9 @@ fn candidate_stable(
     ensures { λ r. ⌜ r ≡ stable (programOf (now (book .entry)) layer off) (interpretationOf n (now (candidate .entry))) ⌝ }
 {
     let m = read_candidate(candidate, n);
+    if forbids(book, layer, off, lower, &m[0..n]) {
+        return false;
+    }
     let mut rows: [u16; ROWS] = [0; ROWS];
     let count = prepare(book, layer, off, lower, &mut rows);
     let mut hints: [u16; HINTS] = [0; HINTS];
