@@ -60,12 +60,34 @@ fn record(set: &Set) -> [u8; 32] {
     record
 }
 
+/// The facts that a body has plain, and negated.
+#[derive(Clone, Copy)]
+struct Body {
+    plain: Set,
+    negated: Set,
+}
+
+impl Body {
+    fn holds(&self, state: &Set) -> bool {
+        within(&self.plain, state) && disjoint(&self.negated, state)
+    }
+
+    /// Whether it holds in any state at all.
+    fn can_hold(&self) -> bool {
+        disjoint(&self.plain, &self.negated)
+    }
+
+    /// How many facts it has, if it can hold.
+    fn size(&self) -> u32 {
+        let sets = self.plain.iter().chain(&self.negated);
+        sets.map(|word| word.count_ones()).sum()
+    }
+}
+
 /// A relevant rule.
 #[derive(Clone, Copy)]
 struct Rule {
-    /// The facts that its body has plain, and negated.
-    plain: Set,
-    negated: Set,
+    body: Body,
     head: u8,
     denies: bool,
     layer: u8,
@@ -74,21 +96,12 @@ struct Rule {
 }
 
 impl Rule {
-    fn holds(&self, state: &Set) -> bool {
-        within(&self.plain, state) && disjoint(&self.negated, state)
-    }
-
     /// Whether the head is in the body, with its sign.
     fn leans_on_itself(&self) -> bool {
         match self.denies {
-            false => contains(&self.plain, self.head),
-            true => contains(&self.negated, self.head),
+            false => contains(&self.body.plain, self.head),
+            true => contains(&self.body.negated, self.head),
         }
-    }
-
-    /// Whether the body holds in any state at all.
-    fn can_hold(&self) -> bool {
-        disjoint(&self.plain, &self.negated)
     }
 }
 
@@ -109,6 +122,8 @@ struct Program {
     /// Those that can displace at all.
     displacing: Vec<Displacing>,
     contests: usize,
+    /// The relevant constraints.
+    constraints: Vec<Body>,
 }
 
 impl Program {
@@ -116,8 +131,14 @@ impl Program {
         let below = below(book);
         let relevant = (below[drive.layer as usize] | 1 << drive.layer) & !drive.off;
         let mut rules = Vec::with_capacity(book.rules.count.into());
+        let mut constraints = Vec::new();
         let counts = |record: &&[u8]| relevant >> record[0] & 1 == 1;
-        rules.extend(book.rules.records().filter(counts).map(rule));
+        for record in book.rules.records().filter(counts) {
+            match reader::is_falsity(&record[1..3]) {
+                true => constraints.push(body(record)),
+                false => rules.push(rule(record)),
+            }
+        }
         let mut layers_of = [[0u32; 256]; 2];
         for rule in &rules {
             layers_of[usize::from(rule.denies)][usize::from(rule.head)] |= 1 << rule.layer;
@@ -150,13 +171,14 @@ impl Program {
             rules,
             displacing,
             contests: contests.into(),
+            constraints,
         }
     }
 
     /// The branching facts, rising.
     fn branching(&self) -> Vec<u8> {
-        let negated = self.rules.iter().map(|rule| &rule.negated);
-        let displacing = self.displacing.iter().map(|one| &one.rule.plain);
+        let negated = self.rules.iter().map(|rule| &rule.body.negated);
+        let displacing = self.displacing.iter().map(|one| &one.rule.body.plain);
         let branches = negated.chain(displacing).fold(EMPTY, |all, set| {
             std::array::from_fn(|word| all[word] | set[word])
         });
@@ -167,16 +189,19 @@ impl Program {
     /// Whether a state is stable. Once no live rule whose body holds contradicts it, only what is
     /// not founded is in the way.
     fn stable(&self, state: &Set) -> bool {
+        if self.constraints.iter().any(|body| body.holds(state)) {
+            return false;
+        }
         let mut displaced = vec![0u32; self.contests];
         for displacing in &self.displacing {
-            if displacing.rule.holds(state) {
+            if displacing.rule.body.holds(state) {
                 displaced[usize::from(displacing.contest)] |= displacing.layers;
             }
         }
         let mut supported = EMPTY;
         let mut live = Vec::with_capacity(self.rules.len());
         for (at, rule) in self.rules.iter().enumerate() {
-            if !rule.holds(state) {
+            if !rule.body.holds(state) {
                 continue;
             }
             if !rule.denies {
@@ -203,7 +228,8 @@ fn founded(rules: &[Rule], live: &mut Vec<u16>, defaults: Set, names: (&Set, &Se
         let waiting = live.len();
         live.retain(|&at| {
             let rule = &rules[usize::from(at)];
-            let fires = within(&rule.plain, &plain) && within(&rule.negated, &negated);
+            let body = &rule.body;
+            let fires = within(&body.plain, &plain) && within(&body.negated, &negated);
             match rule.denies {
                 _ if !fires => {}
                 false => insert(&mut plain, rule.head),
@@ -271,6 +297,10 @@ struct Search {
     /// The setting's bit for each plain head, 0 where it does not branch.
     head_bits: Vec<u32>,
     contests: Vec<Contest>,
+    /// What constraints say of the branching facts: those that say nothing else, and the others with
+    /// their bodies, which only a finished state decides.
+    decided_bans: Vec<Guard>,
+    bans: Vec<(Guard, Body)>,
     /// By number: rules that are not reached yet, and displaced ones whose guard fits.
     waiting: Vec<u16>,
     shadowed: Vec<u16>,
@@ -287,9 +317,9 @@ impl Search {
             let stands = |setting, &atom: &u8| setting << 1 | u32::from(contains(set, atom));
             branching.iter().fold(0, stands)
         };
-        let guard = |rule: &Rule| Guard {
-            decided: as_setting(&rule.plain) | as_setting(&rule.negated),
-            stand: as_setting(&rule.plain),
+        let guard = |body: &Body| Guard {
+            decided: as_setting(&body.plain) | as_setting(&body.negated),
+            stand: as_setting(&body.plain),
         };
         let head_bit = |rule: &Rule| {
             let mut head = EMPTY;
@@ -299,14 +329,21 @@ impl Search {
         let rules = in_firing_order(&program.rules);
         let plain = rules.iter().filter(|rule| !rule.denies);
         let mut contests: Vec<Contest> = (0..program.contests).map(|_| Contest::new()).collect();
-        for one in program.displacing.iter().filter(|one| one.rule.can_hold()) {
+        let displacing = program.displacing.iter();
+        for one in displacing.filter(|one| one.rule.body.can_hold()) {
             let contest = &mut contests[usize::from(one.contest)];
-            contest.displacing.push((guard(&one.rule), one.layers));
+            contest.displacing.push((guard(&one.rule.body), one.layers));
         }
+        let bans = program.constraints.iter().filter(|body| body.can_hold());
+        let (decided_bans, bans): (Vec<_>, Vec<_>) = bans
+            .map(|body| (guard(body), *body))
+            .partition(|(guard, body)| guard.decided.count_ones() == body.size());
         Ok(Search {
             atoms: program.atoms,
             facts: program.facts,
-            guards: rules.iter().map(guard).collect(),
+            decided_bans: decided_bans.into_iter().map(|ban| ban.0).collect(),
+            bans,
+            guards: rules.iter().map(|rule| guard(&rule.body)).collect(),
             head_bits: plain.map(head_bit).collect(),
             contests,
             waiting: Vec::with_capacity(rules.len()),
@@ -320,7 +357,14 @@ impl Search {
     /// are compared with the setting at once: where a body that does not fit were reached, the
     /// setting would have failed.
     fn state_at(&mut self, setting: u32) -> Option<Set> {
+        if self.decided_bans.iter().any(|ban| ban.fits(setting)) {
+            return None;
+        }
         let state = self.fill(setting)?;
+        let holds = |(guard, body): &(Guard, Body)| guard.fits(setting) && body.holds(&state);
+        if self.bans.iter().any(holds) {
+            return None;
+        }
         for at in self.head_bits.len()..self.rules.len() {
             let head = self.rules[at].head;
             if contains(&state, head) && self.fires(at, setting, &state) {
@@ -331,7 +375,7 @@ impl Search {
         let mut contested = EMPTY;
         for &at in &self.shadowed {
             let rule = &self.rules[usize::from(at)];
-            if within(&rule.plain, &state) {
+            if within(&rule.body.plain, &state) {
                 insert(&mut contested, rule.head);
             }
         }
@@ -343,7 +387,7 @@ impl Search {
     fn fires(&mut self, at: usize, setting: u32, state: &Set) -> bool {
         let rule = &self.rules[at];
         self.guards[at].fits(setting)
-            && within(&rule.plain, state)
+            && within(&rule.body.plain, state)
             && !self.contests[usize::from(rule.contest)].displaces(rule, setting)
     }
 
@@ -361,7 +405,7 @@ impl Search {
             let rule = &self.rules[at];
             if self.contests[usize::from(rule.contest)].displaces(rule, setting) {
                 self.shadowed.push(at as u16);
-            } else if within(&rule.plain, &state) {
+            } else if within(&rule.body.plain, &state) {
                 insert(&mut state, rule.head);
                 reached |= head_bit;
                 if reached & !setting != 0 {
@@ -380,7 +424,7 @@ impl Search {
             left = self.waiting.len();
             self.waiting.retain(|&at| {
                 let rule = &self.rules[usize::from(at)];
-                let fires = within(&rule.plain, &state);
+                let fires = within(&rule.body.plain, &state);
                 if fires {
                     insert(&mut state, rule.head);
                     reached |= self.head_bits[usize::from(at)];
@@ -470,14 +514,14 @@ impl Search {
 fn in_firing_order(rules: &[Rule]) -> Vec<Rule> {
     let (denying, mut waiting): (Vec<Rule>, Vec<Rule>) = rules
         .iter()
-        .filter(|rule| rule.can_hold())
+        .filter(|rule| rule.body.can_hold())
         .partition(|rule| rule.denies);
     let mut fired = Vec::with_capacity(rules.len());
     let mut reached = EMPTY;
     loop {
         let before = fired.len();
         waiting.retain(|rule| {
-            let fires = within(&rule.plain, &reached);
+            let fires = within(&rule.body.plain, &reached);
             if fires {
                 insert(&mut reached, rule.head);
                 fired.push(*rule);
@@ -485,7 +529,7 @@ fn in_firing_order(rules: &[Rule]) -> Vec<Rule> {
             !fires
         });
         if fired.len() == before {
-            let reachable = |rule: &Rule| within(&rule.plain, &reached);
+            let reachable = |rule: &Rule| within(&rule.body.plain, &reached);
             fired.extend(denying.into_iter().filter(reachable));
             return fired;
         }
@@ -509,7 +553,8 @@ fn below(book: &Parts) -> [u32; 32] {
     below
 }
 
-fn rule(record: &[u8]) -> Rule {
+/// The body of a rule's record.
+fn body(record: &[u8]) -> Body {
     let (mut plain, mut negated) = (EMPTY, EMPTY);
     for literal in record[3..].chunks_exact(2) {
         match literal[0] < 0x80 {
@@ -517,9 +562,12 @@ fn rule(record: &[u8]) -> Rule {
             false => insert(&mut negated, literal[1]),
         }
     }
+    Body { plain, negated }
+}
+
+fn rule(record: &[u8]) -> Rule {
     Rule {
-        plain,
-        negated,
+        body: body(record),
         head: record[2],
         denies: record[1] >= 0x80,
         layer: record[0],

@@ -38,6 +38,9 @@ impl Literal {
     }
 }
 
+/// The number 32,767, which is no fact's: "false" for the head of a rule (document 02, c).
+pub const FALSITY: Literal = plain(0x7FFF);
+
 #[derive(Clone, Copy, Debug, PartialEq, Eq)]
 pub struct Arrow {
     pub earlier: u8,
@@ -49,6 +52,13 @@ pub struct Rule {
     pub layer: u8,
     pub head: Literal,
     pub body: Vec<Literal>,
+}
+
+impl Rule {
+    /// Whether it is a constraint: a rule with "false" for a head, whose body must never hold.
+    pub fn is_constraint(&self) -> bool {
+        self.head == FALSITY
+    }
 }
 
 #[derive(Clone, Debug, PartialEq, Eq)]
@@ -79,6 +89,22 @@ impl Book {
         let body = body.to_vec();
         self.rules.push(Rule { layer, head, body });
         self
+    }
+
+    /// A constraint of a layer.
+    pub fn never(self, layer: u8, body: &[Literal]) -> Book {
+        self.rule(layer, FALSITY, body)
+    }
+
+    pub fn has_constraints(&self) -> bool {
+        self.rules.iter().any(Rule::is_constraint)
+    }
+
+    /// The same book without its constraints.
+    pub fn without_constraints(&self) -> Book {
+        let mut book = self.clone();
+        book.rules.retain(|rule| !rule.is_constraint());
+        book
     }
 
     pub fn draft(&self) -> Draft {

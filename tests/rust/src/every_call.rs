@@ -1,14 +1,14 @@
-//! All four calls on a driven layer at once, on small books: against the oracle, against states that
-//! are known, and against misreadings, which must find others.
+//! All four calls on a driven layer at once: on small books against the oracle, against states that are
+//! known, and against misreadings, which must find others; and on large books whose states are known.
 
 use crate::book::{hex, Book};
-use crate::drive::{all_layers, Drive};
+use crate::drive::Drive;
 use crate::expected::{branching, counts, place_of, yes_or_no, Asked, NO_STABLE_STATE};
 use crate::ffi;
+use crate::known::Known;
 use crate::listed::{assert_outcome, outcome};
 use crate::misreadings::{Misread, Misreading};
 use crate::oracle;
-use crate::rng::Rng;
 
 /// What a buffer has before a call.
 pub const FILLER: u8 = 0xA5;
@@ -109,14 +109,59 @@ pub fn assert_trap(book: &Book, drive: Drive, records: &[u8], branching: usize, 
     assert!(shown, "the book does not show {wrong:?} at {drive}");
 }
 
-/// All sets of the layers of a book that has four at most; else none, all, and some at random.
-pub fn sets(rng: &mut Rng, layers: u8) -> Vec<u32> {
-    let all = all_layers(layers);
-    match layers {
-        0..=4 => (0..=all).collect(),
+/// All four calls are refused, and leave every byte.
+pub fn assert_refused(what: &str, bytes: &[u8], drive: Drive, cause: u64) {
+    let buffers: [&[u8]; 3] = [&[], &[FILLER; 1], &[FILLER; 40]];
+    for buffer in buffers {
+        let refused = (cause, buffer.to_vec());
+        assert_outcome(what, bytes, drive, buffer, &refused);
+        let one = ffi::one(bytes, drive, buffer);
+        assert_eq!(one, refused, "{what}, {drive}\n{}", hex(bytes));
+        let test = ffi::test(bytes, drive, buffer);
+        assert_eq!(test, cause, "{what}, {drive}\n{}", hex(bytes));
+    }
+    for fact in [0, 5, 256, u32::MAX] {
+        let place = ffi::place(bytes, drive, fact);
+        assert_eq!(place, cause, "{what}, {drive}\n{}", hex(bytes));
+    }
+}
+
+/// All four calls on a book of any size whose states are known, in buffers around the listing's length,
+/// and with candidates that are stable and neighbours of these.
+pub fn assert_known_book(what: &str, known: &Known) {
+    let (bytes, drive) = (known.book.bytes(), known.layer.into());
+    let listing = known.listing();
+    for length in [listing.len() + 3, listing.len(), listing.len() - 1] {
+        let buffer = vec![FILLER; length];
+        let expected = outcome(&listing, known.answer(), &buffer);
+        assert_outcome(what, &bytes, drive, &buffer, &expected);
+    }
+    let width = usize::from(known.book.atoms).div_ceil(8);
+    let records: Vec<&[u8]> = listing[11..].chunks(width).collect();
+    let (answer, one) = ffi::one(&bytes, drive, &vec![FILLER; width]);
+    match known.count {
+        0 => assert_eq!(
+            (answer, one),
+            (NO_STABLE_STATE, vec![FILLER; width]),
+            "{what}"
+        ),
         _ => {
-            let some = (0..12).map(|_| rng.word() as u32 & all);
-            [0, all].into_iter().chain(some).collect()
+            assert_eq!(answer, branching(known.branching), "{what}");
+            assert!(records.contains(&&one[..]), "{what}: {}", hex(&one));
+        }
+    }
+    for (fact, place) in (0..).zip(known.places()) {
+        assert_eq!(ffi::place(&bytes, drive, fact), place, "{what}, {fact}");
+    }
+    for record in records.iter().take(8) {
+        let answer = ffi::test(&bytes, drive, record);
+        assert_eq!(answer, yes_or_no(true), "{what}: {}", hex(record));
+        for bit in [0x80, 0x01] {
+            let mut other = record.to_vec();
+            other[0] ^= bit;
+            let stable = records.contains(&&other[..]);
+            let answer = ffi::test(&bytes, drive, &other);
+            assert_eq!(answer, yes_or_no(stable), "{what}: {}", hex(&other));
         }
     }
 }

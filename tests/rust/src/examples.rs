@@ -1,5 +1,6 @@
-//! Document 01's starred examples: books whose listings are also proved of the definitions. Of the
-//! last one document 02, (i) says that it has no state now, and that no fact branches in it.
+//! Document 01's starred examples, and one with a constraint, as document 02, (c) has it: books whose
+//! listings are also proved of the definitions. Of the last but one document 02, (i) says that it has
+//! no state now, and that no fact branches in it.
 
 use crate::book::{not, plain, Book};
 use crate::shapes;
@@ -37,7 +38,8 @@ pub fn starred() -> Vec<Example> {
     let unrelated = two_layers_below.rule(0, plain(P), &[]).rule(1, not(P), &[]);
     let leaning = above(1).rule(0, plain(P), &[]).rule(1, not(P), &[not(P)]);
     let unsettled = quarrel(above(1)).rule(1, plain(P), &[plain(P)]);
-    let examples: [(Book, u8, &[u8], usize); 11] = [
+    let without_p = choice.clone().never(0, &[plain(P)]);
+    let examples: [(Book, u8, &[u8], usize); 12] = [
         (shapes::book_b(), 3, &[0x20], 2),
         (shapes::book_b(), 1, &[0xA0], 1),
         (shapes::book_b(), 2, &[0x80], 2),
@@ -49,6 +51,7 @@ pub fn starred() -> Vec<Example> {
         (each_displaces_the_other, 1, &[0x40, 0x80], 2),
         (leaning, 1, &[0x80], 1),
         (unsettled, 1, &[], 0),
+        (without_p, 0, &[0x40], 2),
     ];
     examples
         .into_iter()

@@ -4,6 +4,7 @@
 use crate::book::{hex, Book};
 use crate::causes::fields;
 use crate::drive::Drive;
+use crate::expected::yes_or_no;
 use crate::known::{self, EVERY_FOLLOWING};
 use crate::orders::{Order, Ordered};
 use crate::plain;
@@ -76,6 +77,8 @@ pub struct Input {
     pub book: Vec<u8>,
     pub drive: Drive,
     pub questions: Vec<Asked>,
+    /// A lawful book with constraints without these.
+    unconstrained: Option<Vec<u8>>,
 }
 
 /// The longest listing of a book that is tried: 8 branching facts in records of 32 bytes.
@@ -91,14 +94,52 @@ impl Input {
                 break (book, drive);
             }
         };
-        let questions = questions(&mut rng, &book, drive);
+        let unconstrained = unconstrained(&book);
+        let mut questions = questions(&mut rng, &book, drive);
+        if let Some(rest) = &unconstrained {
+            questions.extend(forbidden(&mut rng, &book, rest, drive));
+        }
         Input {
             number,
             book,
             drive,
             questions,
+            unconstrained,
         }
     }
+
+    /// Whether it is a lawful book with constraints.
+    pub fn has_constraints(&self) -> bool {
+        self.unconstrained.is_some()
+    }
+
+    /// Whether only a constraint keeps a candidate from being stable.
+    pub fn forbids(&self, candidate: &[u8]) -> bool {
+        let yes = yes_or_no(true);
+        let rest = self.unconstrained.as_deref();
+        rest.is_some_and(|rest| Truth::new(rest, self.drive).test(candidate) == yes)
+            && Truth::new(&self.book, self.drive).test(candidate) != yes
+    }
+}
+
+/// A lawful book with constraints without these.
+fn unconstrained(book: &[u8]) -> Option<Vec<u8>> {
+    let read = reader::read(book).ok()?;
+    let rest = || read.without_constraints().bytes();
+    read.has_constraints().then(rest)
+}
+
+/// A question about a state that only constraints keep from being stable, if there is one.
+fn forbidden(rng: &mut Rng, book: &[u8], rest: &[u8], drive: Drive) -> Option<Asked> {
+    let (facts, _) = fields(book);
+    let (truth, rules_alone) = (Truth::new(book, drive), Truth::new(rest, drive));
+    let mut records = records(&rules_alone, facts.div_ceil(8));
+    records.retain(|record| truth.test(record) == yes_or_no(false));
+    let candidate = records.get(rng.below(records.len().max(1)))?.clone();
+    Some((
+        Question::Test { candidate },
+        Wanted::answer(yes_or_no(false)),
+    ))
 }
 
 /// Of a book with few facts every search is short.
@@ -136,10 +177,11 @@ fn searched(rng: &mut Rng) -> Book {
         Layering::Branches,
         Layering::Any,
     ]);
-    match rng.below(5) {
+    match rng.below(7) {
         0 => shapes::choices(rng),
         1 => shapes::crowded(rng, layering),
         2 => shapes::leaning(rng, layering),
+        3..=4 => shapes::constrained(rng, layering),
         _ => shapes::layered(rng, layering),
     }
 }
@@ -147,7 +189,7 @@ fn searched(rng: &mut Rng) -> Book {
 /// A lawful book of up to 256 facts, few of which branch.
 fn many_facts(rng: &mut Rng) -> Book {
     let atoms = rng.pick(&[9, 15, 16, 17, 64, 65, 255, 256]);
-    match rng.below(5) {
+    match rng.below(6) {
         0 => Book::new(atoms, rng.range(1, 32) as u8),
         1 => {
             let following = rng.pick(&EVERY_FOLLOWING);
@@ -165,6 +207,11 @@ fn many_facts(rng: &mut Rng) -> Book {
                 at_the_end: rng.chance(50),
             };
             ordered.known(rng).book
+        }
+        4 => {
+            let choices = rng.range(1, 5) as u16;
+            let constraints = rng.pick(&[1, 8, 900]);
+            known::randomly_constrained(rng, choices, constraints).book
         }
         _ => {
             let small = searched(rng);

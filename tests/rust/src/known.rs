@@ -1,7 +1,7 @@
 //! Books of any size whose stable states are known from how they are made: for listings that are
 //! too large for the oracle, and for the benchmark.
 
-use crate::book::{not, plain, Book, Literal};
+use crate::book::{not, plain, Book, Literal, FALSITY};
 use crate::expected::{counts, place_of};
 use crate::oracle::{self, body_holds, Driven};
 use crate::rng::Rng;
@@ -446,9 +446,12 @@ pub fn sized(rng: &mut Rng, rules: usize) -> Known {
 pub fn spread(rng: &mut Rng, small: &Book, layer: u8, atoms: u16) -> Known {
     let mut numbers: Vec<u16> = (0..atoms).collect();
     rng.shuffle(&mut numbers);
-    let moved = |literal: &Literal| Literal {
-        atom: numbers[usize::from(literal.atom)],
-        ..*literal
+    let moved = |literal: &Literal| match *literal == FALSITY {
+        true => FALSITY,
+        false => Literal {
+            atom: numbers[usize::from(literal.atom)],
+            ..*literal
+        },
     };
     let mut book = Book::new(atoms, small.layers);
     book.arrows = small.arrows.clone();
@@ -865,6 +868,170 @@ pub fn every_slow(rng: &mut Rng, choices: u16) -> Vec<(String, Known)> {
     named.into_iter().flatten().collect()
 }
 
+/// The same book with one fact more, which always stands.
+fn accompanied(known: Known) -> Known {
+    let atom = known.book.atoms;
+    let mut book = known.book.rule(known.layer, plain(atom), &[]);
+    book.atoms += 1;
+    let state = known.state;
+    Known {
+        book,
+        state: Box::new(move |number| {
+            let mut state = state(number);
+            state.push(true);
+            state
+        }),
+        ..known
+    }
+}
+
+/// The same book with constraints in its driven layer: of its states those are left in which no body
+/// of them holds.
+pub fn constrained(known: Known, bodies: &[Vec<Literal>]) -> Known {
+    let mut book = known.book;
+    for body in bodies {
+        book = book.never(known.layer, body);
+    }
+    let state = known.state;
+    let allowed = |number: &usize| {
+        let state = state(*number);
+        let holds = |literal: &Literal| state[usize::from(literal.atom)] != literal.negated;
+        !bodies.iter().any(|body| body.iter().all(holds))
+    };
+    let left: Vec<usize> = (0..known.count).filter(allowed).collect();
+    Known {
+        book,
+        count: left.len(),
+        state: Box::new(move |number| state(left[number])),
+        ..known
+    }
+}
+
+/// The first facts follow the last ones, of which so many may stand or not, among 256 facts; and there
+/// are so many constraints over all these and over the helpers, with bodies of up to 16 literals. Each
+/// holds in some of the states at most, and none of the facts but the last branches.
+pub fn randomly_constrained(rng: &mut Rng, choices: u16, constraints: usize) -> Known {
+    let following = rng.pick(&EVERY_FOLLOWING);
+    let known = followed(choices, choices, 256, following);
+    let facts: Vec<u16> = (0..choices).chain(256 - 2 * choices..256).collect();
+    let body = |_| -> Vec<Literal> {
+        let literals = 0..rng.range(2, 16);
+        literals
+            .map(|_| Literal {
+                atom: rng.pick(&facts),
+                negated: rng.chance(50),
+            })
+            .collect()
+    };
+    let bodies: Vec<Vec<Literal>> = (0..constraints).map(body).collect();
+    let mut known = constrained(known, &bodies);
+    rng.shuffle(&mut known.book.rules);
+    known
+}
+
+/// What constraints leave of facts that may stand or not.
+#[derive(Clone, Copy, Debug)]
+pub enum Left {
+    /// All stand, or none does.
+    AllAlike,
+    /// At most one stands.
+    AtMostOne,
+    /// The second half is like the first, of which a search that sets the facts in turn learns late.
+    HalvesAlike,
+}
+
+impl Left {
+    /// The bodies of the constraints over so many facts from `first` on.
+    fn bodies(self, first: u16, choices: u16) -> Vec<Vec<Literal>> {
+        let (end, half) = (first + choices, choices / 2);
+        let alike = |one, other| [[plain(one), not(other)], [not(one), plain(other)]];
+        let bodies: Vec<[Literal; 2]> = match self {
+            Left::AllAlike => (first + 1..end)
+                .flat_map(|fact| alike(fact - 1, fact))
+                .collect(),
+            Left::AtMostOne => (first..end)
+                .flat_map(|one| (one + 1..end).map(move |other| [plain(one), plain(other)]))
+                .collect(),
+            Left::HalvesAlike => (first..first + half)
+                .flat_map(|fact| alike(fact, fact + half))
+                .collect(),
+        };
+        bodies.iter().map(|body| body.to_vec()).collect()
+    }
+}
+
+/// So many facts that may stand or not, and constraints over these, or over their helpers, which
+/// stand with them and do not branch.
+pub fn few_left(choices: u16, left: Left, over_helpers: bool) -> Known {
+    let first = if over_helpers { 0 } else { choices };
+    let bodies = left.bodies(first, choices);
+    constrained(free(choices, 0, 2 * choices), &bodies)
+}
+
+/// By which constraints every state is banned.
+#[derive(Clone, Copy, Debug)]
+pub enum Ban {
+    /// One whose body is empty.
+    Empty,
+    /// Two by which the last branching fact may neither stand nor not.
+    Branching,
+    /// One over a fact that always stands and does not branch.
+    Standing,
+}
+
+/// So many facts that may stand or not, and no state.
+pub fn banned(choices: u16, ban: Ban) -> Known {
+    let (last, standing) = (2 * choices - 1, 2 * choices);
+    let bodies = match ban {
+        Ban::Empty => vec![vec![]],
+        Ban::Branching => vec![vec![plain(last)], vec![not(last)]],
+        Ban::Standing => vec![vec![plain(standing)]],
+    };
+    constrained(accompanied(free(choices, 0, 2 * choices)), &bodies)
+}
+
+/// The same book with constraints whose bodies hold in no state: a thousand, or as many as there is
+/// room for.
+fn idle(known: Known, mut body: impl FnMut() -> Vec<Literal>) -> Known {
+    let mut book = known.book;
+    for _ in 0..1_000.min(1_024 - book.rules.len()) {
+        book = book.never(known.layer, &body());
+    }
+    Known { book, ..known }
+}
+
+/// `pairs` with idle constraints of 16 literals, all of whose facts branch: each asks for both facts
+/// of a pair.
+pub fn idle_branching(rng: &mut Rng, choices: u16) -> Known {
+    let body = || {
+        let mut body: Vec<Literal> = (0..14)
+            .map(|_| Literal {
+                atom: rng.below((2 * choices).into()) as u16,
+                negated: rng.chance(50),
+            })
+            .collect();
+        let p = 2 * rng.below(choices.into()) as u16;
+        body.extend([plain(p), plain(p + 1)]);
+        body
+    };
+    idle(pairs(choices, 0), body)
+}
+
+/// A book with two facts more and idle constraints of 16 literals over these, which do not branch:
+/// all but the last literal hold in every state.
+pub fn idle_standing(rng: &mut Rng, known: Known) -> Known {
+    let known = spared(accompanied(known));
+    let (standing, never) = (known.book.atoms - 2, known.book.atoms - 1);
+    let body = || {
+        let mut body: Vec<Literal> = (0..15)
+            .map(|_| rng.pick(&[plain(standing), not(never)]))
+            .collect();
+        body.push(plain(never));
+        body
+    };
+    idle(known, body)
+}
+
 #[cfg(test)]
 pub(crate) mod tests {
     use super::*;
@@ -944,6 +1111,54 @@ pub(crate) mod tests {
                 assert_eq!(known.book.rules.len(), 1_024);
                 assert_known(&format!("seed {seed}, {what}"), &known);
             }
+        }
+    }
+
+    #[test]
+    fn oracle_confirms_what_constraints_leave() {
+        let seed = seed();
+        let mut rng = Rng::named(seed, "known, constraints");
+        for choices in 2..7 {
+            for over_helpers in [true, false] {
+                let left = |left| {
+                    let known = few_left(choices, left, over_helpers);
+                    assert_known(&format!("{left:?}, {choices} choices"), &known);
+                    known.count
+                };
+                assert_eq!(left(Left::AllAlike), 2);
+                assert_eq!(left(Left::AtMostOne), usize::from(choices) + 1);
+                // The last of an odd number is in no half.
+                assert_eq!(left(Left::HalvesAlike), 1 << choices.div_ceil(2));
+            }
+            for ban in [Ban::Empty, Ban::Branching, Ban::Standing] {
+                let known = banned(choices, ban);
+                assert_known(&format!("{ban:?}, {choices} choices"), &known);
+                assert_eq!(known.count, 0);
+            }
+        }
+        for count in 2..10 {
+            let bodies = [
+                vec![plain(0), not(1)],
+                vec![plain(9)],
+                vec![not(3), plain(2)],
+            ];
+            assert_known("constrained", &constrained(counted(count, 13), &bodies));
+        }
+        for choices in [1, 4, 6] {
+            let random = randomly_constrained(&mut rng, choices, 20 * usize::from(choices));
+            assert_known(&format!("seed {seed}, random constraints"), &random);
+        }
+        for choices in [1, 2, 5] {
+            let branching = idle_branching(&mut rng, choices);
+            assert_known(&format!("seed {seed}, idle, branching"), &branching);
+            let standing = idle_standing(&mut rng, pairs(choices, 0));
+            assert_known(&format!("seed {seed}, idle, standing"), &standing);
+            for known in [branching, standing] {
+                let constraints = known.book.rules.iter().filter(|rule| rule.is_constraint());
+                assert_eq!(constraints.count(), 1_000);
+            }
+            let free = idle_standing(&mut rng, free(choices, 0, 2 * choices));
+            assert_known(&format!("seed {seed}, idle, free"), &free);
         }
     }
 }

@@ -4,7 +4,7 @@
 
 use crate::book::{Arrow, Book, Rule};
 use crate::drive::Drive;
-use crate::oracle::{self, body_holds, leans_on_itself};
+use crate::oracle::{self, body_holds, leans_on_itself, Driven};
 
 #[derive(Clone, Copy, Debug, PartialEq, Eq)]
 pub enum Misreading {
@@ -60,11 +60,27 @@ pub enum Misreading {
     LeansByTheWholeBody,
     /// No rule of a layer displaces where one of them leans on itself.
     LeaningShutsItsLayer,
+    /// Constraints rule no state out.
+    ConstraintsIgnored,
+    /// A relevant rule of a later layer displaces a constraint where its body holds.
+    ConstraintsDisplaced,
+    /// Constraints of layers that are not relevant rule states out too.
+    ConstraintsOfEveryLayer,
+    /// Constraints of layers that are switched off do so too.
+    ConstraintsOfOffLayers,
+    /// Only the driven layer's constraints do.
+    ConstraintsOfTheDrivenLayer,
+    /// Constraints are tested on the setting of the branching facts, in which no other fact stands.
+    ConstraintsOnTheSetting,
+    /// A constraint's negated literals are passed over.
+    ConstraintsByPlainLiterals,
+    /// A constraint with an empty body rules nothing out.
+    EmptyConstraintsIgnored,
 }
 
 pub use Misreading::*;
 
-pub const EVERY: [Misreading; 26] = [
+pub const EVERY: [Misreading; 34] = [
     WithinALayer,
     UnrelatedLayers,
     LayersByNumber,
@@ -91,13 +107,24 @@ pub const EVERY: [Misreading; 26] = [
     LeansByTheFact,
     LeansByTheWholeBody,
     LeaningShutsItsLayer,
+    ConstraintsIgnored,
+    ConstraintsDisplaced,
+    ConstraintsOfEveryLayer,
+    ConstraintsOfOffLayers,
+    ConstraintsOfTheDrivenLayer,
+    ConstraintsOnTheSetting,
+    ConstraintsByPlainLiterals,
+    EmptyConstraintsIgnored,
 ];
 
 /// Those of the set of layers that are switched off.
 pub const OF_THE_SET: &[Misreading] = EVERY.split_at(22).0.split_at(14).1;
 
 /// Those of rules that lean on themselves.
-pub const OF_LEANING: &[Misreading] = EVERY.split_at(22).1;
+pub const OF_LEANING: &[Misreading] = EVERY.split_at(26).0.split_at(22).1;
+
+/// Those of constraints.
+pub const OF_CONSTRAINTS: &[Misreading] = EVERY.split_at(26).1;
 
 /// A drive of a book, misread.
 pub struct Misread {
@@ -108,6 +135,9 @@ pub struct Misread {
     rules: Vec<Rule>,
     /// Those that count but for the set.
     with_off: Vec<Rule>,
+    /// The constraints that rule states out.
+    constraints: Vec<Rule>,
+    branching: Vec<bool>,
 }
 
 impl Misread {
@@ -157,13 +187,51 @@ impl Misread {
         };
         let mut rules = with_off.clone();
         rules.retain(|rule| !off(rule));
+        let constraints = match misreading {
+            ConstraintsIgnored => Vec::new(),
+            ConstraintsOfEveryLayer => constraints(&book.rules, |rule| !off(rule)),
+            ConstraintsOfOffLayers => constraints(&with_off, |_| true),
+            ConstraintsOfTheDrivenLayer => {
+                constraints(&rules, |rule| usize::from(rule.layer) == layer)
+            }
+            EmptyConstraintsIgnored => constraints(&rules, |rule| !rule.body.is_empty()),
+            _ => constraints(&rules, |_| true),
+        };
+        rules.retain(|rule| !rule.is_constraint());
+        with_off.retain(|rule| !rule.is_constraint());
         Misread {
             misreading,
             atoms: usize::from(book.atoms),
             displaces,
             rules,
             with_off,
+            constraints,
+            branching: Driven::new(book, drive).branching(),
         }
+    }
+
+    /// Whether a constraint passes for one whose body holds.
+    fn bans(&self, constraint: &Rule, state: &[bool]) -> bool {
+        let stands = |atom: u16| {
+            let atom = usize::from(atom);
+            state[atom] && (self.misreading != ConstraintsOnTheSetting || self.branching[atom])
+        };
+        let passed_over = |negated| negated && self.misreading == ConstraintsByPlainLiterals;
+        let mut body = constraint.body.iter();
+        body.all(|at| passed_over(at.negated) || stands(at.atom) != at.negated)
+    }
+
+    fn forbidden(&self, state: &[bool]) -> bool {
+        let displaced = |constraint: &Rule| {
+            let above = &self.displaces[usize::from(constraint.layer)];
+            let mut above = self
+                .rules
+                .iter()
+                .filter(|rule| above[usize::from(rule.layer)]);
+            self.misreading == ConstraintsDisplaced && above.any(|rule| body_holds(rule, state))
+        };
+        let mut constraints = self.constraints.iter();
+        constraints.any(|constraint| self.bans(constraint, state) && !displaced(constraint))
     }
 
     /// Whether a rule passes for one that leans on itself.
@@ -197,6 +265,10 @@ impl Misread {
 
     /// Whether `state` passes for stable.
     pub fn stable(&self, state: &[bool]) -> bool {
+        !self.forbidden(state) && self.settled(state)
+    }
+
+    fn settled(&self, state: &[bool]) -> bool {
         let wrong = self.misreading;
         let live: Vec<&Rule> = self
             .rules
@@ -238,6 +310,12 @@ impl Misread {
                 _ => *name == [stands, !stands],
             })
     }
+}
+
+/// The constraints among the rules of which `counts` is true.
+fn constraints(rules: &[Rule], counts: impl Fn(&Rule) -> bool) -> Vec<Rule> {
+    let constraints = rules.iter().filter(|rule| rule.is_constraint());
+    constraints.filter(|rule| counts(rule)).cloned().collect()
 }
 
 /// `below` over such paths alone as have no layer between their ends that is switched off.

@@ -1,6 +1,7 @@
 //! Document 01's definitions by brute force, in its order and words, with the layers that document
-//! 02, (h) switches off and with the exception that (i) there makes, for small books: every state is
-//! tried. Nothing is clever here, and nothing is shared with the engine.
+//! 02, (h) switches off, with the exception that (i) there makes and with the states that (c) there
+//! rules out, for small books: every state is tried. Nothing is clever here, and nothing is shared
+//! with the engine.
 
 use crate::book::{Book, Literal, Rule};
 use crate::drive::Drive;
@@ -78,8 +79,11 @@ impl Least {
 pub struct Driven {
     atoms: usize,
     below: Vec<Vec<bool>>,
-    /// The relevant rules.
+    /// The relevant rules, but for the constraints: those displace nothing, are never displaced, reach
+    /// no name and make no fact branch.
     rules: Vec<Rule>,
+    /// The relevant constraints.
+    constraints: Vec<Rule>,
 }
 
 impl Driven {
@@ -88,10 +92,12 @@ impl Driven {
         let below = below(book);
         let mut rules = book.rules.clone();
         rules.retain(|rule| relevant(&below, rule, drive));
+        let (constraints, rules) = rules.into_iter().partition(Rule::is_constraint);
         Driven {
             atoms: usize::from(book.atoms),
             below,
             rules,
+            constraints,
         }
     }
 
@@ -153,11 +159,22 @@ impl Driven {
         }
     }
 
-    /// Whether `state` is a stable model (document 01: a stable state).
-    pub fn stable(&self, state: &[bool]) -> bool {
+    /// Whether document 01 alone would have `state` stable: exactly its names are reached.
+    fn settled(&self, state: &[bool]) -> bool {
         let least = self.least(state);
         (0..self.atoms)
             .all(|atom| least.positive[atom] == state[atom] && least.negative[atom] != state[atom])
+    }
+
+    /// Document 02, (c): whether the body of a relevant constraint holds in `state`.
+    pub fn forbidden(&self, state: &[bool]) -> bool {
+        let mut constraints = self.constraints.iter();
+        constraints.any(|constraint| body_holds(constraint, state))
+    }
+
+    /// Whether `state` is a stable model (documents 01 and 02: a stable state).
+    pub fn stable(&self, state: &[bool]) -> bool {
+        self.settled(state) && !self.forbidden(state)
     }
 
     /// The first ground for branching: whether each atom is negated in some body.
@@ -313,6 +330,32 @@ mod tests {
             assert!(!leans(head, &[]));
             assert!(!leans(head, &[head.opposite()]));
             assert!(!leans(head, &[other, other.opposite()]));
+        }
+    }
+
+    #[test]
+    fn constraints_take_states_away_and_make_no_fact_branch() {
+        let choice = Book::new(3, 1)
+            .rule(0, plain(0), &[not(1)])
+            .rule(0, plain(1), &[not(0)])
+            .rule(0, plain(2), &[plain(0)]);
+        let records = |book: &Book, off: u32| {
+            let driven = Driven::new(book, at(0).off(off));
+            let models = driven.stable_models();
+            let records: Vec<u8> = models.iter().map(|model| record(model)[0]).collect();
+            (records, driven.branching_count())
+        };
+        assert_eq!(records(&choice, 0), (vec![0x40, 0xA0], 2));
+        for (body, left) in [
+            (vec![], vec![]),
+            (vec![plain(2)], vec![0x40]),
+            (vec![not(2)], vec![0xA0]),
+            (vec![plain(0), not(2)], vec![0x40, 0xA0]),
+            (vec![plain(2), not(2)], vec![0x40, 0xA0]),
+        ] {
+            let book = choice.clone().never(0, &body);
+            assert_eq!(records(&book, 0), (left, 2), "{body:?}");
+            assert_eq!(records(&book, 1), (vec![0x00], 0), "{body:?}");
         }
     }
 

@@ -29,12 +29,17 @@ fn opposite(name: Name) -> usize {
     usize::from(name ^ 256)
 }
 
+/// A body in `Program::bodies`.
+#[derive(Clone, Copy)]
+struct Body {
+    from: u32,
+    to: u32,
+}
+
 /// A relevant rule.
 #[derive(Clone, Copy)]
 struct Row {
-    /// Its body in `Program::bodies`.
-    from: u32,
-    to: u32,
+    body: Body,
     head: Name,
     layer: u8,
     /// Bit i: layer i is below the rule's and has a relevant rule with the opposite head. None where
@@ -48,6 +53,8 @@ pub struct Program {
     rows: Vec<Row>,
     /// Those that can displace others.
     rejecting: Vec<Row>,
+    /// The bodies of the relevant constraints.
+    bans: Vec<Body>,
     bodies: Vec<Name>,
 }
 
@@ -56,25 +63,29 @@ impl Program {
         let below = below(book);
         let relevant = (below[drive.layer as usize] | 1 << drive.layer) & !drive.off;
         let mut rows = Vec::with_capacity(usize::from(book.rules.count));
-        let mut bodies = Vec::new();
+        let (mut bans, mut bodies) = (Vec::new(), Vec::new());
         let mut layers_of = [0u32; NAMES];
-        for rule in book.rules.records() {
-            if relevant >> rule[0] & 1 == 1 {
-                let from = bodies.len() as u32;
-                bodies.extend(rule[3..].chunks_exact(2).map(name));
-                let head = name(&rule[1..3]);
-                layers_of[usize::from(head)] |= 1 << rule[0];
-                rows.push(Row {
-                    from,
-                    to: bodies.len() as u32,
-                    head,
-                    layer: rule[0],
-                    under: 0,
-                });
+        let counts = |rule: &&[u8]| relevant >> rule[0] & 1 == 1;
+        for rule in book.rules.records().filter(counts) {
+            let from = bodies.len() as u32;
+            bodies.extend(rule[3..].chunks_exact(2).map(name));
+            let to = bodies.len() as u32;
+            let body = Body { from, to };
+            if reader::is_falsity(&rule[1..3]) {
+                bans.push(body);
+                continue;
             }
+            let head = name(&rule[1..3]);
+            layers_of[usize::from(head)] |= 1 << rule[0];
+            rows.push(Row {
+                body,
+                head,
+                layer: rule[0],
+                under: 0,
+            });
         }
         for row in &mut rows {
-            let body = &bodies[row.from as usize..row.to as usize];
+            let body = &bodies[row.body.from as usize..row.body.to as usize];
             if !body.contains(&row.head) {
                 row.under = layers_of[opposite(row.head)] & below[usize::from(row.layer)];
             }
@@ -84,25 +95,26 @@ impl Program {
             atoms: usize::from(book.atoms),
             rejecting: rejecting.collect(),
             rows,
+            bans,
             bodies,
         }
     }
 
-    fn body(&self, row: &Row) -> &[Name] {
-        &self.bodies[row.from as usize..row.to as usize]
+    fn body(&self, body: Body) -> &[Name] {
+        &self.bodies[body.from as usize..body.to as usize]
     }
 
     /// Whether all of the body is among `names`.
-    fn within(&self, row: &Row, names: &Names) -> bool {
+    fn within(&self, body: Body, names: &Names) -> bool {
         let among = |&name: &Name| names[usize::from(name) % NAMES];
-        self.body(row).iter().all(among)
+        self.body(body).iter().all(among)
     }
 
     /// Bit i of entry h: rules of layer i with head h are displaced.
     fn displaced(&self, state: &Names) -> [u32; NAMES] {
         let mut displaced = [0; NAMES];
         for row in &self.rejecting {
-            if self.within(row, state) {
+            if self.within(row.body, state) {
                 displaced[opposite(row.head)] |= row.under;
             }
         }
@@ -113,7 +125,7 @@ impl Program {
         let mut defaults = NO_NAMES;
         defaults[256..256 + self.atoms].fill(true);
         for row in &self.rows {
-            if row.head < 256 && defaults[opposite(row.head)] && self.within(row, state) {
+            if row.head < 256 && defaults[opposite(row.head)] && self.within(row.body, state) {
                 defaults[opposite(row.head)] = false;
             }
         }
@@ -128,7 +140,7 @@ impl Program {
                 let head = usize::from(row.head) % NAMES;
                 if !reached[head]
                     && displaced[head] >> row.layer & 1 == 0
-                    && self.within(row, reached)
+                    && self.within(row.body, reached)
                 {
                     if reached[opposite(row.head)] {
                         return false;
@@ -146,14 +158,16 @@ impl Program {
     /// Whether `state`, which has one name of each fact, is a stable model.
     fn stable(&self, state: &Names) -> bool {
         let mut reached = self.defaults(state);
-        self.fill(&self.displaced(state), &mut reached) && reached == *state
+        self.fill(&self.displaced(state), &mut reached)
+            && reached == *state
+            && !self.bans.iter().any(|&ban| self.within(ban, state))
     }
 
     /// The branching facts, falling, or cause 12.
     fn branching(&self) -> Result<Vec<Name>, u64> {
         let mut branching = [false; 256];
         for row in &self.rows {
-            for &name in self.body(row) {
+            for &name in self.body(row.body) {
                 if name >= 256 || row.under != 0 {
                     branching[usize::from(name % 256)] = true;
                 }
@@ -417,9 +431,10 @@ mod tests {
         let seed = seed();
         let mut rng = Rng::named(seed, "plain tester");
         let mut stable = 0;
-        for turn in 0..1_500 {
-            let book = match turn % 3 {
+        for turn in 0..2_000 {
+            let book = match turn % 4 {
                 0 => shapes::leaning(&mut rng, Layering::Diamond),
+                1 => shapes::constrained(&mut rng, Layering::Chain),
                 _ => shapes::choices(&mut rng),
             };
             let bytes = book.bytes();
@@ -448,10 +463,11 @@ mod tests {
         let seed = seed();
         let mut rng = Rng::named(seed, "plain search");
         let mut several = 0;
-        for turn in 0..3_000 {
-            let book = match turn % 3 {
+        for turn in 0..4_000 {
+            let book = match turn % 4 {
                 0 => shapes::choices(&mut rng),
                 1 => shapes::leaning(&mut rng, Layering::Any),
+                2 => shapes::constrained(&mut rng, Layering::Any),
                 _ => shapes::layered(&mut rng, Layering::Any),
             };
             let bytes = book.bytes();

@@ -1,5 +1,5 @@
-//! An independent reader of books, written from document 01 alone: the first of causes 1 to 8,
-//! or the book. It allocates nothing to find the cause and is the benchmark's yardstick too.
+//! An independent reader of books, written from documents 01 and 02 alone: the first of causes 1 to
+//! 8, or the book. It allocates nothing to find the cause and is the benchmark's yardstick too.
 
 use crate::book::{Arrow, Book, Literal, Rule};
 
@@ -125,16 +125,18 @@ fn out_of_range(book: &Parts) -> bool {
         || book.rules.count > MAX_RULES
 }
 
-/// Cause 6.
+/// Cause 6. Of all numbers that are no fact's, document 02, (c) lets one through, as a head.
 fn bad_record(book: &Parts) -> bool {
     let lawful_literal = |literal: &[u8]| be16(literal) & 0x7FFF < book.atoms;
+    let lawful_head = |head: &[u8]| is_falsity(head) || lawful_literal(head);
     let lawful_arrow =
         |contents: &[u8]| contents.len() == 2 && contents.iter().all(|&layer| layer < book.layers);
     let lawful_rule = |contents: &[u8]| {
         contents.len() % 2 == 1
             && (3..=3 + 2 * MAX_BODY).contains(&contents.len())
             && contents[0] < book.layers
-            && contents[1..].chunks_exact(2).all(lawful_literal)
+            && lawful_head(&contents[1..3])
+            && contents[3..].chunks_exact(2).all(lawful_literal)
     };
     !(book.arrows.records().all(lawful_arrow) && book.rules.records().all(lawful_rule))
 }
@@ -188,6 +190,11 @@ fn literal(bytes: &[u8]) -> Literal {
         atom: number & 0x7FFF,
         negated: number & 0x8000 != 0,
     }
+}
+
+/// Whether a head is that of a constraint: the plain 32,767, and not 65,535.
+pub(crate) fn is_falsity(head: &[u8]) -> bool {
+    be16(head) == 32_767
 }
 
 fn be16(bytes: &[u8]) -> u16 {

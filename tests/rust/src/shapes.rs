@@ -1,6 +1,8 @@
 //! Books of every shape, lawful and not. The same generator state gives the same book.
 
-use crate::book::{framed, not, plain, set_length, Arrow, Book, Draft, Literal, Rule, Section};
+use crate::book::{
+    framed, not, plain, set_length, Arrow, Book, Draft, Literal, Rule, Section, FALSITY,
+};
 use crate::drive::{all_layers, at, Drive};
 use crate::reader;
 use crate::rng::Rng;
@@ -70,6 +72,8 @@ struct Sizes {
     body: (usize, usize),
     /// How many heads of a hundred are negated.
     negated_heads: usize,
+    /// How many rules of a hundred are constraints.
+    constraints: usize,
 }
 
 /// A lawful book. The layers stand in a hidden order, and all arrows follow it. Equal rules and
@@ -108,7 +112,10 @@ fn rule(rng: &mut Rng, sizes: &Sizes) -> Rule {
     let (fewest, most) = sizes.body;
     Rule {
         layer: rng.below(sizes.layers) as u8,
-        head: literal(rng, sizes.atoms, sizes.negated_heads),
+        head: match rng.chance(sizes.constraints) {
+            true => FALSITY,
+            false => literal(rng, sizes.atoms, sizes.negated_heads),
+        },
         body: (0..rng.range(fewest, most))
             .map(|_| literal(rng, sizes.atoms, 50))
             .collect(),
@@ -136,6 +143,7 @@ pub fn small(rng: &mut Rng) -> Book {
         rules: rng.range(0, 12),
         body: rng.pick(&[(0, 0), (0, 1), (0, 2), (0, 4), (1, 1), (1, 2), (1, 3)]),
         negated_heads: rng.pick(&[0, 10, 30, 50]),
+        constraints: rng.pick(&[0, 0, 10, 25]),
     };
     lawful(rng, sizes)
 }
@@ -150,6 +158,7 @@ pub fn choices(rng: &mut Rng) -> Book {
         rules: rng.range(0, 5),
         body: (1, 3),
         negated_heads: rng.pick(&[0, 20, 50]),
+        constraints: rng.pick(&[0, 0, 40]),
     };
     let mut book = lawful(rng, sizes);
     for _ in 0..rng.range(1, 4) {
@@ -229,7 +238,8 @@ fn lie(rng: &mut Rng, layering: Layering) -> (usize, Vec<(usize, usize)>) {
 
 /// A small lawful book whose layers lie as asked, under numbers that do not give the order away.
 /// It is made of what the definition of a stable state is about: conflicts in one layer and
-/// across layers, rules that lean on themselves or on each other, and choices.
+/// across layers, rules that lean on themselves or on each other, and choices; and in two of five
+/// books, constraints.
 pub fn layered(rng: &mut Rng, layering: Layering) -> Book {
     let (layers, arrows) = lie(rng, layering);
     let order = hidden_order(rng, layers);
@@ -250,13 +260,14 @@ pub fn layered(rng: &mut Rng, layering: Layering) -> Book {
         rules: 0,
         body: (0, 3),
         negated_heads: rng.pick(&[10, 30, 50]),
+        constraints: 0,
     };
     for _ in 0..rng.range(0, 4) {
         let rule = rule(rng, &sizes);
         book.rules.push(rule);
     }
-    rng.shuffle(&mut book.rules);
-    book
+    let constraints = rng.pick(&[0, 0, 0, 1, 2]);
+    with_constraints(rng, book, constraints)
 }
 
 /// The same with a raised share of rules that lean on themselves. Each says what some rule of the book
@@ -268,7 +279,7 @@ pub fn leaning(rng: &mut Rng, layering: Layering) -> Book {
     let mut book = layered(rng, layering);
     let atoms = usize::from(book.atoms);
     for _ in 0..rng.range(1, 5) {
-        let about = book.rules[rng.below(book.rules.len())].clone();
+        let about = any_rule(rng, &book);
         let head = match rng.chance(75) {
             true => about.head.opposite(),
             false => about.head,
@@ -283,7 +294,7 @@ pub fn leaning(rng: &mut Rng, layering: Layering) -> Book {
         for _ in 0..rng.below(3) {
             others.push(match rng.chance(50) {
                 true => literal(rng, atoms, 50),
-                false => book.rules[rng.below(book.rules.len())].head,
+                false => any_rule(rng, &book).head,
             });
         }
         let mut body = others.clone();
@@ -347,8 +358,66 @@ pub fn crowded(rng: &mut Rng, layering: Layering) -> Book {
             }
         };
     }
+    let constraints = rng.pick(&[0, 0, 0, 1, 2]);
+    with_constraints(rng, book, constraints)
+}
+
+/// A small lawful book with constraints. In many of them one is about a fact that follows another, and
+/// so need not branch.
+pub fn constrained(rng: &mut Rng, layering: Layering) -> Book {
+    let mut book = match rng.chance(50) {
+        true => layered(rng, layering),
+        false => crowded(rng, layering),
+    };
+    if book.atoms < 8 && rng.chance(70) {
+        let followed = any_rule(rng, &book);
+        let follower = Literal {
+            atom: book.atoms,
+            negated: rng.chance(50),
+        };
+        book.atoms += 1;
+        book = book
+            .rule(followed.layer, plain(follower.atom), &[followed.head])
+            .never(followed.layer, &[follower]);
+    }
+    let number = rng.range(1, 3);
+    with_constraints(rng, book, number)
+}
+
+/// The same book with so many constraints more, of any layers, and its rules in another order. It must
+/// have a rule that is no constraint. The bodies are about what the rules say; some are empty, some hold
+/// nowhere, and some are those of the constraint before.
+fn with_constraints(rng: &mut Rng, mut book: Book, number: usize) -> Book {
+    let mut body: Vec<Literal> = Vec::new();
+    for _ in 0..number {
+        if body.is_empty() || rng.chance(90) {
+            body = (0..rng.range(1, 3))
+                .map(|_| match rng.chance(60) {
+                    true => any_rule(rng, &book).head,
+                    false => literal(rng, book.atoms.into(), 50),
+                })
+                .collect();
+        }
+        match rng.below(20) {
+            0 => body.clear(),
+            1 => body.extend(body.first().map(|literal| literal.opposite())),
+            _ => {}
+        }
+        let layer = rng.below(book.layers.into()) as u8;
+        book = book.never(layer, &body);
+    }
     rng.shuffle(&mut book.rules);
     book
+}
+
+/// A rule that is no constraint. The book must have one.
+fn any_rule(rng: &mut Rng, book: &Book) -> Rule {
+    loop {
+        let rule = &book.rules[rng.below(book.rules.len())];
+        if !rule.is_constraint() {
+            return rule.clone();
+        }
+    }
 }
 
 /// A fact that may stand or not, h, and one that stands with it: a quarrel about f, h as it follows f,
@@ -472,12 +541,22 @@ pub fn planted(rng: &mut Rng) -> Planted {
         rules: rng.range(0, 1024),
         body: (0, rng.pick(&[1, 3, 16])),
         negated_heads: 50,
+        constraints: rng.pick(&[0, 10, 50]),
     };
     plant(rng, &sizes)
 }
 
 /// The same in the largest lawful book, with 1,024 rules of 16 literals.
 pub fn planted_largest(rng: &mut Rng) -> Planted {
+    plant_largest(rng, 0)
+}
+
+/// The same with constraints for most of the rules that the state does not need.
+pub fn planted_constrained(rng: &mut Rng) -> Planted {
+    plant_largest(rng, 80)
+}
+
+fn plant_largest(rng: &mut Rng, constraints: usize) -> Planted {
     let sizes = Sizes {
         atoms: 256,
         layers: 32,
@@ -485,14 +564,15 @@ pub fn planted_largest(rng: &mut Rng) -> Planted {
         rules: 1024,
         body: (16, 16),
         negated_heads: 50,
+        constraints,
     };
     plant(rng, &sizes)
 }
 
 /// Each fact that stands has a rule over facts that come before it in a hidden order. Some rules
 /// say the opposite of the state, under a layer that displaces them; and the body of every other
-/// rule that could contradict the state does not hold in it. There are no more rules than asked
-/// for, but for those that the state needs.
+/// rule that could contradict the state, or rule it out, does not hold in it. There are no more rules
+/// than asked for, but for those that the state needs.
 fn plant(rng: &mut Rng, sizes: &Sizes) -> Planted {
     let order = hidden_order(rng, sizes.layers);
     let mut book = Book::new(sizes.atoms as u16, sizes.layers as u8);
@@ -528,7 +608,7 @@ fn plant(rng: &mut Rng, sizes: &Sizes) -> Planted {
     }
     while book.rules.len() < sizes.rules {
         let mut rule = rule(rng, sizes);
-        if rule.head != right(rule.head.atom) {
+        if rule.is_constraint() || rule.head != right(rule.head.atom) {
             if rule.body.is_empty() {
                 continue;
             }
@@ -592,6 +672,7 @@ pub fn large(rng: &mut Rng) -> Book {
         rules: rng.range(0, 1024),
         body: (0, 16),
         negated_heads: 50,
+        constraints: rng.pick(&[0, 10, 50]),
     };
     lawful(rng, sizes)
 }
@@ -606,6 +687,7 @@ pub fn largest(rng: &mut Rng) -> Book {
         rules: 1024,
         body: (16, 16),
         negated_heads: 50,
+        constraints: 0,
     };
     let mut book = lawful(rng, sizes);
     let order = hidden_order(rng, 32);
@@ -775,6 +857,31 @@ pub fn unlawful_records(rng: &mut Rng) -> Vec<u8> {
     draft.bytes()
 }
 
+/// Heads and body literals around the last numbers, of which one is a lawful head.
+pub fn odd_literals(rng: &mut Rng) -> Vec<u8> {
+    let book = eventful(rng);
+    let mut draft = book.draft();
+    for _ in 0..rng.range(1, 2) {
+        let at = rng.below(draft.rules.records.len());
+        let record = &mut draft.rules.records[at];
+        let number = match rng.chance(50) {
+            true => 0x7FFF,
+            false => rng.pick(&[book.atoms - 1, book.atoms, 0x7FFE, 0xFFFE, 0xFFFF]),
+        };
+        // Mostly the head.
+        let literals = (record.len() - 2) / 2;
+        let place = rng.below(literals) * rng.below(2);
+        put_literal(record, place, number);
+    }
+    draft.bytes()
+}
+
+/// Puts a literal into a rule's record: 0 is the head's place.
+fn put_literal(record: &mut [u8], place: usize, number: u16) {
+    let at = 2 + 2 * place;
+    record[at..at + 2].copy_from_slice(&number.to_be_bytes());
+}
+
 /// Sections of random records behind a lawful or nearly lawful head.
 pub fn random_records(rng: &mut Rng) -> Vec<u8> {
     let mut section = |lengths: &[usize]| {
@@ -823,7 +930,7 @@ pub fn several_causes(rng: &mut Rng) -> Vec<u8> {
 /// A name for messages, and a generator.
 pub type Shape = (&'static str, fn(&mut Rng) -> Vec<u8>);
 
-pub const EVERY_SHAPE: [Shape; 15] = [
+pub const EVERY_SHAPE: [Shape; 16] = [
     ("small lawful", small_lawful),
     ("large lawful", large_lawful),
     ("arrow graphs", arrow_graphs),
@@ -836,6 +943,7 @@ pub const EVERY_SHAPE: [Shape; 15] = [
     ("wrong counts", wrong_counts),
     ("odd ranges", odd_ranges),
     ("unlawful records", unlawful_records),
+    ("odd literals", odd_literals),
     ("random records", random_records),
     ("noise", noise),
     ("several causes", several_causes),
@@ -1031,10 +1139,11 @@ fn break_a_record(rng: &mut Rng, book: &Book, draft: &mut Draft) {
     match rng.below(3) {
         0 => record[1] = layer,
         1 => {
-            let atom = rng.pick(&[book.atoms, book.atoms + 1, 256, 0x7FFF]);
-            let sign = rng.pick(&[0, 0x8000]);
-            let at = 2 + 2 * rng.below((record.len() - 2) / 2);
-            record[at..at + 2].copy_from_slice(&(atom | sign).to_be_bytes());
+            let atom = rng.pick(&[book.atoms, book.atoms + 1, 256, 0x7FFE, 0x7FFF]);
+            let place = rng.below((record.len() - 2) / 2);
+            // Of these, the plain 32,767 alone is a lawful head.
+            let negated = rng.chance(50) || (place == 0 && atom == 0x7FFF);
+            put_literal(record, place, atom | u16::from(negated) << 15);
         }
         _ => {
             *record = framed(&vec![

@@ -1,7 +1,7 @@
 //! How often the fault trial tried what: its table, and the checks that it tried enough.
 
 use crate::causes::{ANSWERS, IN_ORDER};
-use crate::inputs::{Input, CALLS};
+use crate::inputs::{Input, Question, CALLS};
 
 /// The slices of the calls, in the order of `Tally::nulls`.
 const SLICES: [&str; 8] = [
@@ -16,7 +16,7 @@ const SLICES: [&str; 8] = [
 ];
 
 /// Answers that a call is granted with, in the order of `Tally::granted`.
-const GRANTED: [&str; 8] = [
+const GRANTED: [&str; 10] = [
     "test yes",
     "test no",
     "list none",
@@ -25,6 +25,8 @@ const GRANTED: [&str; 8] = [
     "place some",
     "place every",
     "layers off",
+    "constraints",
+    "test no by a constraint alone",
 ];
 
 #[derive(Default)]
@@ -36,7 +38,7 @@ pub struct Tally {
     /// For each call and each cause, 0 for none: the questions, each counted once however often
     /// it was put.
     answers: [[u64; ANSWERS]; 5],
-    granted: [u64; 8],
+    granted: [u64; 10],
     /// Slices lent as NULL with length 0.
     nulls: [u64; 8],
     /// Slices lent at each remainder of their address by 8: books, then candidates and buffers.
@@ -52,8 +54,12 @@ impl Tally {
         for (question, wanted) in &input.questions {
             let cause = (wanted.answer & 0xFF) as usize;
             self.answers[question.call()][cause] += 1;
-            if cause == 0 && question.call() != 0 && input.drive.off != 0 {
-                self.granted[7] += 1;
+            if cause == 0 && question.call() != 0 {
+                self.granted[7] += u64::from(input.drive.off != 0);
+                self.granted[8] += u64::from(input.has_constraints());
+            }
+            if let Question::Test { candidate } = question {
+                self.granted[9] += u64::from(input.forbids(candidate));
             }
             let upper = wanted.answer >> 16;
             let kind = match question.call() {
