@@ -7,7 +7,7 @@ use lesson_tests::causes::{fields, ANSWERS};
 use lesson_tests::drive::Drive;
 use lesson_tests::expected::{self, branching, counts, place_of, yes_or_no, NO_STABLE_STATE};
 use lesson_tests::ffi;
-use lesson_tests::known::{self, Known, EVERY_FOLLOWING};
+use lesson_tests::known::{self, Known, Left, EVERY_FOLLOWING};
 use lesson_tests::oracle::{self, Driven};
 use lesson_tests::orders::{Order, Ordered};
 use lesson_tests::rng::{seed, Rng};
@@ -163,9 +163,17 @@ fn every_call_in_books_with_any_arrows_is_the_oracles_and_the_engines() {
 
 #[test]
 fn every_call_in_books_with_leaning_rules_is_the_oracles_and_the_engines() {
-    sweep("bit sets, leaning", 3_500, |rng| {
+    sweep("bit sets, leaning", 5_000, |rng| {
         let layering = rng.pick(&[Layering::Chain, Layering::Diamond, Layering::Any]);
         shapes::leaning(rng, layering)
+    });
+}
+
+#[test]
+fn every_call_in_books_with_constraints_is_the_oracles_and_the_engines() {
+    sweep("bit sets, constraints", 2_500, |rng| {
+        let layering = rng.pick(&[Layering::Chain, Layering::Diamond, Layering::Any]);
+        shapes::constrained(rng, layering)
     });
 }
 
@@ -238,6 +246,16 @@ fn known_states_of_larger_books_are_found_by_both() {
     assert_known(&format!("seed {seed}, busy"), &known::busy(&mut rng, 7));
     let leaning = known::leaning(&mut rng, 5);
     assert_known(&format!("seed {seed}, leaning"), &leaning);
+    for constraints in [3, 40, 900] {
+        let random = known::randomly_constrained(&mut rng, 5, constraints);
+        assert_known(&format!("seed {seed}, random constraints"), &random);
+    }
+    for over_helpers in [true, false] {
+        for left in [Left::AllAlike, Left::AtMostOne, Left::HalvesAlike] {
+            let few_left = known::few_left(6, left, over_helpers);
+            assert_known(&format!("{left:?}"), &few_left);
+        }
+    }
     assert_known("worst order", &known::chained(2));
     for (what, known) in known::every_slow(&mut rng, 1) {
         assert_known(&format!("seed {seed}, {what}"), &known);
@@ -293,7 +311,8 @@ fn any_bytes_are_refused_by_both_with_the_same_cause() {
             tally[(placed & 0xFF) as usize] += 1;
         }
     }
-    println!("seed {seed}, bit sets, any bytes: 4500 books, answers 0 to 19: {tally:?}");
+    let books = 300 * shapes::EVERY_SHAPE.len();
+    println!("seed {seed}, bit sets, any bytes: {books} books, answers 0 to 19: {tally:?}");
     for cause in [0, 1, 2, 3, 4, 5, 6, 7, 8, 9, 11, 12, 19] {
         assert!(tally[cause] >= 10, "{cause} is rare: {tally:?}");
     }

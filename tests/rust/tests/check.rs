@@ -1,6 +1,6 @@
 //! `lesson_check` of the compiled archive against the reader and against document 01's numbers.
 
-use lesson_tests::book::{framed, hex, not, plain, set_length, Book, Draft};
+use lesson_tests::book::{framed, hex, not, plain, set_length, Book, Draft, FALSITY};
 use lesson_tests::ffi;
 use lesson_tests::reader;
 use lesson_tests::rng::{seed, Rng};
@@ -110,6 +110,12 @@ fn engine_and_reader_agree_on_fields_around_their_ranges() {
 fn unlawful_records_are_refused() {
     let tally = agree("unlawful records", 50_000, shapes::unlawful_records);
     assert_eq!(tally[6], 50_000);
+}
+
+#[test]
+fn engine_and_reader_agree_on_numbers_that_are_no_facts() {
+    let tally = agree("odd literals", 50_000, shapes::odd_literals);
+    assert_reached(tally, &[0, 6], 10_000);
 }
 
 #[test]
@@ -252,12 +258,16 @@ fn layers_and_facts_of_records_stay_below_the_books() {
         }
     }
     for facts in [1, 2, 255, 256] {
-        for fact in [0, 1, 2, 254, 255, 256, 257, 511, 512, 0x4000, 0x7FFF] {
+        for fact in [
+            0, 1, 2, 254, 255, 256, 257, 511, 512, 0x4000, 0x7FFE, 0x7FFF,
+        ] {
             let cause = if fact < facts { 0 } else { 6 };
             for literal in [plain(fact), not(fact)] {
                 let book = Book::new(facts, 1);
                 let bodies = [[literal, plain(0)], [not(0), literal]];
-                assert_cause("head", &book.clone().rule(0, literal, &[]).bytes(), cause);
+                let of_the_head = if literal == FALSITY { 0 } else { cause };
+                let head = book.clone().rule(0, literal, &[]);
+                assert_cause("head", &head.bytes(), of_the_head);
                 for body in bodies {
                     let rule = book.clone().rule(0, plain(0), &body);
                     assert_cause("body", &rule.bytes(), cause);

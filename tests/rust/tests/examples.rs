@@ -1,6 +1,6 @@
 //! The shipped books in `examples/`: that they are what their texts say, and that the files of
-//! expected output follow from document 01, by the independent reader, oracle and search. The gate
-//! compares the same files with what the engine does.
+//! expected output follow from documents 01 and 02, by the independent reader, oracle and search. The
+//! gate compares the same files with what the engine does.
 
 use lesson_tests::book::{Book, Literal};
 use lesson_tests::drive::at;
@@ -93,6 +93,10 @@ fn book_of(text: &str) -> Book {
                 negated: false,
             },
         };
+        let literals = |body: &str| -> Vec<Literal> {
+            let body = body.split(',').filter(|words| !words.trim().is_empty());
+            body.map(literal).collect()
+        };
         let (keyword, rest) = line.split_once(' ').unwrap_or((line, ""));
         match keyword {
             "" => {}
@@ -105,9 +109,11 @@ fn book_of(text: &str) -> Book {
             "rule" => {
                 let (name, rule) = rest.split_once(':').expect("a layer");
                 let (head, body) = rule.split_once(" if ").unwrap_or((rule, ""));
-                let body = body.split(',').filter(|words| !words.trim().is_empty());
-                let body: Vec<Literal> = body.map(literal).collect();
-                book = book.rule(layer(name), literal(head), &body);
+                book = book.rule(layer(name), literal(head), &literals(body));
+            }
+            "never" => {
+                let (name, body) = rest.split_once(':').expect("a layer");
+                book = book.never(layer(name), &literals(body));
             }
             _ => panic!("{line}"),
         }
@@ -137,7 +143,7 @@ fn shipped_books_are_what_their_texts_say() {
 }
 
 #[test]
-fn shipped_states_are_those_of_document_01() {
+fn shipped_states_are_those_of_documents_01_and_02() {
     for name in names(".book") {
         let (book, bytes) = shipped(&name);
         let states = states(&book, &bytes);
@@ -193,6 +199,9 @@ fn shipped_books_show_what_they_are_for() {
         states(&book, &bytes).len()
     };
     assert_eq!(count("stalled-tram"), 1);
+    // By the rules alone there is a second one, in which points 3 lie left and signal 14 is clear.
+    let by_rules = Driven::new(&shipped("stalled-tram").0.without_constraints(), at(3));
+    assert_eq!(by_rules.stable_models().len(), 2);
     // Three tracks, section 9 occupied or free, two directions; but not track 3 to the town while
     // section 9 is occupied.
     assert_eq!(count("depot-exit"), 3 * 2 * 2 - 1);

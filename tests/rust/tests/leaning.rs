@@ -5,8 +5,10 @@
 
 use lesson_tests::book::{hex, not, plain, Book, Literal, Rule};
 use lesson_tests::drive::{at, Drive};
-use lesson_tests::every_call::{assert_as_the_oracle, assert_states, assert_trap, sets, states};
-use lesson_tests::expected::{branching, yes_or_no, TOO_MANY_BRANCHING};
+use lesson_tests::every_call::{
+    assert_as_the_oracle, assert_known_book, assert_states, assert_trap, states,
+};
+use lesson_tests::expected::{yes_or_no, TOO_MANY_BRANCHING};
 use lesson_tests::ffi;
 use lesson_tests::known;
 use lesson_tests::listed::{assert_outcome, outcome};
@@ -15,6 +17,7 @@ use lesson_tests::oracle::{self, leans_on_itself, Driven};
 use lesson_tests::plain as plain_rust;
 use lesson_tests::rng::{seed, Rng};
 use lesson_tests::shapes::{self, Layering};
+use lesson_tests::sweep::{self, many_sets, two_sets};
 
 const P: u16 = 0;
 const Q: u16 = 1;
@@ -331,33 +334,22 @@ fn sweep(
     layerings: &[Layering],
     sets: impl Fn(&mut Rng, u8) -> Vec<u32>,
 ) -> Tally {
-    let seed = seed();
-    let mut rng = Rng::named(seed, shape);
     let mut tally = Tally::default();
-    for index in 0..number {
+    let generate = |rng: &mut Rng| {
         let layering = rng.pick(layerings);
-        let book = shapes::leaning(&mut rng, layering);
-        let what = format!("seed {seed}, {shape}, book {index}");
-        for layer in 0..book.layers {
-            for off in sets(&mut rng, book.layers) {
-                let drive = Drive::from(layer).off(off);
-                let answer = assert_as_the_oracle(&what, &book, drive);
-                tally.count(&book, drive, answer);
-            }
-        }
-    }
-    println!("seed {seed}, {shape}: {number} books, {tally:?}");
+        shapes::leaning(rng, layering)
+    };
+    let tried = sweep::drives(shape, number, generate, sets, |what, book, drive| {
+        let answer = assert_as_the_oracle(what, book, drive);
+        tally.count(book, drive, answer);
+    });
+    println!("{tried}, {tally:?}");
     tally
-}
-
-/// No layer off, and some.
-fn two_sets(rng: &mut Rng, layers: u8) -> Vec<u32> {
-    vec![0, shapes::some_layers(rng, layers)]
 }
 
 #[test]
 fn leaning_rules_of_books_in_chains_are_read_as_by_the_oracle() {
-    let tally = sweep("leaning, chains", 1_500, &[Layering::Chain], two_sets);
+    let tally = sweep("leaning, chains", 2_500, &[Layering::Chain], two_sets);
     tally.assert_telling(5);
 }
 
@@ -382,7 +374,7 @@ fn leaning_rules_of_books_with_any_arrows_are_read_as_by_the_oracle() {
 #[test]
 fn leaning_rules_under_every_set_are_read_as_by_the_oracle() {
     let layerings = [Layering::Chain, Layering::Diamond, Layering::Any];
-    let tally = sweep("leaning, every set", 500, &layerings, sets);
+    let tally = sweep("leaning, every set", 500, &layerings, many_sets);
     tally.assert_telling(0);
 }
 
@@ -457,20 +449,7 @@ fn free_facts_under_many_leaning_rules_stay_free() {
     let mut rng = Rng::named(seed, "leaning, many");
     for choices in [1, 4, 9] {
         let known = known::leaning(&mut rng, choices);
-        let (bytes, drive) = (known.book.bytes(), known.layer.into());
-        let what = format!("seed {seed}, {choices} choices");
-        let listing = known.listing();
-        for length in [listing.len() + 3, listing.len(), listing.len() - 1] {
-            let buffer = rng.bytes(length);
-            let expected = outcome(&listing, known.answer(), &buffer);
-            assert_outcome(&what, &bytes, drive, &buffer, &expected);
-        }
-        let (answer, one) = ffi::one(&bytes, drive, &[7; 32]);
-        assert_eq!(answer, branching(known.branching), "{what}");
-        assert!(known.has(&one), "{what}: {}", hex(&one));
-        for (fact, place) in (0..).zip(known.places()) {
-            assert_eq!(ffi::place(&bytes, drive, fact), place, "{what}, {fact}");
-        }
+        assert_known_book(&format!("seed {seed}, {choices} choices"), &known);
     }
 }
 

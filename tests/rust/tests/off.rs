@@ -5,7 +5,8 @@
 use lesson_tests::book::{hex, not, plain, Book, Literal};
 use lesson_tests::drive::{all_layers, at, Drive};
 use lesson_tests::every_call::{
-    assert_as_the_oracle, assert_known, assert_states, assert_trap, sets, states, FILLER, ROOM,
+    assert_as_the_oracle, assert_known, assert_refused, assert_states, assert_trap, states, FILLER,
+    ROOM,
 };
 use lesson_tests::expected::{branching, counts, place_of, yes_or_no};
 use lesson_tests::ffi;
@@ -16,6 +17,7 @@ use lesson_tests::oracle::{self, Driven};
 use lesson_tests::plain as plain_rust;
 use lesson_tests::rng::{seed, Rng};
 use lesson_tests::shapes::{self, Layering, NO_LAYERS};
+use lesson_tests::sweep::{self, many_sets};
 
 const P: u16 = 0;
 const Q: u16 = 1;
@@ -56,21 +58,12 @@ impl Tally {
 /// Compares all calls with the oracle at every layer of `number` books, under every set of the small
 /// ones.
 fn sweep(shape: &str, number: usize, generate: impl Fn(&mut Rng) -> Book) -> Tally {
-    let seed = seed();
-    let mut rng = Rng::named(seed, shape);
     let mut tally = Tally::default();
-    for index in 0..number {
-        let book = generate(&mut rng);
-        let what = format!("seed {seed}, {shape}, book {index}");
-        for layer in 0..book.layers {
-            for off in sets(&mut rng, book.layers) {
-                let drive = Drive::from(layer).off(off);
-                let answer = assert_as_the_oracle(&what, &book, drive);
-                tally.count(&book, drive, answer);
-            }
-        }
-    }
-    println!("seed {seed}, {shape}: {number} books, {tally:?}");
+    let tried = sweep::drives(shape, number, generate, many_sets, |what, book, drive| {
+        let answer = assert_as_the_oracle(what, book, drive);
+        tally.count(book, drive, answer);
+    });
+    println!("{tried}, {tally:?}");
     tally
 }
 
@@ -346,23 +339,6 @@ fn edge_sets(layers: u8) -> Vec<u32> {
     ];
     sets.extend((0..32).map(|bit| 1 << bit));
     sets
-}
-
-/// All calls are refused, and leave every byte.
-fn assert_refused(what: &str, bytes: &[u8], drive: Drive, cause: u64) {
-    let buffers: [&[u8]; 3] = [&[], &[FILLER; 1], &[FILLER; 40]];
-    for buffer in buffers {
-        let refused = (cause, buffer.to_vec());
-        assert_outcome(what, bytes, drive, buffer, &refused);
-        let one = ffi::one(bytes, drive, buffer);
-        assert_eq!(one, refused, "{what}, {drive}\n{}", hex(bytes));
-        let test = ffi::test(bytes, drive, buffer);
-        assert_eq!(test, cause, "{what}, {drive}\n{}", hex(bytes));
-    }
-    for fact in [0, 5, 256, u32::MAX] {
-        let place = ffi::place(bytes, drive, fact);
-        assert_eq!(place, cause, "{what}, {drive}\n{}", hex(bytes));
-    }
 }
 
 /// In each layer another state is stable, unless the layer is off.

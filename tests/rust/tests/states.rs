@@ -1,7 +1,7 @@
 //! Runs of the program `states`: what it prints for a book on its standard input. LESSON_STATES
 //! names the program, and else it is the one that the repository's build leaves in `target/bin`.
 
-use lesson_tests::book::{framed, hex, not, plain, Book};
+use lesson_tests::book::{framed, hex, not, plain, Book, FALSITY};
 use lesson_tests::expected;
 use lesson_tests::known::{self, EVERY_FOLLOWING};
 use lesson_tests::oracle;
@@ -143,6 +143,25 @@ fn a_book_without_states_has_one_line() {
     assert_printed("p, not p, and above them p if p", &book.bytes(), line);
 }
 
+/// The last layer's constraint rules out one of two states, an empty one both, and another layer's none;
+/// and 65,535 is no head.
+#[test]
+fn states_that_must_never_be_are_not_printed() {
+    let choice = Book::new(2, 2)
+        .rule(1, plain(0), &[not(1)])
+        .rule(1, plain(1), &[not(0)]);
+    for (book, lines) in [
+        (choice.clone().never(1, &[plain(0)]), "1 branching 2\n01\n"),
+        (choice.clone().never(1, &[]), "0 branching 2\n"),
+        (choice.clone().never(0, &[]), "2 branching 2\n01\n10\n"),
+    ] {
+        let lines = format!("facts 2 models {lines}");
+        assert_printed("a constraint", &book.bytes(), &lines);
+    }
+    let negated = choice.rule(1, FALSITY.opposite(), &[]);
+    assert_printed("head 65,535", &negated.bytes(), "refused 6\n");
+}
+
 #[test]
 fn states_are_printed_in_the_order_of_the_listing() {
     let book = Book::new(9, 1)
@@ -268,6 +287,7 @@ fn random_books_are_printed_as_the_oracle_lists_them() {
     for _ in 0..150 {
         books.push(shapes::crowded(&mut rng, Layering::Any).bytes());
         books.push(shapes::layered(&mut rng, Layering::Diamond).bytes());
+        books.push(shapes::constrained(&mut rng, Layering::Chain).bytes());
     }
     for (_, generate) in shapes::EVERY_SHAPE {
         let mut some: Vec<Vec<u8>> = (0..20).map(|_| generate(&mut rng)).collect();
