@@ -28,12 +28,18 @@
  * bit 0 being the lowest, and it is 1 where the fact stands. The bits that are
  * left over in the last byte are 0.
  *
+ * A rule of a book may have 32,767 for its head, the bytes 7F FF. It is then a
+ * constraint: its body must never hold. It reaches no fact, displaces no rule, is
+ * not displaced and makes no fact branch, but where it counts at the driven layer,
+ * a state in which its body holds is not stable. An empty body always holds, and
+ * then there is no stable state.
+ *
  * Layers can be switched off for one drive. Every call on a driven layer takes a
  * set of them, `off`: where bit i is 1, bit 0 being the lowest, the rules of layer
- * i do not count in this call. The order of the layers stays, so what lies beyond
- * such a layer keeps its rank, and the driven layer may be off too. 0 switches
- * nothing off. The book's own layers are meant: in a book of L layers the bits
- * from L on must be 0. The book itself is not altered.
+ * i, its constraints too, do not count in this call. The order of the layers
+ * stays, so what lies beyond such a layer keeps its rank, and the driven layer may
+ * be off too. 0 switches nothing off. The book's own layers are meant: in a book
+ * of L layers the bits from L on must be 0. The book itself is not altered.
  *
  * Every call answers with one 64-bit number. Its low byte is 0 where the call
  * is granted, and the bits above it carry what the answer carries. Where the
@@ -58,7 +64,8 @@ enum lesson_cause_number {
                                        their number is not the count, or bytes follow the rule section */
     LESSON_OUT_OF_RANGE = 5,        /* book: facts, layers or a count outside its range */
     LESSON_BAD_RECORD = 6,          /* book: a record's length not of its kind, or a layer or a fact
-                                       that the book does not have */
+                                       that the book does not have; a rule's head may be 32,767,
+                                       but not 65,535, and a body has neither */
     LESSON_REPEATED_ARROW = 7,      /* book: two equal arrows */
     LESSON_CYCLE = 8,               /* book: the arrows lead from a layer back to itself */
     LESSON_NO_SUCH_LAYER = 9,       /* driven layer that the book does not have */
@@ -76,10 +83,10 @@ enum lesson_cause_number {
  * linker that binds memcpy or memset at its first call. */
 enum lesson_stack_bytes {
     LESSON_CHECK_STACK = 1024,
-    LESSON_TEST_STACK = 30720,
-    LESSON_LIST_STACK = 79872,
-    LESSON_ONE_STACK = 79872,
-    LESSON_PLACE_STACK = 79872
+    LESSON_TEST_STACK = 34816,
+    LESSON_LIST_STACK = 83968,
+    LESSON_ONE_STACK = 83968,
+    LESSON_PLACE_STACK = 83968
 };
 
 /* The cause that an answer names; LESSON_GRANTED where there is none. */

@@ -1,4 +1,5 @@
-/* Checks lesson_check from C, through the header: accepted books, each refusal and NULL. */
+/* Checks lesson_check from C, through the header: accepted books, each refusal, the heads around that of
+ * a constraint, and NULL. */
 #include "host.h"
 
 static void expect(const char *what, const uint8_t *book, size_t length, uint64_t expected)
@@ -35,6 +36,14 @@ int main(void)
     expect_edited("33 layers", 7, "\x21", 1, LESSON_OUT_OF_RANGE);
     expect_edited("a rule of layer 4 of 4", 33, "\x04", 1, LESSON_BAD_RECORD);
     expect_edited("fact 3 of 3", 41, "\x03", 1, LESSON_BAD_RECORD);
+    expect("a constraint is accepted", never_p, sizeof never_p, LESSON_GRANTED);
+    expect_edited("head 32,767 is accepted", 44, "\x7F\xFF", 2, LESSON_GRANTED);
+    expect_edited("head 32,766", 44, "\x7F\xFE", 2, LESSON_BAD_RECORD);
+    expect_edited("head 65,535", 44, "\xFF\xFF", 2, LESSON_BAD_RECORD);
+    expect_edited("head 65,534", 44, "\xFF\xFE", 2, LESSON_BAD_RECORD);
+    expect_edited("32,767 in a body", 46, "\x7F\xFF", 2, LESSON_BAD_RECORD);
+    expect_edited("65,535 in a body", 46, "\xFF\xFF", 2, LESSON_BAD_RECORD);
+    expect_edited("32,767 in a constraint's body", 44, "\x7F\xFF\x7F\xFF", 4, LESSON_BAD_RECORD);
     expect_edited("two equal arrows", 18, "\x00\x01", 2, LESSON_REPEATED_ARROW);
     expect_edited("an arrow from a layer to itself", 24, "\x02\x02", 2, LESSON_CYCLE);
     expect_edited("arrows in a circle", 24, "\x03\x00", 2, LESSON_CYCLE);

@@ -1,4 +1,5 @@
-/* What the C test hosts share: document 01's book B, the smallest book, and a count of checks. */
+/* What the C test hosts share: document 01's book B, the smallest book, one with a constraint, and a
+ * count of checks. */
 #ifndef HOST_H
 #define HOST_H
 
@@ -20,6 +21,16 @@ static const uint8_t B[48] = {
 
 /* One fact, one layer, no records. */
 static const uint8_t smallest[20] = {1, 0, 0, 0, 20, 0, 1, 1};
+
+/* "p if not q" and "q if not p", and a constraint: never p. */
+static const uint8_t never_p[38] = {
+    1, 0, 0, 0, 38, 0, 2, 1, /* head: 2 facts, 1 layer */
+    0, 0, 0, 0, 0, 0,        /* at 8: no arrows */
+    0, 0, 0, 18, 0, 3,       /* at 14: rule section */
+    5, 0, 0, 0, 0x80, 1,     /* at 20: p if not q */
+    5, 0, 0, 1, 0x80, 0,     /* at 26: q if not p */
+    5, 0, 0x7F, 0xFF, 0, 0   /* at 32: 32,767 if p */
+};
 
 static unsigned passed, failed;
 

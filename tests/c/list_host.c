@@ -1,5 +1,5 @@
-/* Checks lesson_list from C, through the header: listings of B and of two books with a rule that leans
- * on itself, what a refusal leaves, and NULL. */
+/* Checks lesson_list from C, through the header: listings of B, of two books with a rule that leans on
+ * itself and of one with a constraint, what a refusal leaves, and NULL. */
 #include "host.h"
 
 #define NOISE 0xA5
@@ -75,6 +75,10 @@ int main(void)
     expect_buffer("  and its listing", "\x01\0\0\0\x0B\0\x01\0\0\0\0", 11);
     expect("p, above it not p if not p", denied, sizeof denied, 1, 0, 40, counts(1, 1));
     expect_buffer("  and its listing", "\x01\0\0\0\x0C\0\x01\0\0\0\x01\x80", 12);
+    expect("p or q, but never p", never_p, sizeof never_p, 0, 0, 40, counts(2, 1));
+    expect_buffer("  and its listing", "\x01\0\0\0\x0C\0\x02\0\0\0\x01\x40", 12);
+    expect("the same, its layer being off", never_p, sizeof never_p, 0, 1, 40, counts(0, 1));
+    expect_buffer("  and its listing", "\x01\0\0\0\x0C\0\x02\0\0\0\x01\0", 12);
     expect_refused("B at 3 in 11 bytes", B, sizeof B, 3, 0, 11, LESSON_BUFFER_TOO_SHORT);
     expect_refused("B at 4", B, sizeof B, 4, 0, 40, LESSON_NO_SUCH_LAYER);
     expect_refused("layer before buffer", B, sizeof B, UINT32_MAX, 0, 0, LESSON_NO_SUCH_LAYER);

@@ -1,4 +1,5 @@
-/* Checks lesson_one from C, through the header: B's states, what a refusal leaves, and NULL. */
+/* Checks lesson_one from C, through the header: B's states, that of a book with a constraint, what a
+ * refusal leaves, and NULL. */
 #include "host.h"
 
 #define NOISE 0xA5
@@ -9,6 +10,14 @@ static const uint8_t without[26] = {
     0x00, 0x00, 0x00, 0x00, 0x00, 0x00,             /* no arrows */
     0x00, 0x00, 0x00, 0x06, 0x00, 0x01,             /* at 14: rule section */
     0x05, 0x00, 0x00, 0x00, 0x80, 0x00              /* at 20 */
+};
+
+/* A constraint with an empty body: no stable state either. */
+static const uint8_t never[24] = {
+    0x01, 0x00, 0x00, 0x00, 0x18, 0x00, 0x01, 0x01, /* head: 1 fact, 1 layer */
+    0x00, 0x00, 0x00, 0x00, 0x00, 0x00,             /* no arrows */
+    0x00, 0x00, 0x00, 0x04, 0x00, 0x01,             /* at 14: rule section */
+    0x03, 0x00, 0x7F, 0xFF                          /* at 20 */
 };
 
 static uint8_t buffer[8];
@@ -38,6 +47,10 @@ int main(void)
     expect("B at 2, which is off", B, sizeof B, 2, 4, 8, 1 << 8, 0x80);
     expect("B at 3, all off", B, sizeof B, 3, 15, 1, 0, 0x00);
     expect("no state but for a set", without, sizeof without, 0, 1, 8, 0, 0x00);
+    expect("p or q, but never p", never_p, sizeof never_p, 0, 0, 8, 2 << 8, 0x40);
+    expect("the same, its layer being off", never_p, sizeof never_p, 0, 1, 8, 0, 0x00);
+    expect("never anything", never, sizeof never, 0, 0, 8, LESSON_NO_STABLE_STATE, NOISE);
+    expect("the same, its layer being off", never, sizeof never, 0, 1, 8, 0, 0x00);
     expect("B in no bytes", B, sizeof B, 3, 0, 0, LESSON_BUFFER_TOO_SHORT, NOISE);
     expect("no state", without, sizeof without, 0, 0, 8, LESSON_NO_STABLE_STATE, NOISE);
     expect("no state in no bytes", without, sizeof without, 0, 0, 0, LESSON_BUFFER_TOO_SHORT,

@@ -1,4 +1,5 @@
-/* Checks lesson_place from C, through the header: each place, each kind of refusal and NULL. */
+/* Checks lesson_place from C, through the header: each place, those in a book with a constraint, each kind
+ * of refusal and NULL. */
 #include "host.h"
 
 /* "p if not q" and "q if not p", and r. */
@@ -48,6 +49,8 @@ int main(void)
     expect_place("a in B at 3, layer 1 off", B, sizeof B, 3, 2, 0, 2, LESSON_IN_EVERY);
     expect_place("c in B at 3, layer 1 off", B, sizeof B, 3, 2, 2, 2, LESSON_IN_NONE);
     expect_place("a in B at 0, which is off", B, sizeof B, 0, 1, 0, 0, LESSON_IN_NONE);
+    expect_place("p, which must never be", never_p, sizeof never_p, 0, 0, 0, 2, LESSON_IN_NONE);
+    expect_place("q instead", never_p, sizeof never_p, 0, 0, 1, 2, LESSON_IN_EVERY);
     expect_refused("no state", without, sizeof without, 0, 0, 0, LESSON_NO_STABLE_STATE);
     expect_refused("fact 3 of 3", B, sizeof B, 3, 0, 3, LESSON_NO_SUCH_FACT);
     expect_refused("fact 2^32 - 1", B, sizeof B, 3, 0, UINT32_MAX, LESSON_NO_SUCH_FACT);

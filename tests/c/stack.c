@@ -14,6 +14,8 @@
 #define BODY 16
 #define LARGEST_BOOK 38372
 #define NOT 0x8000u
+/* The head of a constraint. */
+#define FALSITY 0x7FFFu
 /* A fact that branches and stands in no state. */
 #define NEVER 100u
 /* The first of the facts that stand with the free ones. */
@@ -162,11 +164,11 @@ static void put_arrows(void)
 /*
  * The largest book. So many facts branch from layer 1 on, and NEVER is the first of them; the last
  * `free_facts` may stand or not, and the others never stand. At layer 1 few rules are relevant, at
- * layer 31 all of them.
+ * layer 31 all of them. Those from layer 2 on are constraints or not, and their bodies never hold.
  */
-static void put_largest(size_t branching, size_t free_facts)
+static void put_largest(size_t branching, size_t free_facts, bool constraints)
 {
-    size_t fact;
+    size_t fact, head;
 
     end = rules = 0;
     put(1, 1);
@@ -180,8 +182,10 @@ static void put_largest(size_t branching, size_t free_facts)
         put_rule(0, FACTS - 1, NOT | (NEVER + fact), FACTS - 1);
     for (; fact < branching; fact++)
         put_free(NEVER + fact, HELPERS + fact, fact);
-    while (rules < RULES)
-        put_rule(2 + rules % (LAYERS - 2), 150 + rules % 100, NOT | NEVER, 150 + rules % 50);
+    while (rules < RULES) {
+        head = constraints ? FALSITY : 150 + rules % 100;
+        put_rule(2 + rules % (LAYERS - 2), head, NOT | NEVER, 150 + rules % 50);
+    }
 }
 
 static void lend(const uint8_t *bytes, size_t length, uint32_t layer, uint32_t off, uint32_t fact,
@@ -241,18 +245,18 @@ static uint64_t counts(uint64_t branching, uint64_t states)
 /* The largest books. Where 20 facts branch and all rules are relevant, only what ends early. */
 static void measure_largest(void)
 {
-    put_largest(21, 1);
+    put_largest(21, 1, false);
     expect_true("21 branching facts: list",
                 measure_every(book, end, 31, 0, NEVER, 32) == LESSON_TOO_MANY_BRANCHING);
-    put_largest(10, 2);
+    put_largest(10, 2, false);
     expect_true("10 branching facts, 1,024 rules: list",
                 measure_every(book, end, 31, 0, NEVER, 32) == counts(10, 4));
-    put_largest(11, 10);
+    put_largest(11, 10, false);
     expect_true("11 branching facts, 10 of them free: list",
                 measure_every(book, end, 1, 0, NEVER, 32) == counts(11, 1024));
     expect_true("the same at layer 31, with layers 2 to 31 off: list",
                 measure_every(book, end, 31, ~3u, NEVER, 32) == counts(11, 1024));
-    put_largest(20, 1);
+    put_largest(20, 1, false);
     expect_true("20 branching facts: list",
                 measure_every(book, end, 1, 0, NEVER + 19, 32) == counts(20, 2));
     lend(book, end, 31, 0, NEVER + 19, sizeof buffer);
@@ -262,6 +266,26 @@ static void measure_largest(void)
     expect_true("20 branching facts, 1,024 rules: test", lesson_is_stable(measure(TEST)));
     expect_true("20 branching facts, 1,024 rules: place",
                 measure(PLACE) == counts(20, LESSON_IN_SOME));
+}
+
+/* The same with constraints: alone, beside few rules, and where 20 facts branch. */
+static void measure_constraints(void)
+{
+    put_largest(0, 0, true);
+    expect_true("1,024 constraints and no rule: list",
+                measure_every(book, end, 31, 0, NEVER, 32) == counts(0, 1));
+    put_largest(11, 10, true);
+    expect_true("11 branching facts, 1,024 rules and constraints: list",
+                measure_every(book, end, 31, 0, NEVER, 32) == counts(11, 1024));
+    put_largest(20, 1, true);
+    lend(book, end, 31, 0, NEVER + 19, sizeof buffer);
+    expect_true("20 branching facts and constraints: check", measure(CHECK) == LESSON_GRANTED);
+    expect_true("20 branching facts and constraints: one", measure(ONE) == counts(20, 0));
+    asked.lent = 32;
+    expect_true("20 branching facts and constraints: test", lesson_is_stable(measure(TEST)));
+    expect_true("20 branching facts and constraints: place",
+                measure(PLACE) == counts(20, LESSON_IN_SOME));
+    measure_every(never_p, sizeof never_p, 0, 0, 0, 1);
 }
 
 static void expect_figure(enum call call, size_t figure)
@@ -292,6 +316,7 @@ int main(void)
     measure_every(smallest, sizeof smallest, 0, 0, 0, 1);
     measure_refusals();
     measure_largest();
+    measure_constraints();
     expect_figure(CHECK, LESSON_CHECK_STACK);
     expect_figure(TEST, LESSON_TEST_STACK);
     expect_figure(LIST, LESSON_LIST_STACK);

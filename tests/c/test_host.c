@@ -1,4 +1,5 @@
-/* Checks lesson_test from C, through the header: B's states, each kind of refusal and NULL. */
+/* Checks lesson_test from C, through the header: B's states, those of a book with a constraint, each kind
+ * of refusal and NULL. */
 #include "host.h"
 
 #define YES ((uint64_t)1 << 16)
@@ -42,6 +43,10 @@ int main(void)
     expect_only("B at 3, all off", 3, 15, 0x00);
     expect("the smallest book", smallest, sizeof smallest, 0, 0, "\x00", 1, YES);
     expect("the smallest book, its fact standing", smallest, sizeof smallest, 0, 0, "\x80", 1, NO);
+    expect("p, which must never be", never_p, sizeof never_p, 0, 0, "\x80", 1, NO);
+    expect("q, beside a constraint", never_p, sizeof never_p, 0, 0, "\x40", 1, YES);
+    expect("neither", never_p, sizeof never_p, 0, 0, "\x00", 1, NO);
+    expect("neither, its layer being off", never_p, sizeof never_p, 0, 1, "\x00", 1, YES);
     expect("no book", NULL, 0, 0, 0, "\x00", 1, LESSON_TOO_SHORT);
     expect("nothing at all", NULL, 0, UINT32_MAX, 0, NULL, 0, LESSON_TOO_SHORT);
     expect("B without its last byte", B, sizeof B - 1, 3, 0, "\x20", 1, LESSON_WRONG_LENGTH);
