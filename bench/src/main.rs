@@ -1,15 +1,18 @@
 //! Times the calls of the archive beside two Rust programs, on the same books in one run, and prints
-//! one table in Markdown. `plain` makes the same search in the same forms: one pass to count, one to
-//! write, passes over all rules. `bitset` is free of the forms and tries every setting once.
+//! tables in Markdown. `plain` makes the same search in the same forms: one pass to count, one to
+//! write, passes over all rules. `bitset` is free of the forms and tries every setting once. Books with
+//! constraints have a second table, with clingo too where it is installed.
 //!
-//! Run it with `cargo run --release`; with `-- --full` the books that take long come too, and with
-//! `-- --only WORD` only the rows that have the word in their name. Two other tables come alone: with
-//! `-- --opening` the one of how long books open, and with `-- --orders` the one of listings whose
-//! records come in every order, where `--limit SECONDS` leaves out an archive that would take longer.
-//! Where LESSON_BEFORE_DIR names a folder with another liblesson.a, every row times that one too;
-//! `before` says which arguments its calls take.
+//! Run it with `cargo run --release`; with `-- --full` the books that take long come too, with
+//! `-- --only WORD` only the rows that have the word in their name, and with `-- --constraints` the
+//! second table alone. Two others come alone: with `-- --opening` the one of how long books open, and
+//! with `-- --orders` the one of listings whose records come in every order, where `--limit SECONDS`
+//! leaves out an archive that would take longer. Where LESSON_BEFORE_DIR names a folder with another
+//! liblesson.a, every row times that one too; `before` says which arguments its calls take.
 
 mod before;
+mod clingo;
+mod constraints;
 mod opening;
 mod orders;
 
@@ -45,18 +48,21 @@ enum Program {
     Bits,
     /// The second archive.
     Before,
+    Clingo,
 }
 
-/// Those that the engine is compared with: their columns in order, and the digits that a ratio has
-/// behind its point.
-const OPPONENTS: &[(Program, &str, usize)] = &[
+/// A program that the engine is compared with, the name of its column, and the digits that a ratio
+/// has behind its point.
+type Opponent = (Program, &'static str, usize);
+
+const OPPONENTS: &[Opponent] = &[
     (Program::Plain, "plain Rust", 2),
     (Program::Bits, "bit sets", 1),
     (Program::Before, "before", 2),
 ];
 
 /// The same without the second archive where there is none.
-fn opponents() -> &'static [(Program, &'static str, usize)] {
+fn opponents() -> &'static [Opponent] {
     match before::LINKED {
         true => OPPONENTS,
         false => &OPPONENTS[..2],
@@ -70,6 +76,7 @@ impl Program {
         match self {
             Program::Engine => ffi::answer(Some(book), drive, call),
             Program::Before => before::answer(book, drive, call),
+            Program::Clingo => clingo::answer(book, layer, call),
             Program::Plain => match call {
                 Call::Check => reader::first_cause(book).into(),
                 Call::Test(candidate) => plain::test(book, drive, candidate.unwrap_or_default()),
@@ -84,6 +91,14 @@ impl Program {
                 Call::One(buffer) => bitset::one(book, drive, buffer.unwrap_or_default()),
                 Call::Place(fact) => bitset::place(book, drive, fact),
             },
+        }
+    }
+
+    /// What it has to answer where the engine has to answer so: clingo knows no g.
+    fn expected(self, answer: u64) -> u64 {
+        match self {
+            Program::Clingo => answer & !0xFF00,
+            _ => answer,
         }
     }
 }
@@ -145,28 +160,47 @@ struct Asked<'a> {
     candidate: &'a [u8],
     /// The length of a buffer that the call may write.
     buffer: usize,
-    /// One call of each program, and none of the plain one, which would take far longer.
-    once: bool,
 }
 
-/// The table: of all rows those that have a word in their name.
+/// A table: of all rows those that have a word in their name.
+#[derive(Clone)]
 struct Table {
     word: String,
+    opponents: Vec<Opponent>,
+    /// One round of each program, and none of the plain one, which would take far longer.
+    once: bool,
 }
 
 /// In the names of books whose states document 02 moved: an older archive answers otherwise.
 const MOVED: &str = "lean on themselves";
 
+/// In the names of books with constraints, which an archive from before document 02, (c) refuses.
+const CONSTRAINTS: &str = "constraints";
+
+/// Whether the second archive is to answer as the engine does.
+fn before_agrees(name: &str, book: &[u8]) -> bool {
+    let checked = || before::answer(book, at(0), Call::Check) == 0;
+    !name.contains(MOVED) && (!name.contains(CONSTRAINTS) || checked())
+}
+
 impl Table {
+    /// The same table, with rows of one round each.
+    fn once(&self) -> Table {
+        Table {
+            once: true,
+            ..self.clone()
+        }
+    }
+
     fn head(&self) {
         println!("Time of a call, best of {FEWEST} to {MOST} rounds, seed {SEED}.");
-        println!("Rows without plain Rust are of one call each.\n");
-        let columns = opponents().iter();
+        println!("Rows without plain Rust are of one round each.\n");
+        let columns = self.opponents.iter();
         let columns: String = columns
             .map(|(_, name, _)| format!(" {name} | ratio |"))
             .collect();
         println!("| Call and book | bytes | engine |{columns}");
-        println!("{}|", "|---".repeat(3 + 2 * opponents().len()));
+        println!("{}|", "|---".repeat(3 + 2 * self.opponents.len()));
     }
 
     /// Prints a row, and gives the buffers that the programs wrote. `call` is made of the candidate
@@ -175,32 +209,33 @@ impl Table {
     where
         F: for<'b> Fn(&'b [u8], &'b mut [u8]) -> Call<'b>,
     {
-        let Asked {
-            name, book, once, ..
-        } = asked;
+        let Asked { name, book, .. } = asked;
         if !name.contains(&self.word) {
             return Vec::new();
         }
         let mut programs = vec![Program::Engine];
-        programs.extend(opponents().iter().map(|&(program, ..)| program));
-        programs.retain(|&program| !once || program != Program::Plain);
-        programs.retain(|&program| !name.contains(MOVED) || program != Program::Before);
+        programs.extend(self.opponents.iter().map(|&(program, ..)| program));
+        programs.retain(|&program| match program {
+            Program::Plain => !self.once,
+            Program::Before => before_agrees(&name, book),
+            _ => true,
+        });
         let buffers = (0..).map(|filler| vec![filler; asked.buffer]);
         let mut buffers: Vec<Vec<u8>> = buffers.take(programs.len()).collect();
         let mut run = |at: usize| {
             let call = call(asked.candidate, &mut buffers[at]);
             let given = programs[at].answer(black_box(book), asked.layer, call);
-            assert_eq!(given, asked.answer, "{name}");
+            assert_eq!(given, programs[at].expected(asked.answer), "{name}");
         };
-        let times = match once {
+        let times = match self.once {
             true => (0..programs.len())
-                .map(|at| time(1, &mut || run(at)))
+                .map(|at| enough(&mut || run(at)).1)
                 .collect(),
             false => best_rounds(programs.len(), &mut run),
         };
         let engine = times[0];
         print!("| {name} | {} | {} |", book.len(), shown(engine));
-        for &(opponent, _, digits) in opponents() {
+        for &(opponent, _, digits) in &self.opponents {
             match programs.iter().position(|&program| program == opponent) {
                 Some(at) => print!(" {} | {:.digits$} |", shown(times[at]), engine / times[at]),
                 None => print!(" - | - |"),
@@ -235,22 +270,12 @@ impl Table {
 
     /// A row for a listing. All write the same bytes.
     fn list(&self, name: &str, known: &Known) {
-        self.listing(name, known, false);
-    }
-
-    /// A row for a listing that may take a minute.
-    fn long_list(&self, name: &str, known: &Known) {
-        self.listing(name, known, true);
-    }
-
-    fn listing(&self, name: &str, known: &Known, once: bool) {
         let asked = Asked {
             name: format!("list, {name}, g = {}, k = {}", known.branching, known.count),
             book: &known.book.bytes(),
             layer: known.layer.into(),
             answer: known.answer(),
             buffer: 11 + known.count * usize::from(known.book.atoms).div_ceil(8),
-            once,
             ..Asked::default()
         };
         let listings = self.row(asked, |_, buffer| Call::List(Some(buffer)));
@@ -292,6 +317,13 @@ impl Table {
             ..Asked::default()
         };
         self.row(asked, |_, _| Call::Place(fact.into()));
+    }
+
+    /// A row for each call that searches. The place is that of the last fact.
+    fn every_search(&self, name: &str, known: &Known) {
+        self.list(name, known);
+        self.one(name, known);
+        self.place(name, known, known.book.atoms - 1);
     }
 }
 
@@ -427,22 +459,41 @@ fn worst_books(table: &Table) {
 /// The same kinds of books at g = 20: what the longest calls take, measured.
 fn longest_searches(table: &Table) {
     use Ending::{Doubtful, Stable, Unstable};
+    let table = &table.once();
     let rng = &mut rng("longest");
-    table.long_list("slowest, stable", &known::slowest(rng, 19, Stable));
-    table.long_list("slowest, doubtful", &known::slowest(rng, 17, Doubtful));
-    table.long_list("slowest, unstable", &known::slowest(rng, 17, Unstable));
-    table.long_list("ring, stable", &known::ring(rng, 19, Stable));
-    table.long_list("both ways, stable", &known::both_ways(rng, 19, Stable));
-    table.long_list("blocks, stable", &known::blocks(rng, 19, Stable));
-    table.long_list("blocks, doubtful", &known::blocks(rng, 17, Doubtful));
+    table.list("slowest, stable", &known::slowest(rng, 19, Stable));
+    table.list("slowest, doubtful", &known::slowest(rng, 17, Doubtful));
+    table.list("slowest, unstable", &known::slowest(rng, 17, Unstable));
+    table.list("ring, stable", &known::ring(rng, 19, Stable));
+    table.list("both ways, stable", &known::both_ways(rng, 19, Stable));
+    table.list("blocks, stable", &known::blocks(rng, 19, Stable));
+    table.list("blocks, doubtful", &known::blocks(rng, 17, Doubtful));
     let displaced = known::displaced(19, 200, Stable);
-    table.long_list("displaced, and a chain, stable", &displaced);
-    table.long_list("worst order for filling", &known::chained(19));
+    table.list("displaced, and a chain, stable", &displaced);
+    table.list("worst order for filling", &known::chained(19));
+}
+
+/// The standing table.
+fn standing(word: String, full: bool) {
+    let table = &Table {
+        word,
+        opponents: opponents().to_vec(),
+        once: false,
+    };
+    table.head();
+    checks_and_tests(table);
+    searches(table);
+    growth(table, if full { 20 } else { 15 });
+    if full {
+        long_searches(table);
+        worst_books(table);
+        longest_searches(table);
+    }
 }
 
 fn main() {
     let (mut full, mut orders, mut limit) = (false, false, orders::LIMIT);
-    let mut word = String::new();
+    let (mut word, mut constraints_only) = (String::new(), false);
     let mut options = env::args().skip(1);
     while let Some(option) = options.next() {
         let mut value = || {
@@ -453,25 +504,21 @@ fn main() {
         match option.as_str() {
             "--full" => full = true,
             "--only" => word = value(),
+            "--constraints" => constraints_only = true,
             "--opening" => return opening::table(),
             "--orders" => orders = true,
             "--limit" => limit = value().parse().expect("--limit takes seconds"),
             other => panic!(
-                "{other}: the options are --full, --only WORD, --opening, --orders and --limit SECONDS"
+                "{other}: the options are --full, --only WORD, --constraints, --opening, --orders and --limit SECONDS"
             ),
         }
     }
     if orders {
         return orders::table(word, limit);
     }
-    let table = &Table { word };
-    table.head();
-    checks_and_tests(table);
-    searches(table);
-    growth(table, if full { 20 } else { 15 });
-    if full {
-        long_searches(table);
-        worst_books(table);
-        longest_searches(table);
+    if !constraints_only {
+        standing(word.clone(), full);
+        println!();
     }
+    constraints::table(word, full);
 }
