@@ -1,9 +1,9 @@
 -- The bounds of document 01, each named once. Assumes nothing.
-use Prim.Native.Nat.{ℕ, _+_, _*_, _/_}
+use Prim.Native.Nat.{ℕ, _+_, _*_, _/_, _^_}
 
 -- facts of a book
 abbrev pub maxAtoms : ℕ
-maxAtoms = 256
+maxAtoms = 1024
 
 -- "f" and "not f" of each fact
 abbrev pub maxNames : ℕ
@@ -29,3 +29,7 @@ maxBody = 16
 -- branching facts that a search goes through
 abbrev pub maxBranching : ℕ
 maxBranching = 20
+
+-- bytes of a listing: its head, and a record for each setting of the branching facts
+abbrev pub maxListing : ℕ
+maxListing = 11 + 2 ^ maxBranching * maxRecord

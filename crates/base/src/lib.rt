@@ -2,7 +2,7 @@
 ghost use mathlib.Core.Path.{_≡_};
 ghost use Prim.Native.Nat.{_<_};
 
-pub const MAX_ATOMS: usize = 256;
+pub const MAX_ATOMS: usize = 1024;
 
 pub const MAX_NAMES: usize = 2 * MAX_ATOMS;
 

@@ -12,7 +12,7 @@ use borrow.Author.Tests.{ltb-false}
 use lib.Dec.{T, ltb}
 use lib.ListN.{length, getD, take, drop, length-map, length-drop}
 use lib.Seq.{take-at, drop-drop, take-append-le, drop-append-le}
-use Rattle.base.specs.Bounds.{maxAtoms, maxBranching}
+use Rattle.base.specs.Bounds.{maxAtoms, maxBranching, maxListing}
 use Rattle.base.specs.Lists.{flat}
 use Rattle.base.proofs.Members.{_∈_, filter-from, filter-into}
 use Rattle.base.proofs.Rising.{Rising, filter-rising}
@@ -226,8 +226,8 @@ module _ (c : Call) (k g : ℕ) (w : Told c k g) where
   size-is : 11 + length (stableModels P) * recordSize (P .atoms) ≡ 11 + k * recordSize (facts c)
   size-is = ap₂ (λ (x n : ℕ). 11 + x * recordSize n) (sym (w .count)) atoms-facts
 
-  size-fits : k * recordSize (facts c) ≤ 33554432
-  size-fits = records-fit (facts c) k (recordSize (facts c)) (ranges .1) k-small refl
+  size-fits : 11 + k * recordSize (facts c) ≤ maxListing
+  size-fits = omega (arith, records-fit (facts c) k (recordSize (facts c)) (ranges .1) k-small refl)
 
   length-in-head : u32At (after c) 1 ≡ 11 + k * recordSize (facts c)
   unfolding u32At listing listingOf be16 be32
