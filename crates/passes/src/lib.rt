@@ -23,6 +23,7 @@ use accepted::prepare;
 use accepted::prepare_bans;
 use base::MAX_BRANCHING;
 use base::MAX_LAYERS;
+use base::MAX_NAMES;
 use branching::branching_atoms;
 use filling::HINTS;
 use plan::BANS;
@@ -127,6 +128,7 @@ fn pass(
     requires { ⌜ RoomFor goal (sizes .n) (length (stableModels (plannedProgram (now book) (now rows) (now plan) sizes))) (now part) ⌝ }
     ensures { λ r. ⌜ Passed (plannedProgram (now (book .entry)) (now (rows .entry)) (now (plan .entry)) sizes) (planAtoms (now (plan .entry)) (sizes .branching)) (sizes .n) goal (now (asked .entry)) (now (part .entry)) r (now (part .exit)) ⌝ }
 {
+    let mut rejects: [u32; MAX_NAMES] = [0; MAX_NAMES];
     let mut hints: [u16; HINTS] = [0; HINTS];
     let v = Visit {
         goal,
@@ -138,7 +140,18 @@ fn pass(
         standing: 0,
         denied: 0,
     };
-    search(book, rows, plan, sizes, turn, &mut hints, asked, part, v)
+    search(
+        book,
+        rows,
+        plan,
+        sizes,
+        turn,
+        &mut rejects,
+        &mut hints,
+        asked,
+        part,
+        v,
+    )
 }
 
 // No fewer than the stable models are, or more than there is room for: as many as there are settings, where there is room for that;

@@ -1,3 +1,4 @@
 pub mod RejectingLaws
 pub mod RejectedLaws
 pub mod EntriesLaws
+pub mod ClearLaws

@@ -89,3 +89,8 @@ pub record RejectsAt (rejecting : List ℕ) (standing : ℕ) (rejects : List ℕ
   pub size : length rejects ≡ maxNames
   pub sound : (h i : ℕ) → bitOf (getD rejects h 0) i ≡ 1 → FitsAt rejecting standing n h i
   pub full : (h i : ℕ) → FitsAt rejecting standing n h i → bitOf (getD rejects h 0) i ≡ 1
+
+-- what is not 0 stands at the name of an entry from k on, of the first n
+pub record Uncleared (rejecting rejects : List ℕ) (k n : ℕ) : Type 0 where
+  pub size : length rejects ≡ maxNames
+  pub each : (h : ℕ) → (getD rejects h 0 ≡ 0 → ⊥) → (j : ℕ) × (k ≤ j) × (j < n) × (entryName rejecting j ≡ h)

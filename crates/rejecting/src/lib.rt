@@ -4,7 +4,7 @@ ghost use mathlib.Core.Path.{_≡_};
 ghost use Prim.Native.Nat.{_+_, _*_, _/_, _<_, _≤_};
 ghost use lib.ListN.{length, replicate};
 ghost use Rattle.base.specs.Bounds.{maxNames};
-ghost use Rattle.rejecting.specs.Rejecting.{RejectingPut, Named, RejectsAt};
+ghost use Rattle.rejecting.specs.Rejecting.{RejectingPut, Named, RejectsAt, Uncleared};
 use setting::BodyMasks;
 
 // Writes a row that can reject rules as an entry behind the others, and says how many entries there are. An entry has four numbers:
@@ -30,8 +30,8 @@ pub fn put_rejecting(
     made + 1
 }
 
-// Bit i at name h: rules of layer i with that head are rejected at the setting of this mask. The array is lent, all 0: it is large
-// enough that a copy would be felt at every setting.
+// Bit i at name h: rules of layer i with that head are rejected at the setting of this mask. The array is lent, all 0: there is a number
+// for each name, and to make or copy it would be felt at every setting.
 pub fn reject_at(rejecting: &[u32], standing: u32, rejects: &mut [u32])
     requires { ⌜ Named (now rejecting) (length (now rejecting) / 4) ⌝ }
     requires { ⌜ now rejects ≡ replicate maxNames 0 ⌝ }
@@ -46,6 +46,21 @@ pub fn reject_at(rejecting: &[u32], standing: u32, rejects: &mut [u32])
                 rejects[name] = rejects[name] | rejecting[4 * k + 3];
             }
         }
+        k += 1;
+    }
+}
+
+// Makes the masks 0 again at the entries' names, so that the next setting finds them all 0: nothing else was set.
+pub fn clear_at(rejecting: &[u32], rejects: &mut [u32])
+    requires { ⌜ Named (now rejecting) (length (now rejecting) / 4) ⌝ }
+    requires { ⌜ Uncleared (now rejecting) (now rejects) 0 (length (now rejecting) / 4) ⌝ }
+    ensures { λ _. ⌜ now (rejects .exit) ≡ replicate maxNames 0 ⌝ }
+{
+    let count = rejecting.len() / 4;
+    let mut k = 0;
+    while k < count {
+        let name = rejecting[4 * k + 2] as usize;
+        rejects[name] = 0;
         k += 1;
     }
 }

@@ -4,8 +4,8 @@ ghost use mathlib.Core.Logic.{_⊎_};
 ghost use mathlib.Core.Bool.{false};
 ghost use mathlib.Core.List.{[], _∷_};
 ghost use Prim.Native.Nat.{_+_, _/_, _^_, _<_, _≤_};
-ghost use lib.ListN.{length, take};
-ghost use Rattle.base.specs.Bounds.{maxAtoms, maxRules};
+ghost use lib.ListN.{length, take, replicate};
+ghost use Rattle.base.specs.Bounds.{maxAtoms, maxNames, maxRules};
 ghost use Rattle.base.specs.Lists.{consIf, all, any};
 ghost use Rattle.models.specs.StableModels.{holds};
 ghost use Rattle.bans.specs.Bans.{bodiesOf, BansFit};
@@ -20,7 +20,6 @@ ghost use Rattle.search.specs.Decided.{undecided, Turned};
 ghost use Rattle.search.specs.Visits.{Asks, weightOf, keptBy, RoomFor, stopped, Kept, visited, Searched, Combines};
 use bans::banned;
 use base::MAX_ATOMS;
-use base::MAX_NAMES;
 use base::wide;
 use format::be16;
 use leaf::Found;
@@ -36,6 +35,7 @@ use records::add_state;
 use records::atom_bit;
 use records::put_state;
 use records::record_size;
+use rejecting::clear_at;
 use rejecting::reject_at;
 use setting::headed;
 use setting::setting_of;
@@ -152,20 +152,22 @@ fn find_model(
     plan: &[u32],
     sizes: Sizes,
     standing: u32,
+    rejects: &mut [u32],
     hints: &mut [u16],
 ) -> Found
     requires { ⌜ Searchable (now book) (now rows) (planAtoms (now plan) (sizes .branching)) (sizes .n) ⌝ }
     requires { ⌜ Planned (now book) (now rows) (planAtoms (now plan) (sizes .branching)) (now plan) sizes ⌝ }
-    requires { ⌜ length (now hints) ≡ hintSize ⌝ }
+    requires { ⌜ (length (now hints) ≡ hintSize) × (now rejects ≡ replicate maxNames 0) ⌝ }
     ensures { λ r. ⌜ atSetting (plannedProgram (now (book .entry)) (now (rows .entry)) (now (plan .entry)) sizes) (planAtoms (now (plan .entry)) (sizes .branching)) (settingOf (planAtoms (now (plan .entry)) (sizes .branching)) standing) ≡ consIf (r .ok) (take (sizes .n) (r .state)) [] ⌝ }
+    ensures { λ _. ⌜ now (rejects .exit) ≡ replicate maxNames 0 ⌝ }
 {
     let n = sizes.n;
     let g = sizes.branching;
     let end = REJECTING + 4 * sizes.rejecting;
     let setting = setting_of(&plan[0..g], standing);
-    let mut rejects: [u32; MAX_NAMES] = [0; MAX_NAMES];
-    reject_at(&plan[REJECTING..end], standing, &mut rejects);
-    let found = model_at(book, rows, &rejects, &plan[0..g], n, setting, hints);
+    reject_at(&plan[REJECTING..end], standing, rejects);
+    let found = model_at(book, rows, rejects, &plan[0..g], n, setting, hints);
+    clear_at(&plan[REJECTING..end], rejects);
     let state = found.state;
     if found.ok {
         return Found {
@@ -183,6 +185,7 @@ pub fn visit_setting(
     plan: &[u32],
     sizes: Sizes,
     standing: u32,
+    rejects: &mut [u32],
     hints: &mut [u16],
     asked: &[u8],
     part: &mut [u8],
@@ -192,10 +195,11 @@ pub fn visit_setting(
     requires { ⌜ Planned (now book) (now rows) (planAtoms (now plan) (sizes .branching)) (now plan) sizes ⌝ }
     requires { ⌜ Kept (now asked) (sizes .n) (length (atSetting (plannedProgram (now book) (now rows) (now plan) sizes) (planAtoms (now plan) (sizes .branching)) (settingOf (planAtoms (now plan) (sizes .branching)) standing))) v (now part) ⌝ }
     requires { ⌜ (v .count < 4294967296) × (stopped v ≡ false) ⌝ }
-    requires { ⌜ length (now hints) ≡ hintSize ⌝ }
+    requires { ⌜ (length (now hints) ≡ hintSize) × (now rejects ≡ replicate maxNames 0) ⌝ }
     ensures { λ r. ⌜ Searched (now (asked .entry)) (sizes .n) (atSetting (plannedProgram (now (book .entry)) (now (rows .entry)) (now (plan .entry)) sizes) (planAtoms (now (plan .entry)) (sizes .branching)) (settingOf (planAtoms (now (plan .entry)) (sizes .branching)) standing)) v (now (part .entry)) r (now (part .exit)) ⌝ }
+    ensures { λ _. ⌜ now (rejects .exit) ≡ replicate maxNames 0 ⌝ }
 {
-    let found = find_model(book, rows, plan, sizes, standing, hints);
+    let found = find_model(book, rows, plan, sizes, standing, rejects, hints);
     let state = found.state;
     if found.ok {
         return meet(state, sizes.n, asked, part, v);
@@ -239,7 +243,7 @@ fn combine(goal: Goal, n: usize, from: usize, mid: usize, end: usize, part: &mut
 }
 
 // Goes through the settings of the branching facts that are left, each at most once, and visits the stable model of each setting, if
-// there is one. `hints` is what one filling leaves for the next. Where the quick tests say that no setting of the facts that are left
+// there is one. `rejects` is all 0 between settings, and `hints` is what one filling leaves for the next. Where the quick tests say that no setting of the facts that are left
 // has a stable model, none is gone through.
 pub fn search(
     book: &[u8],
@@ -247,6 +251,7 @@ pub fn search(
     plan: &[u32],
     sizes: Sizes,
     turn: Turn,
+    rejects: &mut [u32],
     hints: &mut [u16],
     asked: &[u8],
     part: &mut [u8],
@@ -257,8 +262,9 @@ pub fn search(
     requires { ⌜ Turned (planAtoms (now plan) (sizes .branching)) (turn .left) (turn .standing) (turn .denied) ⌝ }
     requires { ⌜ Kept (now asked) (sizes .n) (length (foundBy (atSetting (plannedProgram (now book) (now rows) (now plan) sizes) (planAtoms (now plan) (sizes .branching))) (undecided (planAtoms (now plan) (sizes .branching)) (turn .left)) (settingOf (planAtoms (now plan) (sizes .branching)) (turn .standing)))) v (now part) ⌝ }
     requires { ⌜ v .count + 2 ^ turn .left ≤ 4294967296 ⌝ }
-    requires { ⌜ length (now hints) ≡ hintSize ⌝ }
+    requires { ⌜ (length (now hints) ≡ hintSize) × (now rejects ≡ replicate maxNames 0) ⌝ }
     ensures { λ r. ⌜ Searched (now (asked .entry)) (sizes .n) (foundBy (atSetting (plannedProgram (now (book .entry)) (now (rows .entry)) (now (plan .entry)) sizes) (planAtoms (now (plan .entry)) (sizes .branching))) (undecided (planAtoms (now (plan .entry)) (sizes .branching)) (turn .left)) (settingOf (planAtoms (now (plan .entry)) (sizes .branching)) (turn .standing))) v (now (part .entry)) r (now (part .exit)) ⌝ }
+    ensures { λ _. ⌜ now (rejects .exit) ≡ replicate maxNames 0 ⌝ }
 {
     if stops(v) {
         return v;
@@ -274,6 +280,7 @@ pub fn search(
             plan,
             sizes,
             turn.standing,
+            rejects,
             hints,
             asked,
             part,
@@ -286,13 +293,13 @@ pub fn search(
         standing: turn.standing,
         denied: turn.denied | bit,
     };
-    let half = search(book, rows, plan, sizes, without, hints, asked, part, v);
+    let half = search(book, rows, plan, sizes, without, rejects, hints, asked, part, v);
     let with = Turn {
         left: left - 1,
         standing: turn.standing | bit,
         denied: turn.denied,
     };
-    let both = search(book, rows, plan, sizes, with, hints, asked, part, half);
+    let both = search(book, rows, plan, sizes, with, rejects, hints, asked, part, half);
     let goal = v.goal;
     combine(goal, sizes.n, v.count, half.count, both.count, part);
     both

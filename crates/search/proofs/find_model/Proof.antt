@@ -1,12 +1,13 @@
 -- The masks say which rows the setting rejects (`setting-rejects`); the model of the rules alone counts unless a constraint's body holds in it
--- (`setting-allowed`).
-use mathlib.Core.Path.{refl, sym, ap, _∙_}
+-- (`setting-allowed`). The masks are made 0 again: nothing but the entries' names was set (`rejects-uncleared`).
+use mathlib.Core.Path.{sym, ap, _∙_}
 use Rattle.models.specs.StableModels.{Interpretation}
 use Rattle.table.specs.Tabled.{tabled}
 use Rattle.table.proofs.TabledLaws.{tabled-free}
 use Rattle.bans.specs.Bans.{bodiesOf}
 use Rattle.setting.specs.Setting.{settingOf}
 use Rattle.rejecting.proofs.RejectingLaws.{rejecting-named}
+use Rattle.rejecting.proofs.ClearLaws.{rejects-uncleared}
 use Rattle.plan.specs.Plan.{planAtoms, planBans}
 use Rattle.leaf.specs.Found.{atSetting}
 use Rattle.leaf.proofs.ModelLaws.{atoms-low}
@@ -32,7 +33,7 @@ part-setting-of-end : tie.Need-part-setting-of-end
 part-setting-of-end c = search needs
 
 setting-of-requires : tie.Need-setting-of-requires
-setting-of-requires c κs = (c .before .before .before .before .before .before .pre .0 .atoms-few, atoms-low (c .before .before .before .before .before .before .pre .0))
+setting-of-requires c κs = (c .before .before .before .before .before .before .before .pre .0 .atoms-few, atoms-low (c .before .before .before .before .before .before .before .pre .0))
 
 sub-reject-at : tie.Need-sub-reject-at
 sub-reject-at c = search needs
@@ -43,14 +44,8 @@ part-reject-at-start c = search needs
 part-reject-at-end : tie.Need-part-reject-at-end
 part-reject-at-end c = search needs
 
-slice-aggregate-reject-at : tie.Need-slice-aggregate-reject-at
-slice-aggregate-reject-at c = search needs
-
 reject-at-requires : tie.Need-reject-at-requires
-reject-at-requires c κs = (rejecting-named (c .before .before .before .before .before .before .before .before .before .pre .1 .0 .rejecting-masks), refl)
-
-slice-aggregate-model-at : tie.Need-slice-aggregate-model-at
-slice-aggregate-model-at c = search needs
+reject-at-requires c κs = (rejecting-named (c .before .before .before .before .before .before .before .before .before .before .pre .1 .0 .rejecting-masks), c .before .before .before .before .before .before .before .before .before .before .pre .1 .1 .1)
 
 sub-model-at : tie.Need-sub-model-at
 sub-model-at c = search needs
@@ -62,22 +57,50 @@ part-model-at-end : tie.Need-part-model-at-end
 part-model-at-end c = search needs
 
 model-at-requires : tie.Need-model-at-requires
-model-at-requires c κs = (c .before .before .before .before .before .before .before .before .before .before .before .before .before .before .pre .0, (setting-rejects (c .before .before .before .before .before .before .before .before .before .before .before .before .before .before .pre .0) (c .before .before .before .before .before .before .before .before .before .before .before .before .before .before .args .standing) _ (c .before .before .before .before .before .before .before .setting-of .ensures) (c .before .before .before .before .before .before .before .before .before .before .before .before .before .before .pre .1 .0 .rejecting-masks) (c .before .before .before .before .reject-at .ensures), c .before .before .before .before .before .before .before .before .before .before .before .before .before .before .pre .1 .1))
+model-at-requires c κs = (c .before .before .before .before .before .before .before .before .before .before .before .before .before .before .before .before .pre .0, (setting-rejects (c .before .before .before .before .before .before .before .before .before .before .before .before .before .before .before .before .pre .0) (c .before .before .before .before .before .before .before .before .before .before .before .before .before .before .before .before .args .standing) _ (c .before .before .before .before .before .before .before .before .setting-of .ensures) (c .before .before .before .before .before .before .before .before .before .before .before .before .before .before .before .before .pre .1 .0 .rejecting-masks) (c .before .before .before .before .before .reject-at .ensures), c .before .before .before .before .before .before .before .before .before .before .before .before .before .before .before .before .pre .1 .1 .0))
+
+sub-clear-at : tie.Need-sub-clear-at
+sub-clear-at c = search needs
+
+part-clear-at-start : tie.Need-part-clear-at-start
+part-clear-at-start c = search needs
+
+part-clear-at-end : tie.Need-part-clear-at-end
+part-clear-at-end c = search needs
+
+clear-at-requires : tie.Need-clear-at-requires
+clear-at-requires c κs = (rejecting-named (c .before .before .before .before .before .before .before .before .before .before .before .before .before .before .before .before .before .before .before .before .before .pre .1 .0 .rejecting-masks), rejects-uncleared (c .before .before .before .before .before .before .before .before .before .before .reject-at .ensures))
 
 forbids-requires : tie.Need-forbids-requires
-forbids-requires c κs = ((c .before .before .before .before .before .before .before .before .before .before .before .before .before .before .before .before .before .before .before .pre .1 .0 .size, c .before .before .before .before .before .before .before .before .before .before .before .before .before .before .before .before .before .before .before .pre .0 .few, c .before .before .before .before .before .before .before .before .before .before .before .before .before .before .before .before .before .before .before .pre .1 .0 .bans-few), c .before .before .before .before .before .before .before .before .before .before .before .before .before .before .before .before .before .before .before .pre .1 .0 .bans-fit)
+forbids-requires c κs = ((c .before .before .before .before .before .before .before .before .before .before .before .before .before .before .before .before .before .before .before .before .before .before .before .before .before .before .pre .1 .0 .size, c .before .before .before .before .before .before .before .before .before .before .before .before .before .before .before .before .before .before .before .before .before .before .before .before .before .before .pre .0 .few, c .before .before .before .before .before .before .before .before .before .before .before .before .before .before .before .before .before .before .before .before .before .before .before .before .before .before .pre .1 .0 .bans-few), c .before .before .before .before .before .before .before .before .before .before .before .before .before .before .before .before .before .before .before .before .before .before .before .before .before .before .pre .1 .0 .bans-fit)
 
 same-length : tie.Need-same-length
 same-length c = search needs
 
-returns : tie.Need-returns
-returns c = setting-allowed (tabled (c .before .before .before .before .before .before .before .before .before .before .before .before .before .before .before .before .before .before .before .before .args .book .now) (c .before .before .before .before .before .before .before .before .before .before .before .before .before .before .before .before .before .before .before .before .args .rows .now) (c .before .before .before .before .before .before .before .before .before .before .before .before .before .before .before .before .before .before .before .before .args .sizes .n)) (bodiesOf (c .before .before .before .before .before .before .before .before .before .before .before .before .before .before .before .before .before .before .before .before .args .book .now) (planBans (c .before .before .before .before .before .before .before .before .before .before .before .before .before .before .before .before .before .before .before .before .args .plan .now) (c .before .before .before .before .before .before .before .before .before .before .before .before .before .before .before .before .before .before .before .before .args .sizes .bans))) (tabled-free (c .before .before .before .before .before .before .before .before .before .before .before .before .before .before .before .before .before .before .before .before .args .book .now) (c .before .before .before .before .before .before .before .before .before .before .before .before .before .before .before .before .before .before .before .before .args .rows .now) (c .before .before .before .before .before .before .before .before .before .before .before .before .before .before .before .before .before .before .before .before .args .sizes .n)) (planAtoms (c .before .before .before .before .before .before .before .before .before .before .before .before .before .before .before .before .before .before .before .before .args .plan .now) (c .before .before .before .before .before .before .before .before .before .before .before .before .before .before .before .before .before .before .before .before .args .sizes .branching)) (settingOf (planAtoms (c .before .before .before .before .before .before .before .before .before .before .before .before .before .before .before .before .before .before .before .before .args .plan .now) (c .before .before .before .before .before .before .before .before .before .before .before .before .before .before .before .before .before .before .before .before .args .sizes .branching)) (c .before .before .before .before .before .before .before .before .before .before .before .before .before .before .before .before .before .before .before .before .args .standing)) (c .before .before .before .before .before .model-at .result .ok) _ (ap (λ (o : Interpretation). atSetting (tabled (c .before .before .before .before .before .before .before .before .before .before .before .before .before .before .before .before .before .before .before .before .args .book .now) (c .before .before .before .before .before .before .before .before .before .before .before .before .before .before .before .before .before .before .before .before .args .rows .now) (c .before .before .before .before .before .before .before .before .before .before .before .before .before .before .before .before .before .before .before .before .args .sizes .n)) (planAtoms (c .before .before .before .before .before .before .before .before .before .before .before .before .before .before .before .before .before .before .before .before .args .plan .now) (c .before .before .before .before .before .before .before .before .before .before .before .before .before .before .before .before .before .before .before .before .args .sizes .branching)) o) (sym (c .before .before .before .before .before .before .before .before .before .before .before .before .before .setting-of .ensures)) ∙ c .before .before .before .before .before .model-at .ensures) (c .before .if1 .taken) (c .forbids .result) (c .forbids .ensures)
-
 same-length-2 : tie.Need-same-length-2
 same-length-2 c = search needs
 
+returns : tie.Need-returns
+returns c =
+    let e = c .before .before .before .before .before .before .before .before .before .before .before .before .before .before .before .before .before .before .before .before .before .before .before .before .before .before .before .args in
+    let P = tabled (e .book .now) (e .rows .now) (e .sizes .n) in
+    let atoms = planAtoms (e .plan .now) (e .sizes .branching) in
+    let found = ap (λ (o : Interpretation). atSetting P atoms o) (sym (c .before .before .before .before .before .before .before .before .before .before .before .before .before .before .before .before .before .before .before .setting-of .ensures)) ∙ c .before .before .before .before .before .before .before .before .before .before .model-at .ensures in
+    (setting-allowed P (bodiesOf (e .book .now) (planBans (e .plan .now) (e .sizes .bans))) (tabled-free (e .book .now) (e .rows .now) (e .sizes .n)) atoms (settingOf atoms (e .standing)) (c .before .before .before .before .before .before .before .before .before .before .model-at .result .ok) _ found (c .before .if1 .taken) (c .forbids .result) (c .forbids .ensures), c .before .before .before .before .before .clear-at .ensures)
+
+same-length-3 : tie.Need-same-length-3
+same-length-3 c = search needs
+
+same-length-4 : tie.Need-same-length-4
+same-length-4 c = search needs
+
 returns-2 : tie.Need-returns-2
-returns-2 c = setting-without (tabled (c .before .before .before .before .before .before .before .before .before .before .before .before .before .before .before .before .before .before .before .args .book .now) (c .before .before .before .before .before .before .before .before .before .before .before .before .before .before .before .before .before .before .before .args .rows .now) (c .before .before .before .before .before .before .before .before .before .before .before .before .before .before .before .before .before .before .before .args .sizes .n)) (bodiesOf (c .before .before .before .before .before .before .before .before .before .before .before .before .before .before .before .before .before .before .before .args .book .now) (planBans (c .before .before .before .before .before .before .before .before .before .before .before .before .before .before .before .before .before .before .before .args .plan .now) (c .before .before .before .before .before .before .before .before .before .before .before .before .before .before .before .before .before .before .before .args .sizes .bans))) (tabled-free (c .before .before .before .before .before .before .before .before .before .before .before .before .before .before .before .before .before .before .before .args .book .now) (c .before .before .before .before .before .before .before .before .before .before .before .before .before .before .before .before .before .before .before .args .rows .now) (c .before .before .before .before .before .before .before .before .before .before .before .before .before .before .before .before .before .before .before .args .sizes .n)) (planAtoms (c .before .before .before .before .before .before .before .before .before .before .before .before .before .before .before .before .before .before .before .args .plan .now) (c .before .before .before .before .before .before .before .before .before .before .before .before .before .before .before .before .before .before .before .args .sizes .branching)) (settingOf (planAtoms (c .before .before .before .before .before .before .before .before .before .before .before .before .before .before .before .before .before .before .before .args .plan .now) (c .before .before .before .before .before .before .before .before .before .before .before .before .before .before .before .before .before .before .before .args .sizes .branching)) (c .before .before .before .before .before .before .before .before .before .before .before .before .before .before .before .before .before .before .before .args .standing)) (c .before .before .before .before .model-at .result .ok) _ (ap (λ (o : Interpretation). atSetting (tabled (c .before .before .before .before .before .before .before .before .before .before .before .before .before .before .before .before .before .before .before .args .book .now) (c .before .before .before .before .before .before .before .before .before .before .before .before .before .before .before .before .before .before .before .args .rows .now) (c .before .before .before .before .before .before .before .before .before .before .before .before .before .before .before .before .before .before .before .args .sizes .n)) (planAtoms (c .before .before .before .before .before .before .before .before .before .before .before .before .before .before .before .before .before .before .before .args .plan .now) (c .before .before .before .before .before .before .before .before .before .before .before .before .before .before .before .before .before .before .before .args .sizes .branching)) o) (sym (c .before .before .before .before .before .before .before .before .before .before .before .before .setting-of .ensures)) ∙ c .before .before .before .before .model-at .ensures) (c .if1 .left) _
+returns-2 c =
+    let e = c .before .before .before .before .before .before .before .before .before .before .before .before .before .before .before .before .before .before .before .before .before .before .before .before .before .before .args in
+    let P = tabled (e .book .now) (e .rows .now) (e .sizes .n) in
+    let atoms = planAtoms (e .plan .now) (e .sizes .branching) in
+    let found = ap (λ (o : Interpretation). atSetting P atoms o) (sym (c .before .before .before .before .before .before .before .before .before .before .before .before .before .before .before .before .before .before .setting-of .ensures)) ∙ c .before .before .before .before .before .before .before .before .before .model-at .ensures in
+    (setting-without P (bodiesOf (e .book .now) (planBans (e .plan .now) (e .sizes .bans))) (tabled-free (e .book .now) (e .rows .now) (e .sizes .n)) atoms (settingOf atoms (e .standing)) (c .before .before .before .before .before .before .before .before .before .model-at .result .ok) _ found (c .if1 .left) _, c .before .before .before .before .clear-at .ensures)
 
 pub find-model-spec : {M : Type 1} → statement M
 find-model-spec =
@@ -92,15 +115,19 @@ find-model-spec =
     sub-reject-at
     part-reject-at-start
     part-reject-at-end
-    slice-aggregate-reject-at
     reject-at-requires
-    slice-aggregate-model-at
     sub-model-at
     part-model-at-start
     part-model-at-end
     model-at-requires
+    sub-clear-at
+    part-clear-at-start
+    part-clear-at-end
+    clear-at-requires
     forbids-requires
     same-length
-    returns
     same-length-2
+    returns
+    same-length-3
+    same-length-4
     returns-2)
