@@ -293,13 +293,35 @@ pub fn search(
         standing: turn.standing,
         denied: turn.denied | bit,
     };
-    let half = search(book, rows, plan, sizes, without, rejects, hints, asked, part, v);
+    let half = search(
+        book,
+        rows,
+        plan,
+        sizes,
+        without,
+        rejects,
+        hints,
+        asked,
+        part,
+        v,
+    );
     let with = Turn {
         left: left - 1,
         standing: turn.standing | bit,
         denied: turn.denied,
     };
-    let both = search(book, rows, plan, sizes, with, rejects, hints, asked, part, half);
+    let both = search(
+        book,
+        rows,
+        plan,
+        sizes,
+        with,
+        rejects,
+        hints,
+        asked,
+        part,
+        half,
+    );
     let goal = v.goal;
     combine(goal, sizes.n, v.count, half.count, both.count, part);
     both
