@@ -2,6 +2,7 @@
 //! a setting as one number, the heap where it helps. Every setting is tried once, and the records
 //! are sorted at the end. The benchmark's opponent; it shares nothing with the engine.
 
+use crate::book::{width, BYTE_ATOMS, LONGEST_RECORD, MAX_ATOMS};
 use crate::drive::Drive;
 use crate::expected::{
     branching, counts, place_of, yes_or_no, BAD_CANDIDATE, BUFFER_TOO_SHORT, MAX_BRANCHING,
@@ -10,41 +11,47 @@ use crate::expected::{
 use crate::reader::{self, Parts};
 use std::ops::ControlFlow;
 
-/// A set of facts. Fact 0 is the highest bit of the first word, so that the words' bytes are the
-/// record and sets compare as records do.
-type Set = [u64; 4];
+/// A set of facts in W words. Fact 0 is the highest bit of the first word, so that the words' bytes
+/// are the record and sets compare as records do.
+type Set<const W: usize> = [u64; W];
 
-const EMPTY: Set = [0; 4];
+/// The words of a book with few facts: it need not pay for as many as there can be.
+const FEW: usize = BYTE_ATOMS as usize / 64;
+const ALL: usize = MAX_ATOMS as usize / 64;
 
-fn bit(atom: u8) -> (usize, u64) {
+fn bit(atom: u16) -> (usize, u64) {
     (usize::from(atom) / 64, 1 << 63 >> (atom % 64))
 }
 
-fn insert(set: &mut Set, atom: u8) {
+fn insert<const W: usize>(set: &mut Set<W>, atom: u16) {
     let (word, bit) = bit(atom);
     set[word] |= bit;
 }
 
-fn contains(set: &Set, atom: u8) -> bool {
+fn contains<const W: usize>(set: &Set<W>, atom: u16) -> bool {
     let (word, bit) = bit(atom);
     set[word] & bit != 0
 }
 
 /// The facts of `set` that `other` does not have.
-fn without(set: &Set, other: &Set) -> Set {
+fn without<const W: usize>(set: &Set<W>, other: &Set<W>) -> Set<W> {
     std::array::from_fn(|word| set[word] & !other[word])
 }
 
-fn within(set: &Set, other: &Set) -> bool {
-    without(set, other) == EMPTY
+fn is_empty<const W: usize>(set: &Set<W>) -> bool {
+    set.iter().all(|&word| word == 0)
 }
 
-fn disjoint(set: &Set, other: &Set) -> bool {
-    (0..4).all(|word| set[word] & other[word] == 0)
+fn within<const W: usize>(set: &Set<W>, other: &Set<W>) -> bool {
+    is_empty(&without(set, other))
+}
+
+fn disjoint<const W: usize>(set: &Set<W>, other: &Set<W>) -> bool {
+    (0..W).all(|word| set[word] & other[word] == 0)
 }
 
 /// The first `atoms` facts.
-fn first(atoms: u16) -> Set {
+fn first<const W: usize>(atoms: u16) -> Set<W> {
     std::array::from_fn(|word| match usize::from(atoms).saturating_sub(64 * word) {
         0 => 0,
         some if some < 64 => !(u64::MAX >> some),
@@ -52,8 +59,8 @@ fn first(atoms: u16) -> Set {
     })
 }
 
-fn record(set: &Set) -> [u8; 32] {
-    let mut record = [0; 32];
+fn record<const W: usize>(set: &Set<W>) -> [u8; LONGEST_RECORD] {
+    let mut record = [0; LONGEST_RECORD];
     for (bytes, word) in record.chunks_exact_mut(8).zip(set) {
         bytes.copy_from_slice(&word.to_be_bytes());
     }
@@ -62,13 +69,13 @@ fn record(set: &Set) -> [u8; 32] {
 
 /// The facts that a body has plain, and negated.
 #[derive(Clone, Copy)]
-struct Body {
-    plain: Set,
-    negated: Set,
+struct Body<const W: usize> {
+    plain: Set<W>,
+    negated: Set<W>,
 }
 
-impl Body {
-    fn holds(&self, state: &Set) -> bool {
+impl<const W: usize> Body<W> {
+    fn holds(&self, state: &Set<W>) -> bool {
         within(&self.plain, state) && disjoint(&self.negated, state)
     }
 
@@ -86,16 +93,16 @@ impl Body {
 
 /// A relevant rule.
 #[derive(Clone, Copy)]
-struct Rule {
-    body: Body,
-    head: u8,
+struct Rule<const W: usize> {
+    body: Body<W>,
+    head: u16,
     denies: bool,
     layer: u8,
     /// The number of the contest about its head, 0 where no rule can displace it.
     contest: u16,
 }
 
-impl Rule {
+impl<const W: usize> Rule<W> {
     /// Whether the head is in the body, with its sign.
     fn leans_on_itself(&self) -> bool {
         match self.denies {
@@ -107,27 +114,27 @@ impl Rule {
 
 /// What a rule does to others where its body holds.
 #[derive(Clone, Copy)]
-struct Displacing {
-    rule: Rule,
+struct Displacing<const W: usize> {
+    rule: Rule<W>,
     contest: u16,
     layers: u32,
 }
 
 /// A lawful book at the driven layer.
-struct Program {
+struct Program<const W: usize> {
     atoms: u16,
     /// All its facts.
-    facts: Set,
-    rules: Vec<Rule>,
+    facts: Set<W>,
+    rules: Vec<Rule<W>>,
     /// Those that can displace at all.
-    displacing: Vec<Displacing>,
+    displacing: Vec<Displacing<W>>,
     contests: usize,
     /// The relevant constraints.
-    constraints: Vec<Body>,
+    constraints: Vec<Body<W>>,
 }
 
-impl Program {
-    fn new(book: &Parts, drive: Drive) -> Program {
+impl<const W: usize> Program<W> {
+    fn new(book: &Parts, drive: Drive) -> Program<W> {
         let below = below(book);
         let relevant = (below[drive.layer as usize] | 1 << drive.layer) & !drive.off;
         let mut rules = Vec::with_capacity(book.rules.count.into());
@@ -139,18 +146,18 @@ impl Program {
                 false => rules.push(rule(record)),
             }
         }
-        let mut layers_of = [[0u32; 256]; 2];
+        let mut layers_of = [[[0u32; 64]; W]; 2];
         for rule in &rules {
-            layers_of[usize::from(rule.denies)][usize::from(rule.head)] |= 1 << rule.layer;
+            *by_head(&mut layers_of, rule.denies, rule.head) |= 1 << rule.layer;
         }
-        let mut contest_of = [[0u16; 256]; 2];
+        let mut contest_of = [[[0u16; 64]; W]; 2];
         let mut displacing = Vec::new();
         let mut contests = 1;
         for rule in &rules {
-            let (opposite, head) = (usize::from(!rule.denies), usize::from(rule.head));
-            let layers = layers_of[opposite][head] & below[usize::from(rule.layer)];
+            let layers = *by_head(&mut layers_of, !rule.denies, rule.head);
+            let layers = layers & below[usize::from(rule.layer)];
             if layers != 0 && !rule.leans_on_itself() {
-                let contest = &mut contest_of[opposite][head];
+                let contest = by_head(&mut contest_of, !rule.denies, rule.head);
                 if *contest == 0 {
                     *contest = contests;
                     contests += 1;
@@ -163,7 +170,7 @@ impl Program {
             }
         }
         for rule in &mut rules {
-            rule.contest = contest_of[usize::from(rule.denies)][usize::from(rule.head)];
+            rule.contest = *by_head(&mut contest_of, rule.denies, rule.head);
         }
         Program {
             atoms: book.atoms,
@@ -176,19 +183,19 @@ impl Program {
     }
 
     /// The branching facts, rising.
-    fn branching(&self) -> Vec<u8> {
+    fn branching(&self) -> Vec<u16> {
         let negated = self.rules.iter().map(|rule| &rule.body.negated);
         let displacing = self.displacing.iter().map(|one| &one.rule.body.plain);
-        let branches = negated.chain(displacing).fold(EMPTY, |all, set| {
+        let branches = negated.chain(displacing).fold([0; W], |all: Set<W>, set| {
             std::array::from_fn(|word| all[word] | set[word])
         });
-        let facts = (0..self.atoms).map(|atom| atom as u8);
+        let facts = 0..self.atoms;
         facts.filter(|&atom| contains(&branches, atom)).collect()
     }
 
     /// Whether a state is stable. Once no live rule whose body holds contradicts it, only what is
     /// not founded is in the way.
-    fn stable(&self, state: &Set) -> bool {
+    fn stable(&self, state: &Set<W>) -> bool {
         if self.constraints.iter().any(|body| body.holds(state)) {
             return false;
         }
@@ -198,7 +205,7 @@ impl Program {
                 displaced[usize::from(displacing.contest)] |= displacing.layers;
             }
         }
-        let mut supported = EMPTY;
+        let mut supported = [0; W];
         let mut live = Vec::with_capacity(self.rules.len());
         for (at, rule) in self.rules.iter().enumerate() {
             if !rule.body.holds(state) {
@@ -222,8 +229,13 @@ impl Program {
 
 /// Whether all names of a state, the plain and the negated ones, are reached from the defaults over
 /// the live rules, whose heads agree with it.
-fn founded(rules: &[Rule], live: &mut Vec<u16>, defaults: Set, names: (&Set, &Set)) -> bool {
-    let (mut plain, mut negated) = (EMPTY, defaults);
+fn founded<const W: usize>(
+    rules: &[Rule<W>],
+    live: &mut Vec<u16>,
+    defaults: Set<W>,
+    names: (&Set<W>, &Set<W>),
+) -> bool {
+    let (mut plain, mut negated) = ([0; W], defaults);
     loop {
         let waiting = live.len();
         live.retain(|&at| {
@@ -274,7 +286,7 @@ impl Contest {
     }
 
     /// Worked out when a setting first asks: most settings fail before.
-    fn displaces(&mut self, rule: &Rule, setting: u32) -> bool {
+    fn displaces<const W: usize>(&mut self, rule: &Rule<W>, setting: u32) -> bool {
         if self.setting != setting {
             let fitting = self.displacing.iter().filter(|one| one.0.fits(setting));
             self.layers = fitting.fold(0, |layers, one| layers | one.1);
@@ -286,13 +298,13 @@ impl Contest {
 
 /// A program ready to be tried at the settings of its branching facts. The first of them is the
 /// highest bit of a setting.
-struct Search {
+struct Search<const W: usize> {
     atoms: u16,
-    facts: Set,
-    branching: Vec<u8>,
+    facts: Set<W>,
+    branching: Vec<u16>,
     /// Those with plain heads in an order in which they fire where all fit, then the others; and
     /// their guards.
-    rules: Vec<Rule>,
+    rules: Vec<Rule<W>>,
     guards: Vec<Guard>,
     /// The setting's bit for each plain head, 0 where it does not branch.
     head_bits: Vec<u32>,
@@ -300,29 +312,29 @@ struct Search {
     /// What constraints say of the branching facts: those that say nothing else, and the others with
     /// their bodies, which only a finished state decides.
     decided_bans: Vec<Guard>,
-    bans: Vec<(Guard, Body)>,
+    bans: Vec<(Guard, Body<W>)>,
     /// By number: rules that are not reached yet, and displaced ones whose guard fits.
     waiting: Vec<u16>,
     shadowed: Vec<u16>,
 }
 
-impl Search {
+impl<const W: usize> Search<W> {
     /// Or cause 12.
-    fn new(program: Program) -> Result<Search, u64> {
+    fn new(program: Program<W>) -> Result<Search<W>, u64> {
         let branching = program.branching();
         if branching.len() > MAX_BRANCHING {
             return Err(TOO_MANY_BRANCHING);
         }
-        let as_setting = |set: &Set| {
-            let stands = |setting, &atom: &u8| setting << 1 | u32::from(contains(set, atom));
+        let as_setting = |set: &Set<W>| {
+            let stands = |setting, &atom: &u16| setting << 1 | u32::from(contains(set, atom));
             branching.iter().fold(0, stands)
         };
-        let guard = |body: &Body| Guard {
+        let guard = |body: &Body<W>| Guard {
             decided: as_setting(&body.plain) | as_setting(&body.negated),
             stand: as_setting(&body.plain),
         };
-        let head_bit = |rule: &Rule| {
-            let mut head = EMPTY;
+        let head_bit = |rule: &Rule<W>| {
+            let mut head = [0; W];
             insert(&mut head, rule.head);
             as_setting(&head)
         };
@@ -356,12 +368,12 @@ impl Search {
     /// The stable state that agrees with the setting, if there is one. A body's branching facts
     /// are compared with the setting at once: where a body that does not fit were reached, the
     /// setting would have failed.
-    fn state_at(&mut self, setting: u32) -> Option<Set> {
+    fn state_at(&mut self, setting: u32) -> Option<Set<W>> {
         if self.decided_bans.iter().any(|ban| ban.fits(setting)) {
             return None;
         }
         let state = self.fill(setting)?;
-        let holds = |(guard, body): &(Guard, Body)| guard.fits(setting) && body.holds(&state);
+        let holds = |(guard, body): &(Guard, Body<W>)| guard.fits(setting) && body.holds(&state);
         if self.bans.iter().any(holds) {
             return None;
         }
@@ -372,7 +384,7 @@ impl Search {
             }
         }
         // Facts that do not stand, and not by default: a displaced rule speaks for them.
-        let mut contested = EMPTY;
+        let mut contested = [0; W];
         for &at in &self.shadowed {
             let rule = &self.rules[usize::from(at)];
             if within(&rule.body.plain, &state) {
@@ -380,11 +392,11 @@ impl Search {
             }
         }
         let contested = without(&contested, &state);
-        (contested == EMPTY || self.denied(setting, &state, &contested)).then_some(state)
+        (is_empty(&contested) || self.denied(setting, &state, &contested)).then_some(state)
     }
 
     /// Whether a rule's body holds in a state that agrees with the setting, and it is live.
-    fn fires(&mut self, at: usize, setting: u32, state: &Set) -> bool {
+    fn fires(&mut self, at: usize, setting: u32, state: &Set<W>) -> bool {
         let rule = &self.rules[at];
         self.guards[at].fits(setting)
             && within(&rule.body.plain, state)
@@ -393,10 +405,10 @@ impl Search {
 
     /// The plain facts that follow, as if each branching fact that the setting denies were denied
     /// by default. `None` as soon as one of these is reached, or where another is not reached.
-    fn fill(&mut self, setting: u32) -> Option<Set> {
+    fn fill(&mut self, setting: u32) -> Option<Set<W>> {
         self.waiting.clear();
         self.shadowed.clear();
-        let mut state = EMPTY;
+        let mut state = [0; W];
         let (mut reached, mut reachable) = (0, 0);
         for (at, &head_bit) in self.head_bits.iter().enumerate() {
             if !self.guards[at].fits(setting) {
@@ -437,7 +449,7 @@ impl Search {
 
     /// Whether the contested facts are denied by rules that are founded without them. What fires
     /// agrees with the state, as `state_at` has seen.
-    fn denied(&mut self, setting: u32, state: &Set, contested: &Set) -> bool {
+    fn denied(&mut self, setting: u32, state: &Set<W>, contested: &Set<W>) -> bool {
         let mut live = std::mem::take(&mut self.waiting);
         live.clear();
         let numbers = 0..self.rules.len();
@@ -451,7 +463,7 @@ impl Search {
     }
 
     /// Visits every stable state once, until the visitor has seen enough.
-    fn each_stable(&mut self, mut visit: impl FnMut(&Set) -> ControlFlow<()>) {
+    fn each_stable(&mut self, mut visit: impl FnMut(&Set<W>) -> ControlFlow<()>) {
         for setting in 0..1 << self.branching.len() {
             if let Some(state) = self.state_at(setting) {
                 if visit(&state).is_break() {
@@ -468,7 +480,7 @@ impl Search {
             ControlFlow::Continue(())
         });
         states.sort_unstable();
-        let width = usize::from(self.atoms).div_ceil(8);
+        let width = width(self.atoms);
         let length = 11 + states.len() * width;
         let listing = buffer.get_mut(..length).ok_or(BUFFER_TOO_SHORT)?;
         listing[0] = 1;
@@ -482,7 +494,7 @@ impl Search {
     }
 
     fn one(&mut self, buffer: &mut [u8]) -> Result<u64, u64> {
-        let width = usize::from(self.atoms).div_ceil(8);
+        let width = width(self.atoms);
         let place = buffer.get_mut(..width).ok_or(BUFFER_TOO_SHORT)?;
         let mut answer = Err(NO_STABLE_STATE);
         let granted = branching(self.branching.len());
@@ -494,7 +506,7 @@ impl Search {
         answer
     }
 
-    fn place(&mut self, atom: u8) -> u64 {
+    fn place(&mut self, atom: u16) -> u64 {
         let (mut standing, mut states) = (0, 0);
         self.each_stable(|state| {
             standing += usize::from(contains(state, atom));
@@ -511,13 +523,13 @@ impl Search {
 /// The rules with plain heads in an order in which they fire if all negated facts are reached and
 /// nothing is displaced, then those with negated heads. Rules that do not even fire then are left
 /// out: their bodies hold in no stable state.
-fn in_firing_order(rules: &[Rule]) -> Vec<Rule> {
-    let (denying, mut waiting): (Vec<Rule>, Vec<Rule>) = rules
+fn in_firing_order<const W: usize>(rules: &[Rule<W>]) -> Vec<Rule<W>> {
+    let (denying, mut waiting): (Vec<Rule<W>>, Vec<Rule<W>>) = rules
         .iter()
         .filter(|rule| rule.body.can_hold())
         .partition(|rule| rule.denies);
     let mut fired = Vec::with_capacity(rules.len());
-    let mut reached = EMPTY;
+    let mut reached = [0; W];
     loop {
         let before = fired.len();
         waiting.retain(|rule| {
@@ -529,7 +541,7 @@ fn in_firing_order(rules: &[Rule]) -> Vec<Rule> {
             !fires
         });
         if fired.len() == before {
-            let reachable = |rule: &Rule| within(&rule.body.plain, &reached);
+            let reachable = |rule: &Rule<W>| within(&rule.body.plain, &reached);
             fired.extend(denying.into_iter().filter(reachable));
             return fired;
         }
@@ -554,29 +566,42 @@ fn below(book: &Parts) -> [u32; 32] {
 }
 
 /// The body of a rule's record.
-fn body(record: &[u8]) -> Body {
-    let (mut plain, mut negated) = (EMPTY, EMPTY);
-    for literal in record[3..].chunks_exact(2) {
-        match literal[0] < 0x80 {
-            true => insert(&mut plain, literal[1]),
-            false => insert(&mut negated, literal[1]),
+fn body<const W: usize>(record: &[u8]) -> Body<W> {
+    let (mut plain, mut negated) = ([0; W], [0; W]);
+    for (atom, negates) in record[3..].chunks_exact(2).map(literal) {
+        match negates {
+            false => insert(&mut plain, atom),
+            true => insert(&mut negated, atom),
         }
     }
     Body { plain, negated }
 }
 
-fn rule(record: &[u8]) -> Rule {
+fn rule<const W: usize>(record: &[u8]) -> Rule<W> {
+    let (head, denies) = literal(&record[1..3]);
     Rule {
         body: body(record),
-        head: record[2],
-        denies: record[1] >= 0x80,
+        head,
+        denies,
         layer: record[0],
         contest: 0,
     }
 }
 
+/// A fact, and whether it is negated.
+fn literal(bytes: &[u8]) -> (u16, bool) {
+    let number = u16::from_be_bytes([bytes[0], bytes[1]]);
+    (number & 0x7FFF, number >= 0x8000)
+}
+
+/// What a table has for the plain or the negated name of a fact.
+fn by_head<T, const W: usize>(table: &mut [[[T; 64]; W]; 2], negated: bool, atom: u16) -> &mut T {
+    let atom = usize::from(atom);
+    &mut table[usize::from(negated)][atom / 64][atom % 64]
+}
+
 /// The book at the driven layer, or the first of causes 1 to 9 and 19 that applies.
-fn program(book: &[u8], drive: Drive) -> Result<Program, u64> {
+fn program(book: &[u8], drive: Drive) -> Result<Box<dyn Calls>, u64> {
     match check(book) {
         0 => {}
         cause => return Err(cause),
@@ -588,17 +613,50 @@ fn program(book: &[u8], drive: Drive) -> Result<Program, u64> {
     if u64::from(drive.off) >> parts.layers != 0 {
         return Err(NO_SUCH_LAYER_OFF);
     }
-    Ok(Program::new(&parts, drive))
+    Ok(match usize::from(parts.atoms) <= 64 * FEW {
+        true => Box::new(Program::<FEW>::new(&parts, drive)),
+        false => Box::new(Program::<ALL>::new(&parts, drive)),
+    })
+}
+
+/// The answers of a program, whatever the words of its sets, or the causes for which there are none.
+trait Calls {
+    fn test(&self, record: &[u8]) -> Result<u64, u64>;
+    fn list(self: Box<Self>, buffer: &mut [u8]) -> Result<u64, u64>;
+    fn one(self: Box<Self>, buffer: &mut [u8]) -> Result<u64, u64>;
+    fn place(self: Box<Self>, fact: u32) -> Result<u64, u64>;
+}
+
+impl<const W: usize> Calls for Program<W> {
+    fn test(&self, record: &[u8]) -> Result<u64, u64> {
+        let state = candidate(record, self.atoms)?;
+        Ok(yes_or_no(self.stable(&state)))
+    }
+
+    fn list(self: Box<Self>, buffer: &mut [u8]) -> Result<u64, u64> {
+        Search::new(*self)?.list(buffer)
+    }
+
+    fn one(self: Box<Self>, buffer: &mut [u8]) -> Result<u64, u64> {
+        Search::new(*self)?.one(buffer)
+    }
+
+    fn place(self: Box<Self>, fact: u32) -> Result<u64, u64> {
+        if fact >= self.atoms.into() {
+            return Err(NO_SUCH_FACT);
+        }
+        Ok(Search::new(*self)?.place(fact as u16))
+    }
 }
 
 /// The state that a record gives, or cause 10.
-fn candidate(record: &[u8], atoms: u16) -> Result<Set, u64> {
-    if record.len() != usize::from(atoms).div_ceil(8) {
+fn candidate<const W: usize>(record: &[u8], atoms: u16) -> Result<Set<W>, u64> {
+    if record.len() != width(atoms) {
         return Err(BAD_CANDIDATE);
     }
-    let mut bytes = [0; 32];
+    let mut bytes = [0; LONGEST_RECORD];
     bytes[..record.len()].copy_from_slice(record);
-    let mut state = EMPTY;
+    let mut state = [0; W];
     for (word, bytes) in state.iter_mut().zip(bytes.chunks_exact(8)) {
         *word = bytes
             .iter()
@@ -617,36 +675,28 @@ pub fn check(book: &[u8]) -> u64 {
 
 /// What `lesson_test` answers.
 pub fn test(book: &[u8], drive: Drive, record: &[u8]) -> u64 {
-    let answer = program(book, drive).and_then(|program| {
-        let state = candidate(record, program.atoms)?;
-        Ok(yes_or_no(program.stable(&state)))
-    });
-    answer.unwrap_or_else(|cause| cause)
+    program(book, drive)
+        .and_then(|program| program.test(record))
+        .unwrap_or_else(|cause| cause)
 }
 
 /// What `lesson_list` answers and does.
 pub fn list(book: &[u8], drive: Drive, buffer: &mut [u8]) -> u64 {
     program(book, drive)
-        .and_then(Search::new)
-        .and_then(|mut search| search.list(buffer))
+        .and_then(|program| program.list(buffer))
         .unwrap_or_else(|cause| cause)
 }
 
 /// What `lesson_one` answers and does.
 pub fn one(book: &[u8], drive: Drive, buffer: &mut [u8]) -> u64 {
     program(book, drive)
-        .and_then(Search::new)
-        .and_then(|mut search| search.one(buffer))
+        .and_then(|program| program.one(buffer))
         .unwrap_or_else(|cause| cause)
 }
 
 /// What `lesson_place` answers.
 pub fn place(book: &[u8], drive: Drive, fact: u32) -> u64 {
-    let answer = program(book, drive).and_then(|program| {
-        if fact >= program.atoms.into() {
-            return Err(NO_SUCH_FACT);
-        }
-        Ok(Search::new(program)?.place(fact as u8))
-    });
-    answer.unwrap_or_else(|cause| cause)
+    program(book, drive)
+        .and_then(|program| program.place(fact))
+        .unwrap_or_else(|cause| cause)
 }

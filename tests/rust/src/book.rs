@@ -1,6 +1,33 @@
 //! Books as values, and a plain builder of their bytes. Nothing is checked here, so that
 //! unlawful books can be built too.
 
+/// The most facts that a book may have (document 02, l).
+pub const MAX_ATOMS: u16 = 1_024;
+
+/// The bytes of the longest record.
+pub const LONGEST_RECORD: usize = width(MAX_ATOMS);
+
+/// As many facts as a byte has numbers for.
+pub const BYTE_ATOMS: u16 = 1 << 8;
+
+/// Numbers of facts that a byte does not hold, where records and their spare bits change: at the first
+/// of them, and at the bound.
+pub const WIDE: [u16; 8] = [
+    BYTE_ATOMS + 1,
+    BYTE_ATOMS + 7,
+    BYTE_ATOMS + 8,
+    BYTE_ATOMS + 9,
+    MAX_ATOMS - 8,
+    MAX_ATOMS - 7,
+    MAX_ATOMS - 1,
+    MAX_ATOMS,
+];
+
+/// The bytes of a record of so many facts.
+pub const fn width(atoms: u16) -> usize {
+    (atoms as usize).div_ceil(8)
+}
+
 /// An atom (document 01: a fact) with a sign.
 #[derive(Clone, Copy, Debug, PartialEq, Eq)]
 pub struct Literal {

@@ -1,5 +1,6 @@
 //! Sets of causes, and counts of them: what the tests of several calls share.
 
+use crate::book::MAX_ATOMS;
 use crate::drive::{at, Drive};
 use crate::rng::{seed, Rng};
 use crate::shapes::{absent_layers, EVERY_SHAPE, NO_LAYERS};
@@ -110,8 +111,10 @@ impl AnyBytes<'_> {
     }
 }
 
-/// The facts and the layers that a book's fields give, lawful or not: what a host would go by.
+/// The facts and the layers that a book's fields give, lawful or not: what a host would go by. Numbers of
+/// facts that are far too large are taken for smaller ones.
 pub fn fields(book: &[u8]) -> (usize, usize) {
-    let field = |at: usize| usize::from(book.get(at).copied().unwrap_or(1));
-    (field(5) % 2 * 256 + field(6), field(7))
+    let field = |at: usize| book.get(at).copied().unwrap_or(1);
+    let facts = u16::from_be_bytes([field(5), field(6)]) % (2 * MAX_ATOMS);
+    (facts.into(), field(7).into())
 }

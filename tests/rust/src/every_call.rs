@@ -1,7 +1,7 @@
 //! All four calls on a driven layer at once: on small books against the oracle, against states that are
 //! known, and against misreadings, which must find others; and on large books whose states are known.
 
-use crate::book::{hex, Book};
+use crate::book::{hex, width, Book, BYTE_ATOMS, MAX_ATOMS};
 use crate::drive::Drive;
 use crate::expected::{branching, counts, place_of, yes_or_no, Asked, NO_STABLE_STATE};
 use crate::ffi;
@@ -120,7 +120,7 @@ pub fn assert_refused(what: &str, bytes: &[u8], drive: Drive, cause: u64) {
         let test = ffi::test(bytes, drive, buffer);
         assert_eq!(test, cause, "{what}, {drive}\n{}", hex(bytes));
     }
-    for fact in [0, 5, 256, u32::MAX] {
+    for fact in [0, 5, BYTE_ATOMS.into(), MAX_ATOMS.into(), u32::MAX] {
         let place = ffi::place(bytes, drive, fact);
         assert_eq!(place, cause, "{what}, {drive}\n{}", hex(bytes));
     }
@@ -136,7 +136,7 @@ pub fn assert_known_book(what: &str, known: &Known) {
         let expected = outcome(&listing, known.answer(), &buffer);
         assert_outcome(what, &bytes, drive, &buffer, &expected);
     }
-    let width = usize::from(known.book.atoms).div_ceil(8);
+    let width = width(known.book.atoms);
     let records: Vec<&[u8]> = listing[11..].chunks(width).collect();
     let (answer, one) = ffi::one(&bytes, drive, &vec![FILLER; width]);
     match known.count {

@@ -1,7 +1,7 @@
 //! The fault trial's inputs: a drive of a book, and questions to all five calls, each with what must
 //! come of it. Seed and number give the input, so that one of them can be tried again alone.
 
-use crate::book::{hex, Book};
+use crate::book::{hex, Book, BYTE_ATOMS, LONGEST_RECORD, MAX_ATOMS, WIDE};
 use crate::causes::fields;
 use crate::drive::Drive;
 use crate::expected::yes_or_no;
@@ -81,8 +81,8 @@ pub struct Input {
     unconstrained: Option<Vec<u8>>,
 }
 
-/// The longest listing of a book that is tried: 8 branching facts in records of 32 bytes.
-const LONGEST_LISTING: usize = 11 + (1 << 8) * 32;
+/// The longest listing of a book that is tried: 8 branching facts in the longest records.
+const LONGEST_LISTING: usize = 11 + (1 << 8) * LONGEST_RECORD;
 
 impl Input {
     pub fn new(seed: u64, number: u64) -> Input {
@@ -186,10 +186,12 @@ fn searched(rng: &mut Rng) -> Book {
     }
 }
 
-/// A lawful book of up to 256 facts, few of which branch.
+/// A lawful book of up to as many facts as there can be, few of which branch.
 fn many_facts(rng: &mut Rng) -> Book {
-    let atoms = rng.pick(&[9, 15, 16, 17, 64, 65, 255, 256]);
-    match rng.below(6) {
+    let few = rng.pick(&[9, 15, 16, 17, 64, 65, BYTE_ATOMS - 1, BYTE_ATOMS]);
+    let many = rng.pick(&WIDE);
+    let atoms = rng.pick(&[few, many]);
+    match rng.below(8) {
         0 => Book::new(atoms, rng.range(1, 32) as u8),
         1 => {
             let following = rng.pick(&EVERY_FOLLOWING);
@@ -211,7 +213,17 @@ fn many_facts(rng: &mut Rng) -> Book {
         4 => {
             let choices = rng.range(1, 5) as u16;
             let constraints = rng.pick(&[1, 8, 900]);
-            known::randomly_constrained(rng, choices, constraints).book
+            let atoms = rng.pick(&[BYTE_ATOMS, MAX_ATOMS]);
+            known::randomly_constrained(rng, choices, constraints, atoms).book
+        }
+        5 => {
+            let small = searched(rng);
+            let layer = rng.below(small.layers.into()) as u8;
+            known::colliding(rng, &small, layer).book
+        }
+        6 => {
+            let known = known::pairs(rng.range(1, 4) as u16, 0);
+            known::scattered(rng, known, atoms).book
         }
         _ => {
             let small = searched(rng);
@@ -228,7 +240,7 @@ fn too_many_branching(rng: &mut Rng) -> Book {
         1 => known::displacing_pairs(rng.range(10, 16) as u16, 1),
         2 => known::single(rng.range(21, 40) as u16, rng.chance(50)),
         3 => known::quarrelled(known::pairs(11, 0)),
-        _ => known::pairs(128, 0),
+        _ => known::pairs(rng.pick(&[BYTE_ATOMS, MAX_ATOMS]) / 2, 0),
     };
     known.book
 }
@@ -263,7 +275,7 @@ fn questions(rng: &mut Rng, book: &[u8], drive: Drive) -> Vec<Asked> {
     for fact in [
         rng.below(facts.max(1)) as u32,
         rng.below(facts.max(1)) as u32,
-        rng.pick(&[facts as u32, 256, 1 << 16, 1 << 31, u32::MAX]),
+        rng.pick(&[facts as u32, MAX_ATOMS.into(), 1 << 16, 1 << 31, u32::MAX]),
     ] {
         let wanted = Wanted::answer(truth.place(fact));
         questions.push((Question::Place { fact }, wanted));

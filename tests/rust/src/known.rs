@@ -1,7 +1,7 @@
 //! Books of any size whose stable states are known from how they are made: for listings that are
 //! too large for the oracle, and for the benchmark.
 
-use crate::book::{not, plain, Book, Literal, FALSITY};
+use crate::book::{not, plain, Book, Literal, Rule, BYTE_ATOMS, FALSITY, MAX_ATOMS};
 use crate::expected::{counts, place_of};
 use crate::oracle::{self, body_holds, Driven};
 use crate::rng::Rng;
@@ -355,14 +355,84 @@ pub fn quarrelled(known: Known) -> Known {
 }
 
 /// Books with more than 20 branching facts, on both grounds, with states and without.
-pub fn too_many_branching() -> [Known; 5] {
+pub fn too_many_branching() -> [Known; 6] {
     [
         pairs(10, 1),
         displacing_pairs(10, 1),
         single(21, true),
         quarrelled(pairs(11, 0)),
-        pairs(128, 0),
+        pairs(BYTE_ATOMS / 2, 0),
+        pairs(MAX_ATOMS / 2, 0),
     ]
+}
+
+/// The same book with other numbers for its facts, taken at random among so many.
+pub fn scattered(rng: &mut Rng, known: Known, atoms: u16) -> Known {
+    let mut numbers: Vec<u16> = (0..atoms).collect();
+    rng.shuffle(&mut numbers);
+    numbers.truncate(known.book.atoms.into());
+    let mut book = known.book;
+    book.atoms = atoms;
+    for rule in &mut book.rules {
+        let heads = [&mut rule.head].into_iter();
+        for literal in heads.chain(&mut rule.body) {
+            if *literal != FALSITY {
+                literal.atom = numbers[usize::from(literal.atom)];
+            }
+        }
+    }
+    let state = known.state;
+    Known {
+        book,
+        state: Box::new(move |number| {
+            let mut scattered = vec![false; atoms.into()];
+            for (&number, stands) in numbers.iter().zip(state(number)) {
+                scattered[usize::from(number)] = stands;
+            }
+            scattered
+        }),
+        ..known
+    }
+}
+
+/// A junction: 1,024 rules and 20 branching facts, of which so many may stand or not, and the others never
+/// do; all other facts but the last follow from these and from each other, and all of them are scattered.
+pub fn junction(rng: &mut Rng, choices: u16, atoms: u16) -> Known {
+    let known = chosen(choices, 20);
+    let (first, branching) = (known.book.atoms, choices..choices + 20);
+    let mut book = known.book;
+    book.atoms = atoms;
+    let mut follows: Vec<Rule> = Vec::new();
+    for at in 0..1_024 - book.rules.len() {
+        let atom = first + at as u16 % (atoms - 1 - first);
+        let choice = Literal {
+            atom: rng.range(branching.start.into(), usize::from(branching.end) - 1) as u16,
+            negated: rng.chance(70),
+        };
+        follows.push(Rule {
+            layer: known.layer,
+            head: plain(atom),
+            body: vec![plain(rng.below(atom.into()) as u16), choice],
+        });
+    }
+    book.rules.extend(follows.iter().cloned());
+    rng.shuffle(&mut book.rules);
+    follows.sort_by_key(|rule| rule.head.atom);
+    let state = known.state;
+    let known = Known {
+        book,
+        state: Box::new(move |number| {
+            let mut state = state(number);
+            state.resize(atoms.into(), false);
+            for rule in &follows {
+                let stands = body_holds(rule, &state);
+                state[usize::from(rule.head.atom)] |= stands;
+            }
+            state
+        }),
+        ..known
+    };
+    scattered(rng, known, atoms)
 }
 
 /// The same book with one fact more, which has no rule and stands in no state.
@@ -400,10 +470,10 @@ pub fn chosen(choices: u16, branching: u16) -> Known {
 
 /// Ten branching facts and so many rules, eight at least: four choices, and facts that follow from
 /// these and from each other.
-pub fn sized(rng: &mut Rng, rules: usize) -> Known {
+pub fn sized(rng: &mut Rng, rules: usize, atoms: u16) -> Known {
     const CHOICES: u16 = 4;
     const BRANCHING: u16 = 10;
-    let mut book = Book::new(256, 1);
+    let mut book = Book::new(atoms, 1);
     for at in 0..CHOICES {
         let (p, q) = (2 * at, 2 * at + 1);
         // The last two have no rule and never stand.
@@ -412,7 +482,7 @@ pub fn sized(rng: &mut Rng, rules: usize) -> Known {
             .rule(0, plain(q), &[not(p), not(9)]);
     }
     while book.rules.len() < rules {
-        let atom = rng.range(BRANCHING.into(), 255);
+        let atom = rng.range(BRANCHING.into(), usize::from(atoms) - 1);
         let before = rng.below(atom) as u16;
         let choice = Literal {
             atom: rng.below(BRANCHING.into()) as u16,
@@ -428,11 +498,11 @@ pub fn sized(rng: &mut Rng, rules: usize) -> Known {
         branching: BRANCHING.into(),
         count: 1 << CHOICES,
         state: Box::new(move |number| {
-            let mut state = vec![false; 256];
+            let mut state = vec![false; atoms.into()];
             for at in 0..usize::from(CHOICES) {
                 state[2 * at + usize::from(bit(number, at))] = true;
             }
-            for atom in BRANCHING..256 {
+            for atom in BRANCHING..atoms {
                 let mut about = rules.iter().filter(|rule| rule.head.atom == atom);
                 state[usize::from(atom)] = about.any(|rule| body_holds(rule, &state));
             }
@@ -446,6 +516,24 @@ pub fn sized(rng: &mut Rng, rules: usize) -> Known {
 pub fn spread(rng: &mut Rng, small: &Book, layer: u8, atoms: u16) -> Known {
     let mut numbers: Vec<u16> = (0..atoms).collect();
     rng.shuffle(&mut numbers);
+    placed(rng, small, layer, numbers)
+}
+
+/// The same among as many facts as there can be, with numbers for the small book's facts that agree in
+/// their low bytes, four and four: cut to a byte they would be two facts.
+pub fn colliding(rng: &mut Rng, small: &Book, layer: u8) -> Known {
+    let low = [rng.below(BYTE_ATOMS.into()), rng.below(BYTE_ATOMS.into())];
+    let mut numbers: Vec<u16> = (0..MAX_ATOMS).collect();
+    rng.shuffle(&mut numbers);
+    let collides = |number: &u16| low.contains(&usize::from(number % BYTE_ATOMS));
+    numbers.sort_by_key(|number| !collides(number));
+    placed(rng, small, layer, numbers)
+}
+
+/// The small book's facts under the first of these numbers, which are all numbers below their number, in
+/// some order.
+fn placed(rng: &mut Rng, small: &Book, layer: u8, numbers: Vec<u16>) -> Known {
+    let atoms = numbers.len() as u16;
     let moved = |literal: &Literal| match *literal == FALSITY {
         true => FALSITY,
         false => Literal {
@@ -498,14 +586,14 @@ fn sixteen(body: &[Literal]) -> Vec<Literal> {
 /// The largest lawful book, 1,024 rules of 16 literals in 32 layers, with `branching` branching
 /// facts: choices between two; facts that always stand; facts about which the layers quarrel, over
 /// the choices; and facts that follow from all these.
-pub fn busy(rng: &mut Rng, branching: u16) -> Known {
+pub fn busy(rng: &mut Rng, branching: u16, atoms: u16) -> Known {
     const BASE: u16 = 15;
     const CONTESTED: u16 = 60;
     let choices = (branching - 1) / 2;
     let base = branching..branching + BASE;
     let contested = base.end..base.end + CONTESTED;
     let order = hidden_order(rng, 32);
-    let mut book = Book::new(256, 32);
+    let mut book = Book::new(atoms, 32);
     book.arrows = all_arrows(&order);
     rng.shuffle(&mut book.arrows);
     // The last branching facts have no rule and never stand.
@@ -535,7 +623,7 @@ pub fn busy(rng: &mut Rng, branching: u16) -> Known {
         }
     }
     while book.rules.len() < 1024 {
-        let atom = rng.range(contested.end.into(), 255) as u16;
+        let atom = rng.range(contested.end.into(), usize::from(atoms) - 1) as u16;
         let mut body: Vec<Literal> = base.clone().map(plain).collect();
         body[0] = plain(rng.range(base.start.into(), usize::from(atom) - 1) as u16);
         body.push(Literal {
@@ -554,7 +642,7 @@ pub fn busy(rng: &mut Rng, branching: u16) -> Known {
         branching: branching.into(),
         count: 1 << choices,
         state: Box::new(move |number| {
-            let mut state = vec![false; 256];
+            let mut state = vec![false; atoms.into()];
             for at in 0..usize::from(choices) {
                 state[2 * at + usize::from(bit(number, at))] = true;
             }
@@ -567,7 +655,7 @@ pub fn busy(rng: &mut Rng, branching: u16) -> Known {
                 let last = about.filter(holding).max_by_key(|rule| rank(rule.layer));
                 state[usize::from(atom)] = last.is_some_and(|rule| !rule.head.negated);
             }
-            for atom in contested.end..256 {
+            for atom in contested.end..atoms {
                 let mut about = rules.iter().filter(|rule| rule.head.atom == atom);
                 state[usize::from(atom)] = about.any(|rule| body_holds(rule, &state));
             }
@@ -593,8 +681,8 @@ fn full_free_facts(mut book: Book, choices: u16, mut body: impl FnMut() -> Vec<L
 
 /// The state in which the first facts are like the bits of a number, their helpers with them, and of
 /// the others those of `standing` stand.
-fn chosen_state(choices: u16, number: usize, standing: &Range<u16>) -> Vec<bool> {
-    (0..256)
+fn chosen_state(atoms: u16, choices: u16, number: usize, standing: &Range<u16>) -> Vec<bool> {
+    (0..atoms)
         .map(|atom| match atom < 2 * choices {
             true => bit(number, (atom % choices).into()),
             false => standing.contains(&atom),
@@ -603,51 +691,53 @@ fn chosen_state(choices: u16, number: usize, standing: &Range<u16>) -> Vec<bool>
 }
 
 /// `shapes::worst_order` with choices: each setting in which the chain starts goes through 1,024
-/// rules of 16 literals some 200 times.
-pub fn chained(choices: u16) -> Known {
-    const LAST: u16 = 255;
+/// rules of 16 literals some 200 times, or as often as the facts allow.
+pub fn chained(choices: u16, atoms: u16) -> Known {
+    let last = atoms - 1;
     let full = |literal| {
-        let mut body = vec![not(LAST); 15];
+        let mut body = vec![not(last); 15];
         body.push(literal);
         body
     };
-    let book = Book::new(256, 2).arrow(0, 1);
-    let mut chain = full_free_facts(book, choices, || full(not(LAST)));
-    let start = 2 * choices;
-    let links = (start + 1..LAST).len();
+    let book = Book::new(atoms, 2).arrow(0, 1);
+    let mut chain = full_free_facts(book, choices, || full(not(last)));
+    // The rules have room for a chain of so many facts.
+    let room = 1_024 - chain.rules.len() as u16;
+    let start = last.saturating_sub(room).max(2 * choices);
+    let links = (start + 1..last).len();
     while chain.rules.len() + links + 1 < 1024 {
-        chain = chain.rule(0, plain(LAST), &full(plain(LAST)));
+        chain = chain.rule(0, plain(last), &full(plain(last)));
     }
-    for atom in (start + 1..LAST).rev() {
+    for atom in (start + 1..last).rev() {
         chain = chain.rule(0, plain(atom), &full(plain(atom - 1)));
     }
-    let book = chain.rule(0, plain(start), &full(not(LAST)));
+    let book = chain.rule(0, plain(start), &full(not(last)));
     Known {
         book,
         layer: 1,
         branching: usize::from(choices) + 1,
         count: 1 << choices,
-        state: Box::new(move |number| chosen_state(choices, number, &(start..LAST))),
+        state: Box::new(move |number| chosen_state(atoms, choices, number, &(start..last))),
     }
 }
 
-/// 256 facts, the first of which may stand or not behind their helpers, and 1,024 rules, most of which
-/// lean on themselves: they have 16 literals, and say the opposite of rules below them. They change
-/// neither the states nor the branching facts.
-pub fn leaning(rng: &mut Rng, choices: u16) -> Known {
-    let known = free(choices, 0, 256);
+/// Facts that may stand or not behind their helpers, the first of which is `first`, and 1,024 rules, most
+/// of which lean on themselves: they have 16 literals, and say the opposite of rules below them. They
+/// change neither the states nor the branching facts.
+pub fn leaning(rng: &mut Rng, choices: u16, first: u16, atoms: u16) -> Known {
+    let known = free(choices, first, atoms);
     let mut book = known.book;
-    let any = |rng: &mut Rng| plain(rng.below((2 * choices).into()) as u16);
+    let any = |rng: &mut Rng| plain(first + rng.below((2 * choices).into()) as u16);
     while book.rules.len() < 1024 {
         // "not helper" has a rule below, and so has "choice". A helper that is negated would branch.
         let fact = any(rng);
-        let head = match fact.atom < choices {
+        let head = match fact.atom < first + choices {
             true => fact,
             false => fact.opposite(),
         };
         let mut body: Vec<Literal> = (0..16).map(|_| any(rng)).collect();
         for literal in &mut body {
-            if literal.atom >= choices && rng.chance(50) {
+            if literal.atom >= first + choices && rng.chance(50) {
                 *literal = literal.opposite();
             }
         }
@@ -670,23 +760,44 @@ pub enum Ending {
     Unstable,
 }
 
-/// Three that stand in no state. The last does not branch.
-const DOUBTED: [u16; 2] = [253, 254];
-const STOP: u16 = 255;
+/// What the slow books have in common.
+#[derive(Clone, Copy)]
+pub struct Slow {
+    /// Facts that may stand or not. They are the first ones.
+    pub choices: u16,
+    pub ending: Ending,
+    pub atoms: u16,
+}
+
+impl Slow {
+    /// The last three facts stand in no state. The very last does not branch.
+    fn doubted(self) -> [u16; 2] {
+        [self.atoms - 3, self.atoms - 2]
+    }
+
+    fn stop(self) -> u16 {
+        self.atoms - 1
+    }
+
+    /// How many rules there can be beside those of the choices, of the base and of the ending.
+    fn room(self) -> u16 {
+        1_024 - 5 * self.choices - 1 - 5
+    }
+}
 
 /// Adds the rules that end each setting so: each of two facts is denied where the other does not
 /// stand, and their own rules are displaced with that.
-fn ended(book: Book, ending: Ending) -> Book {
-    let [one, other] = DOUBTED;
+fn ended(book: Book, slow: Slow) -> Book {
+    let [one, other] = slow.doubted();
     let denied = |book: Book, body: &[Literal]| {
         book.rule(0, plain(one), body)
             .rule(0, plain(other), body)
             .rule(1, not(one), &[not(other)])
             .rule(1, not(other), &[not(one)])
     };
-    match ending {
+    match slow.ending {
         Ending::Stable => book,
-        Ending::Doubtful => denied(book, &[plain(STOP)]),
+        Ending::Doubtful => denied(book, &[plain(slow.stop())]),
         // Where neither stands this is not by default, and else the rule of one that stands is
         // displaced.
         Ending::Unstable => denied(book, &[]).rule(1, not(one), &[plain(one)]),
@@ -695,7 +806,12 @@ fn ended(book: Book, ending: Ending) -> Book {
 
 /// A slow book: the first facts may stand or not, with their helpers behind them, one other branches,
 /// and those of `standing` follow at every setting. The ending may take two branching facts more.
-fn slow(book: Book, choices: u16, standing: Range<u16>, ending: Ending) -> Known {
+fn slow_book(book: Book, slow: Slow, standing: Range<u16>) -> Known {
+    let Slow {
+        choices,
+        ending,
+        atoms,
+    } = slow;
     Known {
         book,
         layer: 1,
@@ -704,25 +820,26 @@ fn slow(book: Book, choices: u16, standing: Range<u16>, ending: Ending) -> Known
             Ending::Stable | Ending::Doubtful => 1 << choices,
             Ending::Unstable => 0,
         },
-        state: Box::new(move |number| chosen_state(choices, number, &standing)),
+        state: Box::new(move |number| chosen_state(atoms, choices, number, &standing)),
     }
 }
 
 /// A rule with a plain head, by the last literals of its body.
 type Link = (u16, Vec<Literal>);
 
-/// 1,024 rules of 16 literals, of both signs in no order: the links, over which a range of facts
-/// follows one by one, and rules about `STOP`, which fail at their last literals.
+/// 1,024 rules of 16 literals, of both signs in no order: the links, over which a range of `longest` facts
+/// at most follows one by one, and rules about the last fact, which fail at their last literals.
 fn linked(
     rng: &mut Rng,
-    choices: u16,
-    ending: Ending,
+    slow: Slow,
+    longest: u16,
     failing: &[Literal],
     links: impl Fn(Range<u16>) -> Vec<Link>,
 ) -> Known {
     // One that has no rule at all, and before the range one that always stands.
-    let (never, base) = (2 * choices, 2 * choices + 1);
-    let links = links(base + 1..DOUBTED[0]);
+    let (never, end) = (2 * slow.choices, slow.doubted()[0]);
+    let base = (never + 1).max((end - 1).saturating_sub(longest));
+    let links = links(base + 1..end);
     let mut full = |last: &[Literal]| -> Vec<Literal> {
         let mut body: Vec<Literal> = (last.len()..16)
             .map(|_| rng.pick(&[plain(base), not(never)]))
@@ -730,21 +847,23 @@ fn linked(
         body.extend(last);
         body
     };
-    let book = Book::new(256, 2).arrow(0, 1).rule(0, plain(base), &[]);
-    let mut book = ended(full_free_facts(book, choices, || full(&[])), ending);
+    let book = Book::new(slow.atoms, 2)
+        .arrow(0, 1)
+        .rule(0, plain(base), &[]);
+    let mut book = ended(full_free_facts(book, slow.choices, || full(&[])), slow);
     while book.rules.len() + links.len() < 1024 {
-        book = book.rule(0, plain(STOP), &full(failing));
+        book = book.rule(0, plain(slow.stop()), &full(failing));
     }
     for (atom, last) in links {
         book = book.rule(0, plain(atom), &full(&last));
     }
-    slow(book, choices, base..DOUBTED[0], ending)
+    slow_book(book, slow, base..end)
 }
 
 /// The slowest book that we know for an engine which makes passes over the rules: each setting adds
 /// one fact a pass over a chain that stands in reverse.
-pub fn slowest(rng: &mut Rng, choices: u16, ending: Ending) -> Known {
-    linked(rng, choices, ending, &[plain(STOP)], |chain| {
+pub fn slowest(rng: &mut Rng, slow: Slow) -> Known {
+    linked(rng, slow, slow.room(), &[plain(slow.stop())], |chain| {
         let link = |atom| (atom, vec![plain(atom - 1)]);
         chain.rev().map(link).collect()
     })
@@ -761,9 +880,10 @@ fn telling_literals(telling: &Range<u16>, number: usize) -> Vec<Literal> {
 
 /// A ring that stands in reverse, each fact following the one before it. The last choices say at
 /// which of up to 16 places it is entered, so that no one order of the rules suits all settings.
-pub fn ring(rng: &mut Rng, choices: u16, ending: Ending) -> Known {
-    let telling = choices.saturating_sub(4)..choices;
-    linked(rng, choices, ending, &[plain(STOP)], |ring| {
+pub fn ring(rng: &mut Rng, slow: Slow) -> Known {
+    let telling = slow.choices.saturating_sub(4)..slow.choices;
+    let longest = slow.room() - 16;
+    linked(rng, slow, longest, &[plain(slow.stop())], |ring| {
         let before = |atom| match atom == ring.start {
             true => ring.end - 1,
             false => atom - 1,
@@ -783,9 +903,10 @@ pub fn ring(rng: &mut Rng, choices: u16, ending: Ending) -> Known {
 
 /// Two chains through the same facts in opposite directions, one for each value of the last choice:
 /// an order of the rules that suits one setting is the worst for the next.
-pub fn both_ways(rng: &mut Rng, choices: u16, ending: Ending) -> Known {
-    let forward = choices - 1;
-    linked(rng, choices, ending, &[plain(STOP)], |chain| {
+pub fn both_ways(rng: &mut Rng, slow: Slow) -> Known {
+    let forward = slow.choices - 1;
+    let longest = (slow.room() - 1) / 2;
+    linked(rng, slow, longest, &[plain(slow.stop())], |chain| {
         let mut links = vec![(chain.end - 1, vec![not(forward)])];
         for atom in chain.rev() {
             links.push((atom, vec![plain(forward), plain(atom - 1)]));
@@ -798,15 +919,15 @@ pub fn both_ways(rng: &mut Rng, choices: u16, ending: Ending) -> Known {
 /// A chain of eight blocks, each in reverse, in one of up to 16 orders of these that the last choices
 /// tell; and rules that fail late, at another literal at the next setting. Neither an order of the
 /// rules nor the literal that a rule failed at serves for long.
-pub fn blocks(rng: &mut Rng, choices: u16, ending: Ending) -> Known {
+pub fn blocks(rng: &mut Rng, slow: Slow) -> Known {
     const BLOCKS: u16 = 8;
-    let telling = choices.saturating_sub(4)..choices;
-    let last = choices - 1;
+    let telling = slow.choices.saturating_sub(4)..slow.choices;
+    let last = slow.choices - 1;
     let orders: Vec<Vec<u8>> = (0..1 << telling.len())
         .map(|_| hidden_order(rng, BLOCKS.into()))
         .collect();
     let failing = [plain(last), not(last)];
-    linked(rng, choices, ending, &failing, |chain| {
+    linked(rng, slow, slow.room() - 16 * BLOCKS, &failing, |chain| {
         let size = chain.len() as u16 / BLOCKS;
         let start = |block: u8| chain.start + size * u16::from(block);
         let end = |block: u8| match u16::from(block) == BLOCKS - 1 {
@@ -831,16 +952,17 @@ pub fn blocks(rng: &mut Rng, choices: u16, ending: Ending) -> Known {
 
 /// 1,024 rules, most of them displacing: their bodies of 16 literals hold to the last one at every
 /// setting, and all of them displace the same rule. Beside them a chain of so many links in reverse.
-pub fn displaced(choices: u16, links: u16, ending: Ending) -> Known {
-    // One that has no rule, the one about which the rules quarrel, and the start of the chain.
-    let never = 2 * choices;
+pub fn displaced(slow: Slow, links: u16) -> Known {
+    // One that has no rule, the one about which the rules quarrel, and the start of the chain, which is
+    // as far behind as where there are few facts.
+    let never = 2 * slow.choices + (slow.atoms - BYTE_ATOMS);
     let (denied, base) = (never + 1, never + 2);
     let full = sixteen(&[not(never)]);
-    let book = Book::new(256, 2)
+    let book = Book::new(slow.atoms, 2)
         .arrow(0, 1)
         .rule(0, plain(base), &full)
         .rule(0, plain(denied), &full);
-    let mut book = ended(full_free_facts(book, choices, || full.clone()), ending);
+    let mut book = ended(full_free_facts(book, slow.choices, || full.clone()), slow);
     while book.rules.len() + usize::from(links) < 1024 {
         book = book.rule(1, not(denied), &full);
     }
@@ -848,20 +970,25 @@ pub fn displaced(choices: u16, links: u16, ending: Ending) -> Known {
     for atom in (base + 1..end).rev() {
         book = book.rule(0, plain(atom), &sixteen(&[not(never), plain(atom - 1)]));
     }
-    slow(book, choices, base..end, ending)
+    slow_book(book, slow, base..end)
 }
 
 /// The slow books of every kind and ending, one choice at least, with words for messages.
-pub fn every_slow(rng: &mut Rng, choices: u16) -> Vec<(String, Known)> {
+pub fn every_slow(rng: &mut Rng, choices: u16, atoms: u16) -> Vec<(String, Known)> {
     let endings = [Ending::Stable, Ending::Doubtful, Ending::Unstable];
     let named = endings.map(|ending| {
+        let slow = Slow {
+            choices,
+            ending,
+            atoms,
+        };
         [
-            ("slowest", slowest(rng, choices, ending)),
-            ("ring", ring(rng, choices, ending)),
-            ("both ways", both_ways(rng, choices, ending)),
-            ("blocks", blocks(rng, choices, ending)),
-            ("displaced", displaced(choices, 0, ending)),
-            ("displaced, and a chain", displaced(choices, 200, ending)),
+            ("slowest", slowest(rng, slow)),
+            ("ring", ring(rng, slow)),
+            ("both ways", both_ways(rng, slow)),
+            ("blocks", blocks(rng, slow)),
+            ("displaced", displaced(slow, 0)),
+            ("displaced, and a chain", displaced(slow, 200)),
         ]
         .map(|(kind, known)| (format!("{kind}, {ending:?}").to_lowercase(), known))
     });
@@ -907,13 +1034,13 @@ pub fn constrained(known: Known, bodies: &[Vec<Literal>]) -> Known {
     }
 }
 
-/// The first facts follow the last ones, of which so many may stand or not, among 256 facts; and there
-/// are so many constraints over all these and over the helpers, with bodies of up to 16 literals. Each
-/// holds in some of the states at most, and none of the facts but the last branches.
-pub fn randomly_constrained(rng: &mut Rng, choices: u16, constraints: usize) -> Known {
+/// The first facts follow the last ones, of which so many may stand or not; and there are so many
+/// constraints over all these and over the helpers, with bodies of up to 16 literals. Each holds in some of
+/// the states at most, and none of the facts but the last branches.
+pub fn randomly_constrained(rng: &mut Rng, choices: u16, constraints: usize, atoms: u16) -> Known {
     let following = rng.pick(&EVERY_FOLLOWING);
-    let known = followed(choices, choices, 256, following);
-    let facts: Vec<u16> = (0..choices).chain(256 - 2 * choices..256).collect();
+    let known = followed(choices, choices, atoms, following);
+    let facts: Vec<u16> = (0..choices).chain(atoms - 2 * choices..atoms).collect();
     let body = |_| -> Vec<Literal> {
         let literals = 0..rng.range(2, 16);
         literals
@@ -1084,33 +1211,57 @@ pub(crate) mod tests {
             let what = format!("seed {seed}, spread {}", hex(&small.bytes()));
             assert_known(&what, &spread(&mut rng, &small, layer, atoms));
         }
-        for branching in [1, 2, 10, 11, 20] {
-            let busy = busy(&mut rng, branching);
-            assert_eq!(busy.book.bytes().len(), 38_372);
-            assert_known(&format!("seed {seed}, busy"), &busy);
-        }
-        for choices in [1, 5] {
-            let leaning = leaning(&mut rng, choices);
-            assert_known(&format!("seed {seed}, leaning"), &leaning);
-        }
-        let chained = chained(3);
-        assert_eq!(chained.book.rules.len(), 1_024);
-        assert_known("chained", &chained);
         assert_known("front and end", &front_and_end(4, 12));
         assert_known("spared", &spared(pairs(3, 1)));
         for choices in 0..5 {
             assert_known("chosen", &chosen(choices, 6));
         }
-        for rules in [8, 32, 128, 512, 1_024] {
-            let sized = sized(&mut rng, rules);
-            assert_eq!(sized.book.rules.len(), rules);
-            assert_known(&format!("seed {seed}, sized"), &sized);
+        for _ in 0..20 {
+            let small = shapes::crowded(&mut rng, Layering::Any);
+            let what = format!("seed {seed}, colliding {}", hex(&small.bytes()));
+            assert_known(&what, &colliding(&mut rng, &small, 0));
+            let scattered = scattered(&mut rng, pairs(3, 1), 14);
+            assert_known(&format!("seed {seed}, scattered"), &scattered);
         }
-        for choices in [1, 3, 5] {
-            for (what, known) in every_slow(&mut rng, choices) {
-                assert_eq!(known.book.rules.len(), 1_024);
-                assert_known(&format!("seed {seed}, {what}"), &known);
+    }
+
+    /// The oracle is asked about as many states as it has time for.
+    #[test]
+    fn oracle_confirms_what_is_known_of_1_024_rules() {
+        let seed = seed();
+        let mut rng = Rng::named(seed, "known, many facts");
+        for atoms in [BYTE_ATOMS, MAX_ATOMS] {
+            for branching in [1, 11, 20] {
+                let busy = busy(&mut rng, branching, atoms);
+                assert_eq!(busy.book.bytes().len(), 38_372);
+                assert_known(&format!("seed {seed}, busy"), &busy);
             }
+            for choices in [1, 5] {
+                let leaning = leaning(&mut rng, choices, atoms - 2 * choices, atoms);
+                assert_known(&format!("seed {seed}, leaning"), &leaning);
+            }
+            let chained = chained(3, atoms);
+            assert_eq!(chained.book.rules.len(), 1_024);
+            assert_known("chained", &chained);
+            for rules in [8, 128, 1_024] {
+                let sized = sized(&mut rng, rules, atoms);
+                assert_eq!(sized.book.rules.len(), rules);
+                assert_known(&format!("seed {seed}, sized"), &sized);
+            }
+            for choices in [1, 5] {
+                for (what, known) in every_slow(&mut rng, choices, atoms) {
+                    assert_eq!(known.book.rules.len(), 1_024);
+                    assert_known(&format!("seed {seed}, {what}"), &known);
+                }
+            }
+            for choices in [0, 3] {
+                let junction = junction(&mut rng, choices, atoms);
+                assert_eq!(junction.book.rules.len(), 1_024);
+                assert_eq!(junction.branching, 20);
+                assert_known(&format!("seed {seed}, junction"), &junction);
+            }
+            let random = randomly_constrained(&mut rng, 6, 120, atoms);
+            assert_known(&format!("seed {seed}, random constraints"), &random);
         }
     }
 
@@ -1145,7 +1296,8 @@ pub(crate) mod tests {
             assert_known("constrained", &constrained(counted(count, 13), &bodies));
         }
         for choices in [1, 4, 6] {
-            let random = randomly_constrained(&mut rng, choices, 20 * usize::from(choices));
+            let number = 20 * usize::from(choices);
+            let random = randomly_constrained(&mut rng, choices, number, 40);
             assert_known(&format!("seed {seed}, random constraints"), &random);
         }
         for choices in [1, 2, 5] {

@@ -1,6 +1,7 @@
 //! The engine's work in plain Rust, as fast as its plain form goes: the benchmark's yardstick,
 //! and a second opinion on books that are too large for the oracle to try every state of.
 
+use crate::book::{BYTE_ATOMS, LONGEST_RECORD, MAX_ATOMS};
 use crate::drive::Drive;
 use crate::expected::{
     branching, counts, place_of, yes_or_no, BAD_CANDIDATE, BUFFER_TOO_SHORT, MAX_BRANCHING,
@@ -10,23 +11,28 @@ use crate::reader::{self, Parts};
 use std::ops::ControlFlow;
 
 const LAYERS: usize = 32;
-const NAMES: usize = 512;
 
-/// "f" is name f, "not f" is name f + 256.
+/// Of N names, a power of 2, "f" is name f, and "not f" is name f + N / 2.
 type Name = u16;
 
-/// A set of names.
-type Names = [bool; NAMES];
+/// A set of N names.
+type Names<const N: usize> = [bool; N];
 
-const NO_NAMES: Names = [false; NAMES];
+/// The names of a book with few facts: it need not pay for as many as there can be.
+const FEW: usize = 2 * BYTE_ATOMS as usize;
+const ALL: usize = 2 * MAX_ATOMS as usize;
 
-fn name(literal: &[u8]) -> Name {
-    Name::from(literal[1]) | Name::from(literal[0] >> 7) << 8
+fn name<const N: usize>(literal: &[u8]) -> Name {
+    let number = Name::from_be_bytes([literal[0], literal[1]]);
+    match number < 0x8000 {
+        true => number,
+        false => (number & 0x7FFF) + (N / 2) as Name,
+    }
 }
 
 /// The name of the same fact with the other sign.
-fn opposite(name: Name) -> usize {
-    usize::from(name ^ 256)
+fn opposite<const N: usize>(name: Name) -> usize {
+    usize::from(name) ^ (N / 2)
 }
 
 /// A body in `Program::bodies`.
@@ -48,7 +54,7 @@ struct Row {
 }
 
 /// A lawful book at the driven layer. What does not depend on a state is worked out here.
-pub struct Program {
+struct Program<const N: usize> {
     atoms: usize,
     rows: Vec<Row>,
     /// Those that can displace others.
@@ -58,24 +64,24 @@ pub struct Program {
     bodies: Vec<Name>,
 }
 
-impl Program {
-    fn new(book: &Parts, drive: Drive) -> Program {
+impl<const N: usize> Program<N> {
+    fn new(book: &Parts, drive: Drive) -> Program<N> {
         let below = below(book);
         let relevant = (below[drive.layer as usize] | 1 << drive.layer) & !drive.off;
         let mut rows = Vec::with_capacity(usize::from(book.rules.count));
         let (mut bans, mut bodies) = (Vec::new(), Vec::new());
-        let mut layers_of = [0u32; NAMES];
+        let mut layers_of = [0u32; N];
         let counts = |rule: &&[u8]| relevant >> rule[0] & 1 == 1;
         for rule in book.rules.records().filter(counts) {
             let from = bodies.len() as u32;
-            bodies.extend(rule[3..].chunks_exact(2).map(name));
+            bodies.extend(rule[3..].chunks_exact(2).map(name::<N>));
             let to = bodies.len() as u32;
             let body = Body { from, to };
             if reader::is_falsity(&rule[1..3]) {
                 bans.push(body);
                 continue;
             }
-            let head = name(&rule[1..3]);
+            let head = name::<N>(&rule[1..3]);
             layers_of[usize::from(head)] |= 1 << rule[0];
             rows.push(Row {
                 body,
@@ -87,7 +93,7 @@ impl Program {
         for row in &mut rows {
             let body = &bodies[row.body.from as usize..row.body.to as usize];
             if !body.contains(&row.head) {
-                row.under = layers_of[opposite(row.head)] & below[usize::from(row.layer)];
+                row.under = layers_of[opposite::<N>(row.head)] & below[usize::from(row.layer)];
             }
         }
         let rejecting = rows.iter().copied().filter(|row| row.under != 0);
@@ -105,44 +111,45 @@ impl Program {
     }
 
     /// Whether all of the body is among `names`.
-    fn within(&self, body: Body, names: &Names) -> bool {
-        let among = |&name: &Name| names[usize::from(name) % NAMES];
+    fn within(&self, body: Body, names: &Names<N>) -> bool {
+        let among = |&name: &Name| names[usize::from(name) % N];
         self.body(body).iter().all(among)
     }
 
     /// Bit i of entry h: rules of layer i with head h are displaced.
-    fn displaced(&self, state: &Names) -> [u32; NAMES] {
-        let mut displaced = [0; NAMES];
+    fn displaced(&self, state: &Names<N>) -> [u32; N] {
+        let mut displaced = [0; N];
         for row in &self.rejecting {
             if self.within(row.body, state) {
-                displaced[opposite(row.head)] |= row.under;
+                displaced[opposite::<N>(row.head)] |= row.under;
             }
         }
         displaced
     }
 
-    fn defaults(&self, state: &Names) -> Names {
-        let mut defaults = NO_NAMES;
-        defaults[256..256 + self.atoms].fill(true);
+    fn defaults(&self, state: &Names<N>) -> Names<N> {
+        let mut defaults = [false; N];
+        defaults[N / 2..N / 2 + self.atoms].fill(true);
         for row in &self.rows {
-            if row.head < 256 && defaults[opposite(row.head)] && self.within(row.body, state) {
-                defaults[opposite(row.head)] = false;
+            let default = opposite::<N>(row.head);
+            if default >= N / 2 && defaults[default] && self.within(row.body, state) {
+                defaults[default] = false;
             }
         }
         defaults
     }
 
     /// Adds heads until nothing is added. False as soon as both signs of a fact are reached.
-    fn fill(&self, displaced: &[u32; NAMES], reached: &mut Names) -> bool {
+    fn fill(&self, displaced: &[u32; N], reached: &mut Names<N>) -> bool {
         loop {
             let mut added = false;
             for row in &self.rows {
-                let head = usize::from(row.head) % NAMES;
+                let head = usize::from(row.head) % N;
                 if !reached[head]
                     && displaced[head] >> row.layer & 1 == 0
                     && self.within(row.body, reached)
                 {
-                    if reached[opposite(row.head)] {
+                    if reached[opposite::<N>(row.head)] {
                         return false;
                     }
                     reached[head] = true;
@@ -156,7 +163,7 @@ impl Program {
     }
 
     /// Whether `state`, which has one name of each fact, is a stable model.
-    fn stable(&self, state: &Names) -> bool {
+    fn stable(&self, state: &Names<N>) -> bool {
         let mut reached = self.defaults(state);
         self.fill(&self.displaced(state), &mut reached)
             && reached == *state
@@ -165,16 +172,18 @@ impl Program {
 
     /// The branching facts, falling, or cause 12.
     fn branching(&self) -> Result<Vec<Name>, u64> {
-        let mut branching = [false; 256];
+        let mut branching = [false; N];
         for row in &self.rows {
             for &name in self.body(row.body) {
-                if name >= 256 || row.under != 0 {
-                    branching[usize::from(name % 256)] = true;
+                let name = usize::from(name);
+                if name >= N / 2 || row.under != 0 {
+                    branching[name % (N / 2)] = true;
                 }
             }
         }
         let branches = |&atom: &Name| branching[usize::from(atom)];
-        let branching: Vec<Name> = (0..256).rev().filter(branches).collect();
+        let atoms = 0..self.atoms as Name;
+        let branching: Vec<Name> = atoms.rev().filter(branches).collect();
         match branching.len() > MAX_BRANCHING {
             true => Err(TOO_MANY_BRANCHING),
             false => Ok(branching),
@@ -182,13 +191,10 @@ impl Program {
     }
 
     /// A record, with zeros behind it.
-    fn record(state: &Names) -> [u8; 32] {
-        let mut record = [0; 32];
-        for (atom, _) in state[..256]
-            .iter()
-            .enumerate()
-            .filter(|(_, &stands)| stands)
-        {
+    fn record(state: &Names<N>) -> [u8; LONGEST_RECORD] {
+        let mut record = [0; LONGEST_RECORD];
+        let facts = state[..N / 2].iter().enumerate();
+        for (atom, _) in facts.filter(|(_, &stands)| stands) {
             record[atom / 8] |= 0x80 >> (atom % 8);
         }
         record
@@ -196,9 +202,9 @@ impl Program {
 
     /// The only state that can be stable and agree with the setting of the branching facts; where
     /// it does not agree, or both signs of a fact are reached, there is none.
-    fn candidate(&self, branching: &[Name], setting: &Names) -> Option<Names> {
-        let mut reached = NO_NAMES;
-        reached[256..].copy_from_slice(&setting[256..]);
+    fn candidate(&self, branching: &[Name], setting: &Names<N>) -> Option<Names<N>> {
+        let mut reached = [false; N];
+        reached[N / 2..].copy_from_slice(&setting[N / 2..]);
         if !self.fill(&self.displaced(setting), &mut reached) {
             return None;
         }
@@ -210,22 +216,22 @@ impl Program {
             return None;
         }
         for atom in 0..self.atoms {
-            reached[atom + 256] = !reached[atom];
+            reached[atom + N / 2] = !reached[atom];
         }
         Some(reached)
     }
 
     /// Visits every stable model once, until the visitor has seen enough: each setting of the
     /// branching facts is gone through, those in which an earlier fact does not stand first.
-    fn each_stable(&self, branching: &[Name], mut visit: impl FnMut(&Names) -> ControlFlow<()>) {
-        let mut setting = NO_NAMES;
+    fn each_stable(&self, branching: &[Name], mut visit: impl FnMut(&Names<N>) -> ControlFlow<()>) {
+        let mut setting = [false; N];
         for number in 0..1u32 << branching.len() {
             // Only the lowest bits have changed.
             let changed = (number ^ number.wrapping_sub(1)).count_ones() as usize;
             for (at, &atom) in branching.iter().enumerate().take(changed) {
                 let stands = number >> at & 1 == 1;
                 setting[usize::from(atom)] = stands;
-                setting[usize::from(atom) + 256] = !stands;
+                setting[usize::from(atom) + N / 2] = !stands;
             }
             if let Some(state) = self.candidate(branching, &setting) {
                 if self.stable(&state) && visit(&state).is_break() {
@@ -233,6 +239,26 @@ impl Program {
                 }
             }
         }
+    }
+}
+
+/// The answers of a program, whatever the number of its names, or the causes for which there are none.
+trait Calls {
+    fn branching_count(&self) -> Result<usize, u64>;
+    fn test(&self, candidate: &[u8]) -> Result<u64, u64>;
+    fn list(&self, buffer: &mut [u8]) -> Result<u64, u64>;
+    fn one(&self, buffer: &mut [u8]) -> Result<u64, u64>;
+    fn place(&self, fact: u32) -> Result<u64, u64>;
+}
+
+impl<const N: usize> Calls for Program<N> {
+    fn branching_count(&self) -> Result<usize, u64> {
+        Ok(self.branching()?.len())
+    }
+
+    fn test(&self, candidate: &[u8]) -> Result<u64, u64> {
+        let state = state(candidate, self.atoms).ok_or(BAD_CANDIDATE)?;
+        Ok(yes_or_no(self.stable(&state)))
     }
 
     /// One pass to count, and one to write, as without a heap.
@@ -348,7 +374,7 @@ fn below(book: &Parts) -> [u32; LAYERS] {
 }
 
 /// The book at the driven layer, or the first of causes 1 to 9 and 19 that applies.
-fn program(book: &[u8], drive: Drive) -> Result<Program, u64> {
+fn program(book: &[u8], drive: Drive) -> Result<Box<dyn Calls>, u64> {
     let cause = reader::first_cause(book);
     if cause != reader::GRANTED {
         return Err(cause.into());
@@ -360,11 +386,14 @@ fn program(book: &[u8], drive: Drive) -> Result<Program, u64> {
     if u64::from(drive.off) >> parts.layers != 0 {
         return Err(NO_SUCH_LAYER_OFF);
     }
-    Ok(Program::new(&parts, drive))
+    Ok(match 2 * usize::from(parts.atoms) <= FEW {
+        true => Box::new(Program::<FEW>::new(&parts, drive)),
+        false => Box::new(Program::<ALL>::new(&parts, drive)),
+    })
 }
 
 /// The state that a record gives. `None` where its length is another, or a spare bit is set.
-fn state(record: &[u8], atoms: usize) -> Option<Names> {
+fn state<const N: usize>(record: &[u8], atoms: usize) -> Option<Names<N>> {
     if record.len() != atoms.div_ceil(8) {
         return None;
     }
@@ -372,27 +401,24 @@ fn state(record: &[u8], atoms: usize) -> Option<Names> {
     if record[record.len() - 1] & ((1 << spare) - 1) as u8 != 0 {
         return None;
     }
-    let mut state = NO_NAMES;
+    let mut state = [false; N];
     for atom in 0..atoms {
         let stands = record[atom / 8] >> (7 - atom % 8) & 1;
-        state[atom + 256 * usize::from(1 - stands)] = true;
+        state[atom + N / 2 * usize::from(1 - stands)] = true;
     }
     Some(state)
 }
 
 /// The number of branching facts, or the cause for which there is no search.
 pub fn branching_count(book: &[u8], drive: Drive) -> Result<usize, u64> {
-    let branching = program(book, drive)?.branching()?;
-    Ok(branching.len())
+    program(book, drive)?.branching_count()
 }
 
 /// What `lesson_test` answers.
 pub fn test(book: &[u8], drive: Drive, candidate: &[u8]) -> u64 {
-    let answer = program(book, drive).and_then(|program| {
-        let state = state(candidate, program.atoms).ok_or(BAD_CANDIDATE)?;
-        Ok(yes_or_no(program.stable(&state)))
-    });
-    answer.unwrap_or_else(|cause| cause)
+    program(book, drive)
+        .and_then(|program| program.test(candidate))
+        .unwrap_or_else(|cause| cause)
 }
 
 /// What `lesson_list` answers and does.

@@ -1,7 +1,7 @@
 //! An independent reader of books, written from documents 01 and 02 alone: the first of causes 1 to
 //! 8, or the book. It allocates nothing to find the cause and is the benchmark's yardstick too.
 
-use crate::book::{Arrow, Book, Literal, Rule};
+use crate::book::{Arrow, Book, Literal, Rule, MAX_ATOMS};
 
 pub const GRANTED: u8 = 0;
 pub const TOO_SHORT: u8 = 1;
@@ -14,7 +14,6 @@ pub const REPEATED_ARROW: u8 = 7;
 pub const CYCLE: u8 = 8;
 
 const MIN_BYTES: usize = 20;
-const MAX_ATOMS: u16 = 256;
 const MAX_LAYERS: usize = 32;
 const MAX_ARROWS: u16 = 496;
 const MAX_RULES: u16 = 1024;

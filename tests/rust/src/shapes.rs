@@ -1,7 +1,8 @@
 //! Books of every shape, lawful and not. The same generator state gives the same book.
 
 use crate::book::{
-    framed, not, plain, set_length, Arrow, Book, Draft, Literal, Rule, Section, FALSITY,
+    framed, not, plain, set_length, Arrow, Book, Draft, Literal, Rule, Section, BYTE_ATOMS,
+    FALSITY, MAX_ATOMS, WIDE,
 };
 use crate::drive::{all_layers, at, Drive};
 use crate::reader;
@@ -126,6 +127,16 @@ fn literal(rng: &mut Rng, atoms: usize, negated: usize) -> Literal {
     Literal {
         atom: rng.below(atoms) as u16,
         negated: rng.chance(negated),
+    }
+}
+
+/// Any number of facts: as many as a byte has numbers for at most, more, or one of the edges.
+fn any_atoms(rng: &mut Rng) -> usize {
+    let (byte, most) = (usize::from(BYTE_ATOMS), usize::from(MAX_ATOMS));
+    match rng.below(3) {
+        0 => rng.range(1, byte),
+        1 => rng.range(byte + 1, most),
+        _ => rng.pick(&WIDE).into(),
     }
 }
 
@@ -535,7 +546,7 @@ pub struct Planted {
 
 pub fn planted(rng: &mut Rng) -> Planted {
     let sizes = Sizes {
-        atoms: rng.range(1, 256),
+        atoms: any_atoms(rng),
         layers: rng.range(2, 32),
         arrows: 0,
         rules: rng.range(0, 1024),
@@ -558,7 +569,7 @@ pub fn planted_constrained(rng: &mut Rng) -> Planted {
 
 fn plant_largest(rng: &mut Rng, constraints: usize) -> Planted {
     let sizes = Sizes {
-        atoms: 256,
+        atoms: rng.pick(&[BYTE_ATOMS, MAX_ATOMS]).into(),
         layers: 32,
         arrows: 0,
         rules: 1024,
@@ -572,7 +583,7 @@ fn plant_largest(rng: &mut Rng, constraints: usize) -> Planted {
 /// Each fact that stands has a rule over facts that come before it in a hidden order. Some rules
 /// say the opposite of the state, under a layer that displaces them; and the body of every other
 /// rule that could contradict the state, or rule it out, does not hold in it. There are no more rules
-/// than asked for, but for those that the state needs.
+/// than asked for, but for those that the state needs; and never more than there can be.
 fn plant(rng: &mut Rng, sizes: &Sizes) -> Planted {
     let order = hidden_order(rng, sizes.layers);
     let mut book = Book::new(sizes.atoms as u16, sizes.layers as u8);
@@ -594,7 +605,9 @@ fn plant(rng: &mut Rng, sizes: &Sizes) -> Planted {
                 .map(|_| right(hidden[rng.below(at)]))
                 .collect()
         };
-        let contested = rng.chance(30);
+        // Each fact that is left takes a rule at most.
+        let room = book.rules.len() + 1 + hidden.len() - at < 1_024;
+        let contested = room && rng.chance(30);
         let upper = rng.range(1, sizes.layers - 1);
         if contested || state[usize::from(atom)] {
             let body = before(rng);
@@ -628,22 +641,22 @@ fn plant(rng: &mut Rng, sizes: &Sizes) -> Planted {
 /// 1,024 rules of 16 literals in the worst order for filling: each pass goes through nearly all of
 /// them to their last literals and reaches one fact more. In its one stable state, at layer 0, all
 /// facts stand but the last.
-pub fn worst_order() -> Planted {
-    let last = 255;
+pub fn worst_order(atoms: u16) -> Planted {
+    let last = atoms - 1;
     let body = |literal| {
         let mut body = vec![not(last); 15];
         body.push(literal);
         body
     };
-    let mut book = Book::new(256, 1);
-    for _ in 0..1024 - 255 {
+    let mut book = Book::new(atoms, 1);
+    for _ in 0..1024 - last {
         book = book.rule(0, plain(last), &body(plain(last)));
     }
     for atom in (1..last).rev() {
         book = book.rule(0, plain(atom), &body(plain(atom - 1)));
     }
     let book = book.rule(0, plain(0), &body(not(last)));
-    let mut state = vec![true; 256];
+    let mut state = vec![true; atoms.into()];
     state[usize::from(last)] = false;
     Planted {
         book,
@@ -666,7 +679,7 @@ fn eventful(rng: &mut Rng) -> Book {
 pub fn large(rng: &mut Rng) -> Book {
     let layers = rng.range(1, 32);
     let sizes = Sizes {
-        atoms: rng.range(1, 256),
+        atoms: any_atoms(rng),
         layers,
         arrows: rng.range(0, pairs(layers)),
         rules: rng.range(0, 1024),
@@ -681,7 +694,7 @@ pub fn large(rng: &mut Rng) -> Book {
 /// them, and the first of its arrows leads from the line's first layer to its last.
 pub fn largest(rng: &mut Rng) -> Book {
     let sizes = Sizes {
-        atoms: 256,
+        atoms: MAX_ATOMS.into(),
         layers: 32,
         arrows: 0,
         rules: 1024,
@@ -827,7 +840,20 @@ pub fn odd_ranges(rng: &mut Rng) -> Vec<u8> {
     let mut draft = small(rng).draft();
     if rng.chance(70) {
         draft.atoms = rng.pick(&[
-            0, 1, 2, 255, 256, 257, 258, 511, 512, 0x8000, 0x8001, 0xFFFF,
+            0,
+            1,
+            2,
+            BYTE_ATOMS - 1,
+            BYTE_ATOMS,
+            BYTE_ATOMS + 1,
+            MAX_ATOMS - 1,
+            MAX_ATOMS,
+            MAX_ATOMS + 1,
+            MAX_ATOMS + BYTE_ATOMS,
+            2 * MAX_ATOMS,
+            0x8000,
+            0x8001,
+            0xFFFF,
         ]);
     }
     if rng.chance(70) {
@@ -895,7 +921,8 @@ pub fn random_records(rng: &mut Rng) -> Vec<u8> {
     };
     let arrows = section(&[2, 2, 2, 2, 2, 2, 0, 1, 3]);
     let rules = section(&[3, 3, 5, 5, 7, 35, 0, 1, 2, 4, 37, 255]);
-    let mut draft = Book::new(rng.range(1, 300) as u16, rng.range(1, 6) as u8).draft();
+    let facts = rng.range(1, usize::from(MAX_ATOMS) + 200) as u16;
+    let mut draft = Book::new(facts, rng.range(1, 6) as u8).draft();
     draft.arrows = arrows;
     draft.rules = rules;
     draft.bytes()
@@ -1108,7 +1135,7 @@ fn miscount(rng: &mut Rng, draft: &mut Draft) {
 /// Cause 5 by one of the four ranges.
 fn leave_a_range(rng: &mut Rng, draft: &mut Draft) {
     match rng.below(10) {
-        0..=3 => draft.atoms = rng.pick(&[0, 257, 512, 0x8000, 0xFFFF]),
+        0..=3 => draft.atoms = rng.pick(&[0, MAX_ATOMS + 1, 2 * MAX_ATOMS, 0x8000, 0xFFFF]),
         4..=7 => draft.layers = rng.pick(&[0, 33, 64, 255]),
         8 => draft
             .arrows
@@ -1139,7 +1166,7 @@ fn break_a_record(rng: &mut Rng, book: &Book, draft: &mut Draft) {
     match rng.below(3) {
         0 => record[1] = layer,
         1 => {
-            let atom = rng.pick(&[book.atoms, book.atoms + 1, 256, 0x7FFE, 0x7FFF]);
+            let atom = rng.pick(&[book.atoms, book.atoms + 1, MAX_ATOMS, 0x7FFE, 0x7FFF]);
             let place = rng.below((record.len() - 2) / 2);
             // Of these, the plain 32,767 alone is a lawful head.
             let negated = rng.chance(50) || (place == 0 && atom == 0x7FFF);
