@@ -2,7 +2,7 @@
 //! on every layer of many small books, and on books whose states are known.
 
 use lesson_tests::bitset;
-use lesson_tests::book::{hex, Book};
+use lesson_tests::book::{hex, width, Book, BYTE_ATOMS, MAX_ATOMS, WIDE};
 use lesson_tests::causes::{fields, ANSWERS};
 use lesson_tests::drive::Drive;
 use lesson_tests::expected::{self, branching, counts, place_of, yes_or_no, NO_STABLE_STATE};
@@ -109,7 +109,7 @@ fn assert_layer(case: &Case, driven: &Driven) -> usize {
         true => NO_STABLE_STATE,
         false => branching(g),
     };
-    case.one(usize::from(atoms).div_ceil(8) + 2, answer, &records);
+    case.one(width(atoms) + 2, answer, &records);
     case.one(0, expected::BUFFER_TOO_SHORT, &records);
     for fact in 0..atoms {
         let standing = models.iter().filter(|model| model[usize::from(fact)]);
@@ -193,7 +193,7 @@ fn assert_known(what: &str, known: &Known) {
         drive: known.layer.into(),
     };
     let listing = known.listing();
-    let width = usize::from(known.book.atoms).div_ceil(8);
+    let width = width(known.book.atoms);
     let records: Vec<Vec<u8>> = listing[11..].chunks(width).map(<[u8]>::to_vec).collect();
     case.list(listing.len(), (known.answer(), &listing));
     let answer = match known.count {
@@ -237,28 +237,33 @@ fn known_states_of_larger_books_are_found_by_both() {
         let what = format!("seed {seed}, {order:?}");
         assert_known(&what, &ordered.known(&mut rng));
     }
-    for atoms in [63, 64, 65, 128, 129, 192, 255, 256] {
+    let few = [63, 64, 65, 128, 129, 192, BYTE_ATOMS - 1, BYTE_ATOMS];
+    for atoms in few.into_iter().chain(WIDE) {
         let small = shapes::crowded(&mut rng, Layering::Any);
         let layer = rng.below(small.layers.into()) as u8;
         let known = known::spread(&mut rng, &small, layer, atoms);
         assert_known(&format!("seed {seed}, spread"), &known);
     }
-    assert_known(&format!("seed {seed}, busy"), &known::busy(&mut rng, 7));
-    let leaning = known::leaning(&mut rng, 5);
-    assert_known(&format!("seed {seed}, leaning"), &leaning);
-    for constraints in [3, 40, 900] {
-        let random = known::randomly_constrained(&mut rng, 5, constraints);
-        assert_known(&format!("seed {seed}, random constraints"), &random);
+    for atoms in [BYTE_ATOMS, MAX_ATOMS] {
+        let busy = known::busy(&mut rng, 7, atoms);
+        let busy = known::scattered(&mut rng, busy, atoms);
+        assert_known(&format!("seed {seed}, busy"), &busy);
+        let leaning = known::leaning(&mut rng, 5, atoms - 10, atoms);
+        assert_known(&format!("seed {seed}, leaning"), &leaning);
+        for constraints in [3, 40, 900] {
+            let random = known::randomly_constrained(&mut rng, 5, constraints, atoms);
+            assert_known(&format!("seed {seed}, random constraints"), &random);
+        }
+        assert_known("worst order", &known::chained(2, atoms));
+        for (what, known) in known::every_slow(&mut rng, 1, atoms) {
+            assert_known(&format!("seed {seed}, {what}"), &known);
+        }
     }
     for over_helpers in [true, false] {
         for left in [Left::AllAlike, Left::AtMostOne, Left::HalvesAlike] {
             let few_left = known::few_left(6, left, over_helpers);
             assert_known(&format!("{left:?}"), &few_left);
         }
-    }
-    assert_known("worst order", &known::chained(2));
-    for (what, known) in known::every_slow(&mut rng, 1) {
-        assert_known(&format!("seed {seed}, {what}"), &known);
     }
 }
 
@@ -301,7 +306,7 @@ fn any_bytes_are_refused_by_both_with_the_same_cause() {
             let (facts, _) = fields(&bytes);
             let fact = match rng.chance(80) {
                 true => rng.below(facts.max(1)) as u32,
-                false => rng.below(300) as u32,
+                false => rng.below(facts + 300) as u32,
             };
             let placed = ffi::place_in_place(&bytes, case.drive, fact);
             case.place(fact, placed);

@@ -1,6 +1,8 @@
 //! `lesson_check` of the compiled archive against the reader and against document 01's numbers.
 
-use lesson_tests::book::{framed, hex, not, plain, set_length, Book, Draft, FALSITY};
+use lesson_tests::book::{
+    framed, hex, not, plain, set_length, Book, Draft, BYTE_ATOMS, FALSITY, MAX_ATOMS, WIDE,
+};
 use lesson_tests::ffi;
 use lesson_tests::reader;
 use lesson_tests::rng::{seed, Rng};
@@ -203,16 +205,21 @@ fn self_arrow_is_refused_8() {
 
 #[test]
 fn facts_and_layers_pass_at_their_bounds_and_not_past_them() {
-    for (facts, cause) in [
-        (0, 5),
-        (1, 0),
-        (255, 0),
-        (256, 0),
-        (257, 5),
-        (32_767, 5),
-        (65_535, 5),
+    for facts in [1, BYTE_ATOMS - 1, BYTE_ATOMS].into_iter().chain(WIDE) {
+        assert_cause("facts", &Book::new(facts, 1).bytes(), 0);
+    }
+    let low_byte_alone = MAX_ATOMS + BYTE_ATOMS + 1;
+    let ten_bits_alone = 2 * MAX_ATOMS + 1;
+    for facts in [
+        0,
+        MAX_ATOMS + 1,
+        low_byte_alone,
+        ten_bits_alone,
+        32_767,
+        32_768 + 1,
+        65_535,
     ] {
-        assert_cause("facts", &Book::new(facts, 1).bytes(), cause);
+        assert_cause("facts", &Book::new(facts, 1).bytes(), 5);
     }
     for (layers, cause) in [
         (0, 5),
@@ -257,10 +264,12 @@ fn layers_and_facts_of_records_stay_below_the_books() {
             }
         }
     }
-    for facts in [1, 2, 255, 256] {
-        for fact in [
-            0, 1, 2, 254, 255, 256, 257, 511, 512, 0x4000, 0x7FFE, 0x7FFF,
-        ] {
+    for facts in [1, 2, BYTE_ATOMS - 1, BYTE_ATOMS].into_iter().chain(WIDE) {
+        let edges = [facts - 1, facts, facts + 1, facts + BYTE_ATOMS, 2 * facts];
+        let numbers = [0, 1, 2, 0x4000, 0x7FFE, 0x7FFF].into_iter();
+        let numbers = numbers.chain([BYTE_ATOMS - 1, BYTE_ATOMS, BYTE_ATOMS + 1]);
+        let numbers = numbers.chain([MAX_ATOMS - 1, MAX_ATOMS, MAX_ATOMS + 1]);
+        for fact in numbers.chain(edges) {
             let cause = if fact < facts { 0 } else { 6 };
             for literal in [plain(fact), not(fact)] {
                 let book = Book::new(facts, 1);
@@ -329,7 +338,7 @@ fn largest_lawful_book_with_one_bound_passed_is_refused() {
     assert_largest("a byte more", 4, |draft| draft.tail.push(0));
     assert_largest("arrow count", 4, |draft| draft.arrows.count = Some(495));
     assert_largest("rule count", 4, |draft| draft.rules.count = Some(1_023));
-    assert_largest("facts", 5, |draft| draft.atoms = 257);
+    assert_largest("facts", 5, |draft| draft.atoms = MAX_ATOMS + 1);
     assert_largest("layers", 5, |draft| draft.layers = 33);
     assert_largest("497 arrows", 5, |draft| {
         draft.arrows.records.push(framed(&[0, 1]))
@@ -343,12 +352,24 @@ fn largest_lawful_book_with_one_bound_passed_is_refused() {
     assert_largest("arrow of length 3", 6, |draft| {
         draft.arrows.records[495] = framed(&[0, 1, 0])
     });
-    assert_largest("fact 256", 6, |draft| {
-        draft.rules.records[1_023][34..].copy_from_slice(&[0x81, 0x00])
+    assert_largest("a fact too many in a body", 6, |draft| {
+        let negated = (0x8000 | MAX_ATOMS).to_be_bytes();
+        draft.rules.records[1_023][34..].copy_from_slice(&negated)
+    });
+    assert_largest("a fact too many in a head", 6, |draft| {
+        draft.rules.records[1_023][2..4].copy_from_slice(&MAX_ATOMS.to_be_bytes())
+    });
+    assert_largest("the last fact in a head", 0, |draft| {
+        let last = (MAX_ATOMS - 1).to_be_bytes();
+        draft.rules.records[1_023][2..4].copy_from_slice(&last)
+    });
+    assert_largest("no fact in a head", 0, |draft| {
+        draft.rules.records[1_023][2..4].copy_from_slice(&[0x7F, 0xFF])
     });
     assert_largest("layer 32", 6, |draft| draft.rules.records[1_023][1] = 32);
     assert_largest("layer 31 for 32", 6, |draft| draft.layers = 31);
-    assert_largest("facts 255 for 256", 6, |draft| draft.atoms = 255);
+    assert_largest("a fact less", 6, |draft| draft.atoms = MAX_ATOMS - 1);
+    assert_largest("as many as a byte has", 6, |draft| draft.atoms = BYTE_ATOMS);
     assert_largest("last arrow equal to the first", 7, |draft| {
         draft.arrows.records[495] = draft.arrows.records[0].clone()
     });
@@ -394,7 +415,7 @@ fn empty_records_are_records() {
 
 #[test]
 fn sections_are_walked_before_ranges_and_ranges_before_records() {
-    let mut draft = Book::new(257, 33).draft();
+    let mut draft = Book::new(MAX_ATOMS + 1, 33).draft();
     draft.arrows.records = vec![framed(&[255])];
     assert_cause("ranges and record", &draft.bytes(), 5);
     draft.rules.count = Some(1);

@@ -4,7 +4,9 @@
 //! from that document; against books whose states are known; and against books from which the
 //! constraints were taken.
 
-use lesson_tests::book::{framed, hex, not, plain, Book, Literal};
+use lesson_tests::book::{
+    framed, hex, not, plain, width, Book, Literal, BYTE_ATOMS, LONGEST_RECORD, MAX_ATOMS, WIDE,
+};
 use lesson_tests::drive::{at, Drive};
 use lesson_tests::every_call::{
     assert_as_the_oracle, assert_known, assert_known_book, assert_refused, assert_states,
@@ -409,8 +411,9 @@ const LAST_NUMBERS: [u16; 4] = [32_766, 32_767, 65_534, 65_535];
 /// Whatever the number of facts; and the answers are those of a constraint.
 #[test]
 fn trap_of_heads_past_the_facts_32_767_alone_is_lawful() {
-    for atoms in [1, 2, 127, 128, 255, 256] {
-        let width = usize::from(atoms).div_ceil(8);
+    let few = [1, 2, 127, 128, BYTE_ATOMS - 1, BYTE_ATOMS];
+    for atoms in few.into_iter().chain(WIDE) {
+        let width = width(atoms);
         for head in LAST_NUMBERS {
             // Bodies that hold in the only state of a book without rules, and that do not.
             let bodies: [&[u16]; 5] = [&[], &[0x8000], &[0], &[0x8000; 16], &[0; 16]];
@@ -445,7 +448,7 @@ fn trap_of_heads_past_the_facts_32_767_alone_is_lawful() {
 /// At each place of each length, in a constraint and in a rule.
 #[test]
 fn none_of_these_numbers_is_lawful_in_a_body() {
-    for atoms in [1, 255, 256] {
+    for atoms in [1, BYTE_ATOMS - 1, BYTE_ATOMS, MAX_ATOMS - 1, MAX_ATOMS] {
         for head in [0, 32_767] {
             for number in LAST_NUMBERS {
                 for length in 1..=16 {
@@ -471,8 +474,10 @@ fn records_of_constraints_are_tested_as_ever() {
             assert_accepted("a layer", &book.bytes(), layer < layers);
         }
     }
-    for atoms in [1, 2, 255, 256] {
-        for fact in [0, 1, 254, 255, 256, 257, 511, 0x4000] {
+    for atoms in [1, 2, BYTE_ATOMS - 1, BYTE_ATOMS].into_iter().chain(WIDE) {
+        let edges = [atoms - 1, atoms, atoms + 1, atoms + BYTE_ATOMS, 2 * atoms];
+        let numbers = [0, 1, BYTE_ATOMS - 1, BYTE_ATOMS, MAX_ATOMS - 1, MAX_ATOMS];
+        for fact in edges.into_iter().chain(numbers).chain([0x4000]) {
             for literal in [plain(fact), not(fact)] {
                 let book = Book::new(atoms, 1).never(0, &[plain(0), literal]);
                 assert_accepted("a fact", &book.bytes(), fact < atoms);
@@ -489,15 +494,17 @@ fn records_of_constraints_are_tested_as_ever() {
     }
 }
 
-/// The low byte of 32,767 is a fact of such a book, and its high byte another. Neither is spoken of.
+/// The low byte of 32,767 is a fact of such a book, its high byte another, and its low ten bits a third. None
+/// is spoken of.
 #[test]
-fn in_a_book_of_256_facts_a_constraint_is_about_no_fact_by_its_head() {
-    for fact in [255, 127] {
+fn in_the_widest_book_a_constraint_is_about_no_fact_by_its_head() {
+    let parts_of_the_head = [0xFF, 0x7F, 0x7FFF & (MAX_ATOMS - 1)];
+    for fact in parts_of_the_head {
         let known = |bodies: &[Vec<Literal>]| {
-            let pairs = known::free(1, 2, 256);
+            let pairs = known::free(1, 2, MAX_ATOMS);
             known::constrained(pairs, bodies)
         };
-        // Fact 3 may stand or not. Nothing is said of the facts 127 and 255.
+        // Fact 3 may stand or not. Nothing is said of the facts that the head's parts number.
         assert_known_book("no constraint", &known(&[]));
         assert_known_book("it holds in one", &known(&[vec![plain(3)]]));
         assert_known_book("and in the other", &known(&[vec![not(3)]]));
@@ -508,17 +515,18 @@ fn in_a_book_of_256_facts_a_constraint_is_about_no_fact_by_its_head() {
         assert_eq!(oracle::count(&known(&[vec![not(fact)]]).listing()), 0);
     }
     // A rule about each of them, and a constraint of a later layer: the rule is not displaced.
-    for fact in [255, 127] {
+    for fact in parts_of_the_head {
         for (head, stands) in [(plain(fact), true), (not(fact), false)] {
-            let mut state = vec![false; 256];
+            let mut state = vec![false; MAX_ATOMS.into()];
             state[usize::from(fact)] = stands;
-            let book = above(256).rule(0, head, &[]).never(1, &[plain(5)]);
-            let listing = oracle::listing(256, &[oracle::record(&state)]);
+            let book = above(MAX_ATOMS).rule(0, head, &[]).never(1, &[plain(5)]);
+            let listing = oracle::listing(MAX_ATOMS, &[oracle::record(&state)]);
             let expected = outcome(&listing, counts(0, 1), &[FILLER; ROOM]);
             let what = format!("fact {fact}, {stands}");
             assert_outcome(&what, &book.bytes(), at(1), &[FILLER; ROOM], &expected);
             let banned = book.never(0, &[head]);
-            let expected = outcome(&oracle::listing(256, &[]), counts(0, 0), &[FILLER; ROOM]);
+            let none = oracle::listing(MAX_ATOMS, &[]);
+            let expected = outcome(&none, counts(0, 0), &[FILLER; ROOM]);
             assert_outcome(&what, &banned.bytes(), at(1), &[FILLER; ROOM], &expected);
         }
     }
@@ -531,7 +539,8 @@ fn a_thousand_and_24_constraints_and_no_rule() {
     let mut rng = Rng::named(seed, "constraints, no rule");
     for length in [0, 1, 16] {
         let idle = |rng: &mut Rng| {
-            let mut body: Vec<Literal> = (0..length).map(|_| not(rng.below(256) as u16)).collect();
+            let any = |_| not(rng.below(MAX_ATOMS.into()) as u16);
+            let mut body: Vec<Literal> = (0..length).map(any).collect();
             match body.last_mut() {
                 Some(last) => *last = last.opposite(),
                 None => body.push(plain(0)),
@@ -540,13 +549,13 @@ fn a_thousand_and_24_constraints_and_no_rule() {
         };
         let bodies: Vec<Vec<Literal>> = (0..1_024).map(|_| idle(&mut rng)).collect();
         let what = format!("seed {seed}, bodies of {length}");
-        let no_rule = || known::free(0, 0, 256);
+        let no_rule = || known::free(0, 0, MAX_ATOMS);
         let none_holds = known::constrained(no_rule(), &bodies);
         assert_eq!((none_holds.book.rules.len(), none_holds.count), (1_024, 1));
         assert_known_book(&what, &none_holds);
         for place in [0, 1, 255, 256, 511, 512, 1_022, 1_023] {
             let mut bodies = bodies.clone();
-            bodies[place] = vec![not(255); length];
+            bodies[place] = vec![not(MAX_ATOMS - 1); length];
             let one_holds = known::constrained(no_rule(), &bodies);
             assert_eq!(one_holds.count, 0);
             assert_known_book(&format!("{what}, {place} holds"), &one_holds);
@@ -618,17 +627,18 @@ fn one_constraint_of_the_largest_book_decides_about_a_candidate() {
 }
 
 #[test]
-fn constraints_over_256_facts_leave_the_states_that_they_do() {
+fn constraints_over_many_facts_leave_the_states_that_they_do() {
     let seed = seed();
     let mut rng = Rng::named(seed, "constraints, random");
     let (number, mut fewer, mut none) = (150, 0, 0);
     for index in 0..number {
+        let atoms = rng.pick(&[BYTE_ATOMS, 700, MAX_ATOMS]);
         let choices = rng.range(0, 6) as u16;
         let rules = 6 * choices;
         let constraints = rng.pick(&[1, 4, 20, 1_024 - usize::from(rules)]);
         let known = match choices {
-            0 => known::constrained(known::free(0, 0, 256), &[vec![plain(9), not(255)]]),
-            _ => known::randomly_constrained(&mut rng, choices, constraints),
+            0 => known::constrained(known::free(0, 0, atoms), &[vec![plain(9), not(atoms - 1)]]),
+            _ => known::randomly_constrained(&mut rng, choices, constraints, atoms),
         };
         assert_known_book(&format!("seed {seed}, random, book {index}"), &known);
         fewer += usize::from((1..1 << choices).contains(&known.count));
@@ -806,11 +816,14 @@ fn any_drive(rng: &mut Rng, index: usize) -> (Book, Drive) {
         0 => {
             let small = shapes::constrained(rng, Layering::Any);
             let layer = rng.below(small.layers.into()) as u8;
-            let atoms = rng.pick(&[8, 9, 64, 255, 256]);
+            let atoms = rng.pick(&[8, 9, 64, BYTE_ATOMS - 1, BYTE_ATOMS, 700, MAX_ATOMS]);
             known::spread(rng, &small, layer, atoms).book
         }
         1 => shapes::planted(rng).book,
-        2 => known::randomly_constrained(rng, 5, 12).book,
+        2 => {
+            let atoms = rng.pick(&[BYTE_ATOMS, MAX_ATOMS]);
+            known::randomly_constrained(rng, 5, 12, atoms).book
+        }
         _ => shapes::constrained(rng, Layering::Diamond),
     };
     let layer = rng.below(book.layers.into()) as u32;
@@ -828,7 +841,7 @@ fn a_listing_is_that_of_the_rules_without_the_states_that_constraints_rule_out()
         let (book, drive) = any_drive(&mut rng, index);
         let (bytes, rules) = (book.bytes(), book.without_constraints().bytes());
         let what = format!("seed {seed}, constraints, taken out, book {index}");
-        let buffer = vec![FILLER; 11 + (1 << 10) * 32];
+        let buffer = vec![FILLER; 11 + (1 << 10) * LONGEST_RECORD];
         match plain_rust::branching_count(&bytes, drive) {
             Ok(g) if g > 10 => continue,
             Ok(_) => listed += 1,
@@ -842,7 +855,7 @@ fn a_listing_is_that_of_the_rules_without_the_states_that_constraints_rule_out()
             }
         }
         let (answer, listing) = ffi::list(&rules, drive, &buffer);
-        let width = usize::from(book.atoms).div_ceil(8);
+        let width = width(book.atoms);
         let mut records: Vec<Vec<u8>> = listing[11..]
             .chunks(width)
             .take(oracle::count(&listing))

@@ -3,7 +3,9 @@
 //! the oracle, which has the exception from that document; against books whose states are known; and
 //! against books from which these rules were taken.
 
-use lesson_tests::book::{hex, not, plain, Book, Literal, Rule};
+use lesson_tests::book::{
+    hex, not, plain, Book, Literal, Rule, BYTE_ATOMS, LONGEST_RECORD, MAX_ATOMS,
+};
 use lesson_tests::drive::{at, Drive};
 use lesson_tests::every_call::{
     assert_as_the_oracle, assert_known_book, assert_states, assert_trap, states,
@@ -384,11 +386,14 @@ fn any_drive(rng: &mut Rng, index: usize) -> (Book, Drive) {
         0 => {
             let small = shapes::leaning(rng, Layering::Any);
             let layer = rng.below(small.layers.into()) as u8;
-            let atoms = rng.pick(&[8, 9, 64, 255, 256]);
+            let atoms = rng.pick(&[8, 9, 64, BYTE_ATOMS - 1, BYTE_ATOMS, 700, MAX_ATOMS]);
             known::spread(rng, &small, layer, atoms).book
         }
         1 => shapes::planted(rng).book,
-        _ => known::leaning(rng, 6).book,
+        _ => {
+            let atoms = rng.pick(&[BYTE_ATOMS, MAX_ATOMS]);
+            known::leaning(rng, 6, atoms - 12, atoms).book
+        }
     };
     let layer = rng.below(book.layers.into()) as u32;
     let off = shapes::some_layers(rng, book.layers);
@@ -414,7 +419,7 @@ fn books_without_their_leaning_rules_have_the_same_states() {
             .collect();
         let short = plain_rust::branching_count(&bytes, drive).is_ok_and(|g| g <= 10);
         if short {
-            let buffer = vec![0xA5; 11 + (1 << 10) * 32];
+            let buffer = vec![0xA5; 11 + (1 << 10) * LONGEST_RECORD];
             let (with, without) = (
                 ffi::list(&bytes, drive, &buffer),
                 ffi::list(&rest, drive, &buffer),
@@ -447,9 +452,17 @@ fn books_without_their_leaning_rules_have_the_same_states() {
 fn free_facts_under_many_leaning_rules_stay_free() {
     let seed = seed();
     let mut rng = Rng::named(seed, "leaning, many");
-    for choices in [1, 4, 9] {
-        let known = known::leaning(&mut rng, choices);
-        assert_known_book(&format!("seed {seed}, {choices} choices"), &known);
+    for (choices, first, atoms) in [
+        (1, 0, BYTE_ATOMS),
+        (4, 0, BYTE_ATOMS),
+        (9, 0, BYTE_ATOMS),
+        (1, BYTE_ATOMS - 1, BYTE_ATOMS + 1),
+        (6, BYTE_ATOMS - 3, MAX_ATOMS),
+        (9, MAX_ATOMS - 18, MAX_ATOMS),
+    ] {
+        let known = known::leaning(&mut rng, choices, first, atoms);
+        let what = format!("seed {seed}, {choices} choices, {atoms} facts");
+        assert_known_book(&what, &known);
     }
 }
 

@@ -1,7 +1,7 @@
 //! `lesson_list` of the compiled archive against the oracle, against books whose states are known,
 //! and against document 01's numbers.
 
-use lesson_tests::book::{hex, not, plain, Book};
+use lesson_tests::book::{hex, not, plain, width, Book, BYTE_ATOMS, MAX_ATOMS, WIDE};
 use lesson_tests::causes::{every_set, AnyBytes};
 use lesson_tests::drive::{at, Drive};
 use lesson_tests::examples;
@@ -143,7 +143,7 @@ fn assert_known(what: &str, known: &Known) {
         let expected = outcome(&listing, known.answer(), &buffer);
         assert_outcome(what, &bytes, drive, &buffer, &expected);
     }
-    for record in listing[11..].chunks(usize::from(known.book.atoms).div_ceil(8)) {
+    for record in listing[11..].chunks(width(known.book.atoms)) {
         let answer = ffi::test_in_place(&bytes, drive, record);
         assert_eq!(answer, yes_or_no(true), "{what}: {}", hex(record));
     }
@@ -171,8 +171,10 @@ fn records_are_right_at_every_length_of_theirs() {
     let seed = seed();
     let mut rng = Rng::named(seed, "spread");
     let mut several = 0;
-    let sizes = [8, 9, 16, 17, 24, 63, 64, 65, 128, 129, 248, 249, 255, 256];
-    for atoms in sizes {
+    let few = [8, 9, 16, 17, 24, 63, 64, 65, 128, 129, 248, 249];
+    let few = few.into_iter().chain([BYTE_ATOMS - 1, BYTE_ATOMS]);
+    let sizes: Vec<u16> = few.chain(WIDE).collect();
+    for &atoms in &sizes {
         for index in 0..60 {
             let small = match index % 3 {
                 0 => shapes::crowded(&mut rng, Layering::Chain),
@@ -194,15 +196,18 @@ fn records_are_right_at_every_length_of_theirs() {
 
 #[test]
 fn no_branching_fact_at_all() {
-    for atoms in [1, 7, 8, 9, 17, 64, 255, 256] {
+    let few = [1, 7, 8, 9, 17, 64, BYTE_ATOMS - 1, BYTE_ATOMS];
+    for atoms in few.into_iter().chain(WIDE) {
         let mut book = Book::new(atoms, 1);
         assert_known_book("no rules", &book, &[vec![false; atoms.into()]]);
         for atom in 0..atoms {
             book = book.rule(0, plain(atom), &[plain(atom.saturating_sub(1))]);
         }
         assert_known_book("a circle", &book, &[vec![false; atoms.into()]]);
-        let book = book.rule(0, plain(P), &[]);
+        book.rules[0].body.clear();
         assert_known_book("a chain", &book, &[vec![true; atoms.into()]]);
+        // The bound on rules may leave no room for one more.
+        book.rules.truncate(1_023);
         let book = book.rule(0, not(P), &[]);
         assert_known_book("a quarrel", &book, &[]);
     }
@@ -222,7 +227,10 @@ fn one_branching_fact() {
     assert_known("p if not q", &known::pairs(0, 1));
     assert_known("not p if q, above p", &known::displacing_pairs(0, 1));
     assert_known("one free fact", &known::free(1, 0, 2));
-    assert_known("one free fact, the last of 256", &known::free(1, 254, 256));
+    for atoms in [BYTE_ATOMS].into_iter().chain(WIDE) {
+        let what = format!("one free fact, the last of {atoms}");
+        assert_known(&what, &known::free(1, atoms - 2, atoms));
+    }
     let none = Book::new(1, 1).rule(0, plain(P), &[not(P)]);
     let expected = outcome(&oracle::listing(1, &[]), counts(1, 0), &[7; 11]);
     assert_outcome("p if not p", &none.bytes(), at(0), &[7; 11], &expected);
@@ -253,8 +261,11 @@ fn more_than_twenty_branching_facts_are_refused_12() {
         known::displacing_pairs(10, 1),
         known::displacing_pairs(0, 21),
         known::pairs(0, 64),
-        known::pairs(127, 1),
-        known::pairs(128, 0),
+        known::pairs(BYTE_ATOMS / 2 - 1, 1),
+        known::pairs(BYTE_ATOMS / 2, 0),
+        known::pairs(BYTE_ATOMS / 2, 1),
+        known::pairs(MAX_ATOMS / 2 - 1, 1),
+        known::pairs(MAX_ATOMS / 2, 0),
     ];
     for known in books {
         let drive = known.layer.into();
@@ -319,7 +330,7 @@ fn trap_branching_only_on_negated_facts_loses_states() {
 #[test]
 fn trap_records_rise_whatever_the_order_of_the_search() {
     for following in EVERY_FOLLOWING {
-        for (choices, atoms) in [(3, 9), (4, 13), (5, 256), (10, 30)] {
+        for (choices, atoms) in [(3, 9), (4, 13), (5, BYTE_ATOMS), (5, MAX_ATOMS), (10, 30)] {
             let known = known::followed(choices, choices, atoms, following);
             let what = format!("{choices} choices, {atoms} facts, {following:?}");
             assert_known(&what, &known);
@@ -356,9 +367,11 @@ fn as_many_states_as_there_can_be_are_listed() {
         turned_round: false,
         opposite: true,
     };
-    let known = known::followed(20, 20, 60, falling);
-    assert_eq!(known.count, 1 << 20);
-    assert_known_once("20 free facts", &known);
+    for atoms in [60, MAX_ATOMS] {
+        let known = known::followed(20, 20, atoms, falling);
+        assert_eq!(known.count, 1 << 20);
+        assert_known_once(&format!("20 free facts of {atoms}"), &known);
+    }
 }
 
 #[test]
@@ -372,19 +385,32 @@ fn any_number_of_states_is_listed() {
 fn largest_lawful_books_are_listed() {
     let seed = seed();
     let mut rng = Rng::named(seed, "busy");
-    for branching in [1, 4, 9, 10, 11] {
-        let known = known::busy(&mut rng, branching);
-        let what = format!("seed {seed}, g = {branching}");
-        assert_known(&what, &known);
+    for atoms in [BYTE_ATOMS, 700, MAX_ATOMS] {
+        for branching in [1, 4, 9, 10, 11] {
+            let known = known::busy(&mut rng, branching, atoms);
+            let what = format!("seed {seed}, {atoms} facts, g = {branching}");
+            assert_known(&what, &known);
+            let scattered = known::scattered(&mut rng, known, atoms);
+            assert_known(&format!("{what}, scattered"), &scattered);
+        }
+        let chained = known::chained(2, atoms);
+        assert_known_once(&format!("{atoms} facts, worst order"), &chained);
+        for choices in [0, 3, 10] {
+            let junction = known::junction(&mut rng, choices, atoms);
+            let what = format!("seed {seed}, junction of {atoms} facts, {choices} choices");
+            assert_known_once(&what, &junction);
+        }
     }
-    assert_known_once("worst order for filling", &known::chained(2));
 }
 
 #[test]
 fn slowest_books_are_listed() {
     let seed = seed();
-    for (what, known) in known::every_slow(&mut Rng::named(seed, "slow"), 5) {
-        assert_known(&format!("seed {seed}, {what}"), &known);
+    let mut rng = Rng::named(seed, "slow");
+    for atoms in [BYTE_ATOMS, MAX_ATOMS] {
+        for (what, known) in known::every_slow(&mut rng, 5, atoms) {
+            assert_known(&format!("seed {seed}, {atoms} facts, {what}"), &known);
+        }
     }
 }
 
@@ -397,7 +423,7 @@ fn books_that_say_the_same_have_equal_listings() {
     for index in 0..500 {
         let small = shapes::layered(&mut rng, Layering::Any);
         let layer = rng.below(small.layers.into()) as u8;
-        let atoms = rng.pick(&[8, 9, 17, 256]);
+        let atoms = rng.pick(&[8, 9, 17, BYTE_ATOMS, 700, MAX_ATOMS]);
         let known = known::spread(&mut rng, &small, layer, atoms);
         let mut renamed: Vec<u8> = (0..32).collect();
         rng.shuffle(&mut renamed);
@@ -460,9 +486,10 @@ fn example_one_fact_one_layer_no_records() {
     assert_outcome("19 bytes", &bytes[..19], at(0), &[7; 12], &(1, vec![7; 12]));
 }
 
-/// Document 01: an arrow from a layer to itself is 8; 256 facts pass, 257 are 5.
+/// Document 01: an arrow from a layer to itself is 8. Document 02, (l): as many facts as the bound pass, one
+/// more is 5.
 #[test]
-fn example_self_arrow_and_257_facts() {
+fn example_self_arrow_and_facts_past_the_bound() {
     let refused = |book: Book, cause: u64| {
         let buffer = [7; 60];
         assert_outcome(
@@ -474,8 +501,9 @@ fn example_self_arrow_and_257_facts() {
         );
     };
     refused(Book::new(1, 2).arrow(0, 0), 8);
-    refused(Book::new(257, 1), 5);
-    assert_known_book("256 facts", &Book::new(256, 1), &[vec![false; 256]]);
+    refused(Book::new(MAX_ATOMS + 1, 1), 5);
+    let most = Book::new(MAX_ATOMS, 1);
+    assert_known_book("the most facts", &most, &[vec![false; MAX_ATOMS.into()]]);
 }
 
 /// The starred examples, whose listings are proved of the definitions, by the compiled call.
@@ -566,7 +594,7 @@ fn buffer_of_more_than_4_gib_is_long_enough() {
 #[test]
 fn four_threads_on_one_book_get_the_same_listing() {
     let seed = seed();
-    let known = known::busy(&mut Rng::named(seed, "list, threads"), 8);
+    let known = known::busy(&mut Rng::named(seed, "list, threads"), 8, MAX_ATOMS);
     let bytes = known.book.bytes();
     let listing = known.listing();
     let (drive, answer) = (Drive::from(known.layer), known.answer());

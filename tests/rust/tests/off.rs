@@ -2,7 +2,7 @@
 //! against the oracle, which has the set from that document; against books whose states are known;
 //! and against books from which the rules of those layers were taken.
 
-use lesson_tests::book::{hex, not, plain, Book, Literal};
+use lesson_tests::book::{hex, not, plain, Book, Literal, BYTE_ATOMS, MAX_ATOMS};
 use lesson_tests::drive::{all_layers, at, Drive};
 use lesson_tests::every_call::{
     assert_as_the_oracle, assert_known, assert_refused, assert_states, assert_trap, states, FILLER,
@@ -272,11 +272,12 @@ fn with_every_layer_off_the_empty_state_alone_is_stable_and_g_is_0() {
     let seed = seed();
     let mut rng = Rng::named(seed, "off, all");
     let known = [
-        known::pairs(128, 0),
+        known::pairs(MAX_ATOMS / 2, 0),
         known::displacing_pairs(10, 1),
-        known::quarrelled(known::free(3, 0, 255)),
-        known::busy(&mut rng, 20),
-        known::chained(5),
+        known::quarrelled(known::free(3, 0, MAX_ATOMS - 1)),
+        known::busy(&mut rng, 20, BYTE_ATOMS),
+        known::busy(&mut rng, 20, MAX_ATOMS),
+        known::chained(5, MAX_ATOMS),
     ];
     let mut books: Vec<Book> = known.into_iter().map(|known| known.book).collect();
     books.extend((0..300).map(|_| shapes::small(&mut rng)));
@@ -503,12 +504,13 @@ fn sized(rng: &mut Rng, index: usize) -> Book {
         1 => {
             let small = shapes::crowded(rng, Layering::Diamond);
             let layer = rng.below(small.layers.into()) as u8;
-            let atoms = rng.pick(&[9, 64, 65, 255, 256]);
+            let atoms = rng.pick(&[9, 64, 65, BYTE_ATOMS - 1, BYTE_ATOMS, 700, MAX_ATOMS]);
             known::spread(rng, &small, layer, atoms).book
         }
         2 => {
             let branching = rng.range(1, 9) as u16;
-            known::busy(rng, branching).book
+            let atoms = rng.pick(&[BYTE_ATOMS, MAX_ATOMS]);
+            known::busy(rng, branching, atoms).book
         }
         _ => shapes::large(rng),
     }

@@ -1,7 +1,9 @@
 //! `lesson_one` of the compiled archive: the state that it hands out is stable by the oracle, and
 //! everything else is as document 01 says.
 
-use lesson_tests::book::{hex, not, plain, Book};
+use lesson_tests::book::{
+    hex, not, plain, width, Book, BYTE_ATOMS, LONGEST_RECORD, MAX_ATOMS, WIDE,
+};
 use lesson_tests::causes::{every_set, AnyBytes, ANSWERS};
 use lesson_tests::drive::{at, Drive};
 use lesson_tests::expected::{self, branching, BUFFER_TOO_SHORT, NO_STABLE_STATE};
@@ -29,8 +31,7 @@ fn assert_outcome(
     let right = match expected {
         Err(cause) => answer == cause && after == buffer,
         Ok(granted) => {
-            let atoms = reader::read(book).map_or(0, |book| book.atoms);
-            let width = usize::from(atoms).div_ceil(8);
+            let width = reader::read(book).map_or(0, |book| width(book.atoms));
             answer == granted && stable(&after[..width]) && after[width..] == buffer[width..]
         }
     };
@@ -126,7 +127,7 @@ fn states_handed_out_for_books_with_many_states_are_stable() {
 /// A book whose states are known, in buffers from none to a record and some bytes more.
 fn assert_known(what: &str, known: &Known) {
     let bytes = known.book.bytes();
-    let width = usize::from(known.book.atoms).div_ceil(8);
+    let width = width(known.book.atoms);
     let driven = Driven::new(&known.book, known.layer.into());
     for length in 0..width + 4 {
         let buffer = Rng::new(length as u64).bytes(length);
@@ -154,8 +155,9 @@ fn records_have_their_length_at_every_number_of_facts() {
     let seed = seed();
     let mut rng = Rng::named(seed, "one, spread");
     let mut empty = 0;
-    let sizes = [8, 9, 16, 17, 64, 65, 255, 256];
-    for atoms in sizes {
+    let few = [8, 9, 16, 17, 64, 65, BYTE_ATOMS - 1, BYTE_ATOMS];
+    let sizes: Vec<u16> = few.into_iter().chain(WIDE).collect();
+    for &atoms in &sizes {
         for index in 0..20 {
             let small = match index % 2 {
                 0 => shapes::crowded(&mut rng, Layering::Chain),
@@ -194,7 +196,7 @@ fn a_state_is_found_wherever_the_search_comes_to_it() {
 /// One call, for long searches.
 fn assert_known_once(what: &str, known: &Known) {
     let bytes = known.book.bytes();
-    let width = usize::from(known.book.atoms).div_ceil(8);
+    let width = width(known.book.atoms);
     let mut buffer = vec![0xA5; width + 2];
     let answer = ffi::one_in_place(&bytes, known.layer.into(), &mut buffer);
     if known.count == 0 {
@@ -220,7 +222,7 @@ fn twenty_branching_facts_are_searched_to_the_end() {
 #[test]
 fn more_than_twenty_branching_facts_are_refused_12() {
     for known in known::too_many_branching() {
-        for length in [0, 1, 2, 3, 40] {
+        for length in [0, 1, 2, 3, 40, LONGEST_RECORD] {
             let what = format!("g = {}", known.branching);
             let buffer = vec![7; length];
             let bytes = known.book.bytes();
@@ -277,19 +279,30 @@ fn book_b_at_its_layers() {
 fn a_state_of_the_largest_lawful_books_is_handed_out() {
     let seed = seed();
     let mut rng = Rng::named(seed, "one, busy");
-    for branching in [1, 8, 11] {
-        let known = known::busy(&mut rng, branching);
-        let what = format!("seed {seed}, g = {branching}");
-        assert_known_once(&what, &known);
-        assert_known_once(&what, &known::chained(1));
+    for atoms in [BYTE_ATOMS, 700, MAX_ATOMS] {
+        for branching in [1, 8, 11] {
+            let known = known::busy(&mut rng, branching, atoms);
+            let what = format!("seed {seed}, {atoms} facts, g = {branching}");
+            assert_known_once(&what, &known);
+            let scattered = known::scattered(&mut rng, known, atoms);
+            assert_known_once(&format!("{what}, scattered"), &scattered);
+        }
+        assert_known_once("worst order for filling", &known::chained(1, atoms));
+        for choices in [0, 4] {
+            let what = format!("seed {seed}, junction of {atoms} facts, {choices} choices");
+            assert_known_once(&what, &known::junction(&mut rng, choices, atoms));
+        }
     }
 }
 
 #[test]
 fn a_state_of_the_slowest_books_is_handed_out_where_there_is_one() {
     let seed = seed();
-    for (what, known) in known::every_slow(&mut Rng::named(seed, "one, slow"), 5) {
-        assert_known_once(&format!("seed {seed}, {what}"), &known);
+    let mut rng = Rng::named(seed, "one, slow");
+    for atoms in [BYTE_ATOMS, MAX_ATOMS] {
+        for (what, known) in known::every_slow(&mut rng, 5, atoms) {
+            assert_known_once(&format!("seed {seed}, {atoms} facts, {what}"), &known);
+        }
     }
 }
 
@@ -336,7 +349,7 @@ fn any_bytes_come_to_what_reader_and_oracle_say() {
     };
     any_bytes.ask(shapes::quick, |rng, what, bytes| {
         let drive = shapes::any_drive(rng, bytes);
-        let length = rng.pick(&[0, 1, 1, 2, 40]);
+        let length = rng.pick(&[0, 1, 1, 2, 40, LONGEST_RECORD]);
         agree(what, bytes, drive, &rng.bytes(length))
     });
 }
@@ -381,19 +394,20 @@ fn buffer_of_more_than_4_gib_is_long_enough() {
 #[test]
 fn four_threads_on_one_book_get_a_state_each() {
     let seed = seed();
-    let known = known::busy(&mut Rng::named(seed, "one, threads"), 8);
+    let known = known::busy(&mut Rng::named(seed, "one, threads"), 8, MAX_ATOMS);
     let bytes = known.book.bytes();
     thread::scope(|scope| {
         for _ in 0..4 {
             scope.spawn(|| {
                 for _ in 0..5 {
-                    let mut buffer = [7; 33];
+                    let mut buffer = [7; LONGEST_RECORD + 1];
                     let answer = ffi::one_in_place(&bytes, known.layer.into(), &mut buffer);
                     assert_eq!(answer, branching(8), "seed {seed}");
-                    let state = oracle::state(&buffer[..32], 256).expect("a record");
+                    let (record, rest) = buffer.split_at(LONGEST_RECORD);
+                    let state = oracle::state(record, MAX_ATOMS).expect("a record");
                     let driven = Driven::new(&known.book, known.layer.into());
                     assert!(driven.stable(&state), "seed {seed}: {}", hex(&buffer));
-                    assert_eq!(buffer[32], 7);
+                    assert_eq!(rest, [7]);
                 }
             });
         }

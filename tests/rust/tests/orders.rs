@@ -1,6 +1,7 @@
 //! `lesson_list` where the records come to the search in another order than they are listed in, in
 //! buffers around the room for every setting and around the listing's length.
 
+use lesson_tests::book::{self, BYTE_ATOMS, LONGEST_RECORD, MAX_ATOMS};
 use lesson_tests::expected::{counts, BUFFER_TOO_SHORT};
 use lesson_tests::ffi;
 use lesson_tests::known::{self, Known};
@@ -13,7 +14,7 @@ use lesson_tests::rng::{seed, Rng};
 const HEAD: usize = 11;
 
 fn width(known: &Known) -> usize {
-    usize::from(known.book.atoms).div_ceil(8)
+    book::width(known.book.atoms)
 }
 
 /// Lengths of buffers: room for a record of every setting and for one record or one byte less, for
@@ -150,11 +151,12 @@ fn small_listings_in_every_order_are_the_oracles() {
 }
 
 #[test]
-fn records_of_1_to_32_bytes_are_listed_in_every_order() {
+fn records_of_every_length_are_listed_in_every_order() {
     let seed = seed();
     let mut rng = Rng::named(seed, "list, orders, widths");
     let mut tally = Tally::default();
-    for width in 1..=32 {
+    let longest = LONGEST_RECORD as u16;
+    for width in (1..=34).chain([longest - 1, longest]) {
         for order in Order::ALL {
             // Choices, their helpers and what follows from them in the last byte alone.
             let last_byte = Ordered {
@@ -186,7 +188,12 @@ fn thousands_of_records_are_listed_in_every_order() {
     let mut rng = Rng::named(seed, "list, orders, thousands");
     let mut tally = Tally::default();
     for order in Order::ALL {
-        for (choices, idle, cuts, atoms) in [(12, 0, 0, 24), (11, 1, 0, 40), (12, 1, 4, 256)] {
+        for (choices, idle, cuts, atoms) in [
+            (12, 0, 0, 24),
+            (11, 1, 0, 40),
+            (12, 1, 4, BYTE_ATOMS),
+            (11, 1, 4, MAX_ATOMS),
+        ] {
             let ordered = Ordered {
                 order,
                 choices,

@@ -1,7 +1,7 @@
 //! `lesson_place` of the compiled archive against the oracle, against books whose states are known,
 //! and against document 01's numbers.
 
-use lesson_tests::book::{hex, not, plain, Book};
+use lesson_tests::book::{hex, not, plain, Book, BYTE_ATOMS, MAX_ATOMS, WIDE};
 use lesson_tests::causes::{every_set, fields, AnyBytes};
 use lesson_tests::drive::{at, Drive};
 use lesson_tests::expected::{place_of, NO_STABLE_STATE, NO_SUCH_FACT};
@@ -14,7 +14,7 @@ use lesson_tests::truth::Truth;
 use std::thread;
 
 /// What to add to a fact's number so that only a part of it is the fact.
-const PARTS: [u32; 4] = [256, 32_768, 65_536, 1 << 31];
+const PARTS: [u32; 5] = [BYTE_ATOMS as u32, MAX_ATOMS as u32, 32_768, 65_536, 1 << 31];
 
 /// The engine's answer on a fenced copy is the one expected.
 fn assert_answer(what: &str, book: &[u8], drive: Drive, fact: u32, expected: u64) {
@@ -104,8 +104,9 @@ fn assert_known(what: &str, known: &Known) {
 fn each_fact_is_placed_at_every_number_of_facts() {
     let seed = seed();
     let mut rng = Rng::named(seed, "place, spread");
-    let sizes = [8, 9, 16, 17, 64, 65, 255, 256];
-    for atoms in sizes {
+    let few = [8, 9, 16, 17, 64, 65, BYTE_ATOMS - 1, BYTE_ATOMS];
+    let sizes: Vec<u16> = few.into_iter().chain(WIDE).collect();
+    for &atoms in &sizes {
         for _ in 0..6 {
             let small = shapes::crowded(&mut rng, Layering::Chain);
             let layer = rng.below(small.layers.into()) as u8;
@@ -114,11 +115,13 @@ fn each_fact_is_placed_at_every_number_of_facts() {
         }
     }
     println!("seed {seed}, place, spread: {} books", 6 * sizes.len());
-    for atoms in [2, 7, 8, 9, 255, 256] {
+    let few = [2, 7, 8, 9, BYTE_ATOMS - 1, BYTE_ATOMS];
+    for atoms in few.into_iter().chain(WIDE) {
         assert_known("last fact free", &known::free(1, atoms - 2, atoms));
     }
-    for atoms in [2, 7, 8, 254, 255] {
-        assert_known("no state", &known::quarrelled(known::free(1, 0, atoms)));
+    let few = [3, 8, 9, BYTE_ATOMS - 1, BYTE_ATOMS];
+    for atoms in few.into_iter().chain(WIDE) {
+        assert_known("no state", &known::quarrelled(known::free(1, 0, atoms - 1)));
     }
 }
 
@@ -225,25 +228,39 @@ fn book_b_at_its_layers() {
 fn facts_of_the_largest_lawful_books_are_placed() {
     let seed = seed();
     let mut rng = Rng::named(seed, "place, busy");
-    for branching in [1, 8] {
-        let known = known::busy(&mut rng, branching);
-        let places = known.places();
-        for fact in (0..256).step_by(15) {
-            let what = format!("seed {seed}, g = {branching}");
-            assert_known_once(&what, &known, fact, places[usize::from(fact)]);
+    for atoms in [BYTE_ATOMS, 700, MAX_ATOMS] {
+        for branching in [1, 8] {
+            let known = known::busy(&mut rng, branching, atoms);
+            let known = known::scattered(&mut rng, known, atoms);
+            let places = known.places();
+            for fact in (0..atoms).step_by(15) {
+                let what = format!("seed {seed}, {atoms} facts, g = {branching}");
+                assert_known_once(&what, &known, fact, places[usize::from(fact)]);
+            }
+        }
+        let chained = known::chained(2, atoms);
+        assert_known_once("a chain", &chained, atoms - 2, place_of(3, 4, 4));
+        assert_known_once("its end", &chained, atoms - 1, place_of(3, 0, 4));
+        let junction = known::junction(&mut rng, 3, atoms);
+        let places = junction.places();
+        for fact in (0..atoms).step_by(101) {
+            let what = format!("seed {seed}, junction of {atoms} facts");
+            assert_known_once(&what, &junction, fact, places[usize::from(fact)]);
         }
     }
-    assert_known_once("a chain", &known::chained(2), 254, place_of(3, 4, 4));
 }
 
 #[test]
 fn facts_of_the_slowest_books_are_placed() {
     let seed = seed();
-    for (what, known) in known::every_slow(&mut Rng::named(seed, "place, slow"), 3) {
-        let places = known.places();
-        for fact in (0..8).chain([100, 200, 253, 254, 255]) {
-            let place = places[usize::from(fact)];
-            assert_known_once(&format!("seed {seed}, {what}"), &known, fact, place);
+    let mut rng = Rng::named(seed, "place, slow");
+    for atoms in [BYTE_ATOMS, MAX_ATOMS] {
+        for (what, known) in known::every_slow(&mut rng, 3, atoms) {
+            let places = known.places();
+            for fact in (0..8).chain([100, 200]).chain(atoms - 5..atoms) {
+                let place = places[usize::from(fact)];
+                assert_known_once(&format!("seed {seed}, {what}"), &known, fact, place);
+            }
         }
     }
 }
@@ -262,7 +279,7 @@ fn any_bytes_are_answered_as_by_reader_and_oracle() {
         let (facts, _) = fields(bytes);
         let fact = match rng.chance(80) {
             true => rng.below(facts.max(1)) as u32,
-            false => facts as u32 + rng.pick(&[0, 1, 256, 65_536]),
+            false => facts as u32 + rng.pick(&[0, 1, MAX_ATOMS.into(), 65_536]),
         };
         let expected = Truth::new(bytes, drive).place(fact);
         assert_answer(what, bytes, drive, fact, expected);
@@ -285,7 +302,7 @@ fn of_several_causes_the_first_tested_is_given() {
         let bytes = shapes::broken(&mut rng, &known.book, causes.of_the_book());
         let drive = causes.drive(&mut rng, known.book.layers, known.layer);
         let fact = match causes.has(11) {
-            true => rng.pick(&[known.book.atoms.into(), 256, 65_536, u32::MAX]),
+            true => rng.pick(&[known.book.atoms.into(), MAX_ATOMS.into(), 65_536, u32::MAX]),
             false => rng.below(4) as u32,
         };
         let granted = || known.places()[fact as usize];
@@ -298,13 +315,13 @@ fn of_several_causes_the_first_tested_is_given() {
 #[test]
 fn four_threads_on_one_book_get_the_same_answers() {
     let seed = seed();
-    let known = known::busy(&mut Rng::named(seed, "place, threads"), 8);
+    let known = known::busy(&mut Rng::named(seed, "place, threads"), 8, MAX_ATOMS);
     let bytes = known.book.bytes();
     let places = known.places();
     thread::scope(|scope| {
         for _ in 0..4 {
             scope.spawn(|| {
-                for fact in [0, 3, 8, 100, 200, 255] {
+                for fact in [0, 3, 8, 100, 200, 300, 600, 1_000] {
                     let answer = ffi::place_in_place(&bytes, known.layer.into(), fact);
                     assert_eq!(answer, places[fact as usize], "seed {seed}, fact {fact}");
                 }

@@ -1,7 +1,9 @@
 //! Runs of the program `states`: what it prints for a book on its standard input. LESSON_STATES
 //! names the program, and else it is the one that the repository's build leaves in `target/bin`.
 
-use lesson_tests::book::{framed, hex, not, plain, Book, FALSITY};
+use lesson_tests::book::{
+    framed, hex, not, plain, width, Book, BYTE_ATOMS, FALSITY, MAX_ATOMS, WIDE,
+};
 use lesson_tests::expected;
 use lesson_tests::known::{self, EVERY_FOLLOWING};
 use lesson_tests::oracle;
@@ -75,7 +77,7 @@ fn text(listing: &[u8], branching: usize) -> String {
     let atoms = u16::from_be_bytes([listing[5], listing[6]]);
     let count = oracle::count(listing);
     let mut text = format!("facts {atoms} models {count} branching {branching}\n");
-    for record in listing[11..].chunks(usize::from(atoms).div_ceil(8)) {
+    for record in listing[11..].chunks(width(atoms)) {
         let state = oracle::state(record, atoms).expect("a record");
         text.extend(state.iter().map(|&stands| if stands { '1' } else { '0' }));
         text.push('\n');
@@ -193,6 +195,15 @@ fn a_listing_of_65_536_bytes_fits_and_a_longer_one_is_refused_13() {
     assert_printed("one record more", &longer.book.bytes(), "refused 13\n");
     let much_longer = known::free(17, 0, 34);
     assert_printed("2^17 records", &much_longer.book.bytes(), "refused 13\n");
+    // As many of the longest records as there is room for, and one more.
+    let most = (LIMIT - 11) / width(MAX_ATOMS);
+    let fits = known::counted(most, MAX_ATOMS);
+    let lines = text(&fits.listing(), fits.branching);
+    assert_printed("they fit", &fits.book.bytes(), &lines);
+    let longer = known::counted(most + 1, MAX_ATOMS);
+    assert_printed("one more", &longer.book.bytes(), "refused 13\n");
+    let refused = Book::new(MAX_ATOMS + 1, 1);
+    assert_printed("a fact too many", &refused.bytes(), "refused 5\n");
 }
 
 #[test]
@@ -268,7 +279,8 @@ fn input_that_comes_in_pieces_is_put_together() {
 
 #[test]
 fn each_fact_has_a_character() {
-    for atoms in [8, 9, 17, 64, 255, 256] {
+    let few = [8, 9, 17, 64, BYTE_ATOMS - 1, BYTE_ATOMS];
+    for atoms in few.into_iter().chain(WIDE) {
         for following in EVERY_FOLLOWING {
             let known = known::followed(2, 2, atoms, following);
             assert_eq!(known.layer, known.book.layers - 1);

@@ -1,6 +1,8 @@
 //! `lesson_test` of the compiled archive against the oracle and against document 01's numbers.
 
-use lesson_tests::book::{hex, not, plain, Book, Literal};
+use lesson_tests::book::{
+    hex, not, plain, width, Book, Literal, BYTE_ATOMS, LONGEST_RECORD, MAX_ATOMS, WIDE,
+};
 use lesson_tests::causes::{every_set, fields, AnyBytes};
 use lesson_tests::drive::{at, Drive};
 use lesson_tests::examples;
@@ -228,14 +230,18 @@ fn trap_a_circle_of_plain_bodies_reaches_nothing() {
 }
 
 #[test]
-fn a_circle_of_256_plain_bodies_reaches_nothing() {
-    let mut book = Book::new(256, 1);
-    for atom in 0..256 {
-        book = book.rule(0, plain(atom), &[plain((atom + 1) % 256)]);
+fn a_long_circle_of_plain_bodies_reaches_nothing() {
+    for atoms in [BYTE_ATOMS, MAX_ATOMS] {
+        let mut book = Book::new(atoms, 1);
+        for atom in 0..atoms {
+            book = book.rule(0, plain(atom), &[plain((atom + 1) % atoms)]);
+        }
+        let bytes = book.bytes();
+        let none = vec![0; width(atoms)];
+        assert_answer("none stands", &bytes, at(0), &none, yes_or_no(true));
+        let all = vec![0xFF; width(atoms)];
+        assert_answer("all stand", &bytes, at(0), &all, yes_or_no(false));
     }
-    let bytes = book.bytes();
-    assert_answer("none stands", &bytes, at(0), &[0; 32], yes_or_no(true));
-    assert_answer("all stand", &bytes, at(0), &[0xFF; 32], yes_or_no(false));
 }
 
 #[test]
@@ -307,15 +313,20 @@ fn starred_examples_have_the_states_of_documents_01_and_02_and_no_others() {
     }
 }
 
-/// Document 01's numbers of facts at which a record changes its length or its spare bits.
-const EDGES: [u16; 6] = [1, 7, 8, 9, 255, 256];
+/// The numbers of facts at which a record changes its length or its spare bits.
+fn edges() -> impl Iterator<Item = u16> {
+    let few = [1, 7, 8, 9, BYTE_ATOMS - 1, BYTE_ATOMS];
+    few.into_iter().chain(WIDE)
+}
 
 #[test]
 fn candidates_of_another_length_are_refused_10() {
-    for atoms in EDGES {
+    for atoms in edges() {
         let bytes = Book::new(atoms, 1).bytes();
-        let right = usize::from(atoms).div_ceil(8);
-        for length in (0..=right + 3).chain([2 * right, right + 256, 1_000, 65_536 + right]) {
+        let right = width(atoms);
+        let longer = [2 * right, LONGEST_RECORD, LONGEST_RECORD + 1, 1_000];
+        let by_a_part = [256 + right, 65_536 + right];
+        for length in (0..=right + 3).chain(longer).chain(by_a_part) {
             let answer = match length == right {
                 true => yes_or_no(true),
                 false => expected::BAD_CANDIDATE,
@@ -336,9 +347,9 @@ fn candidate_of_more_than_4_gib_is_refused_10() {
 
 #[test]
 fn candidates_with_a_spare_bit_set_are_refused_10_and_no_others() {
-    for atoms in EDGES {
+    for atoms in edges() {
         let bytes = Book::new(atoms, 1).bytes();
-        let right = usize::from(atoms).div_ceil(8);
+        let right = width(atoms);
         for bit in 0..8 * right {
             let mut candidate = vec![0; right];
             candidate[bit / 8] |= 0x80 >> (bit % 8);
@@ -360,7 +371,7 @@ fn candidates_with_a_spare_bit_set_are_refused_10_and_no_others() {
 
 #[test]
 fn each_fact_of_a_candidate_counts() {
-    for atoms in EDGES {
+    for atoms in edges() {
         let none = Book::new(atoms, 1);
         let mut all = none.clone();
         for atom in 0..atoms {
@@ -461,7 +472,7 @@ fn of_several_causes_the_first_tested_is_given() {
             let what = format!("seed {seed}, {causes}");
             let (atoms, layers) =
                 reader::read(&bytes).map_or((3, 1), |book| (book.atoms, book.layers));
-            let right = usize::from(atoms).div_ceil(8);
+            let right = width(atoms);
             let drive = causes.drive(&mut rng, layers, 0);
             let candidate = match (causes.has(10), atoms % 8) {
                 (false, _) => vec![0; right],
@@ -522,7 +533,8 @@ fn largest_lawful_books_are_answered_as_by_the_oracle() {
         let record = oracle::record(&planted.state);
         let drive = planted.layer.into();
         assert_answer(&what, &bytes, drive, &record, yes_or_no(true));
-        for atom in [0, 127, 128, 255] {
+        let last = planted.state.len() - 1;
+        for atom in [0, 127, 128, 255, last / 2, last - 1, last] {
             let mut state = planted.state.clone();
             state[atom] = !state[atom];
             agree(&what, &bytes, drive, &oracle::record(&state));
@@ -562,29 +574,40 @@ fn no_rule_and_no_literal_is_left_out() {
     }
 }
 
-/// 255 passes before nothing is added.
+/// As many passes as there are facts but one before nothing is added.
 #[test]
 fn rules_in_the_worst_order_are_filled_to_the_end() {
-    let worst = shapes::worst_order();
-    let bytes = worst.book.bytes();
-    let record = oracle::record(&worst.state);
-    assert_answer("all but the last", &bytes, at(0), &record, yes_or_no(true));
-    for atom in [0, 1, 100, 253, 254, 255] {
-        let mut state = worst.state.clone();
-        state[atom] = !state[atom];
-        let record = oracle::record(&state);
-        assert_answer("one flipped", &bytes, at(0), &record, yes_or_no(false));
+    for atoms in [BYTE_ATOMS, MAX_ATOMS] {
+        let worst = shapes::worst_order(atoms);
+        let bytes = worst.book.bytes();
+        let record = oracle::record(&worst.state);
+        assert_answer("all but the last", &bytes, at(0), &record, yes_or_no(true));
+        let last = usize::from(atoms) - 1;
+        for atom in [0, 1, 100, last - 2, last - 1, last] {
+            let mut state = worst.state.clone();
+            state[atom] = !state[atom];
+            let record = oracle::record(&state);
+            assert_answer("one flipped", &bytes, at(0), &record, yes_or_no(false));
+        }
     }
 }
 
-/// 128 choices between two: no number of branching facts is too large for this call.
+/// Up to half as many choices between two as there are facts: no number of branching facts is too large for
+/// this call.
 #[test]
 fn candidates_are_tested_at_any_g() {
     let seed = seed();
     let mut rng = Rng::named(seed, "any g");
     let [one_of_each, both_or_none] =
         ["one of each", "both or none"].map(|what| format!("seed {seed}, {what}"));
-    for choices in [10, 11, 64, 128] {
+    for choices in [
+        10,
+        11,
+        64,
+        BYTE_ATOMS / 2,
+        BYTE_ATOMS / 2 + 1,
+        MAX_ATOMS / 2,
+    ] {
         let mut book = Book::new(2 * choices, 1);
         for at in 0..choices {
             let (f, h) = (2 * at, 2 * at + 1);
