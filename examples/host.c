@@ -13,11 +13,11 @@
 #include <stdio.h>
 #include <stdlib.h>
 
-static uint8_t book[38372 + 1]; /* the largest and a byte, so that a longer file is no book */
+static uint8_t book[LESSON_LARGEST_BOOK + 1]; /* and a byte, so that a longer file is no book */
 static size_t book_len;
-static uint8_t listing[33554443]; /* holds every listing; only the pages written take memory */
-static uint32_t layer;            /* driven */
-static uint32_t off;              /* bit i: layer i is switched off */
+static uint8_t listing[LESSON_LARGEST_LISTING]; /* only the pages written take memory */
+static uint32_t layer;                          /* driven */
+static uint32_t off;                            /* bit i: layer i is switched off */
 
 /* The causes of a refusal in words, by number. */
 static const char *const words[] = {
@@ -71,7 +71,7 @@ static bool list(unsigned facts)
 /* Has the engine hand out a state, and tests it; then once more with fact 0 the other way. */
 static bool test(unsigned facts)
 {
-    uint8_t record[32]; /* the longest */
+    uint8_t record[LESSON_LONGEST_RECORD];
 
     if (!granted("one state", lesson_one(book, book_len, layer, off, record, sizeof record)))
         return false;

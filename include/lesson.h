@@ -77,16 +77,27 @@ enum lesson_cause_number {
     LESSON_NO_STABLE_STATE = 14     /* the book has no stable state at the driven layer */
 };
 
+/* The most facts of a book and the most states of a listing, and the most bytes of
+ * a book, a record and a listing: checked against what the engine says by
+ * tests/c/bounds_host.c. */
+enum lesson_bound {
+    LESSON_MOST_FACTS = 1024,
+    LESSON_MOST_STATES = 1048576,
+    LESSON_LARGEST_BOOK = 38372,
+    LESSON_LONGEST_RECORD = 128,
+    LESSON_LARGEST_LISTING = 134217739
+};
+
 /* The most bytes of stack that each call uses below its caller's frame, whatever
  * the book, rounded up: measured on the compiled archive by tests/c/stack.c.
  * Signal handlers that run on the same stack come on top, and so does a dynamic
  * linker that binds memcpy or memset at its first call. */
 enum lesson_stack_bytes {
     LESSON_CHECK_STACK = 1024,
-    LESSON_TEST_STACK = 34816,
-    LESSON_LIST_STACK = 83968,
-    LESSON_ONE_STACK = 83968,
-    LESSON_PLACE_STACK = 83968
+    LESSON_TEST_STACK = 55296,
+    LESSON_LIST_STACK = 117760,
+    LESSON_ONE_STACK = 117760,
+    LESSON_PLACE_STACK = 117760
 };
 
 /* The cause that an answer names; LESSON_GRANTED where there is none. */
@@ -141,7 +152,8 @@ extern "C" {
  * Checks a book. Writes nothing.
  *
  * book, book_len: the bytes to check, any number of them. A lawful book has 20
- * to 38,372 bytes; the length field in the book has to agree with book_len.
+ * to LESSON_LARGEST_BOOK bytes; the length field in the book has to agree with
+ * book_len.
  *
  * Answers LESSON_GRANTED (the whole number is 0) where the book is accepted,
  * and else the first of LESSON_TOO_SHORT to LESSON_CYCLE that applies.
@@ -181,9 +193,8 @@ uint64_t lesson_test(const uint8_t *book, size_t book_len, uint32_t layer, uint3
  *   offset 7, 4 bytes: k
  *   offset 11: the records, each once, rising as byte strings
  *
- * Numbers are big-endian. k is at most 2 to the power g and so at most
- * 1,048,576, and a record has at most 32 bytes. A buffer of 33,554,443 bytes
- * holds every listing.
+ * Numbers are big-endian. k is at most 2 to the power g. A buffer of
+ * LESSON_LARGEST_LISTING bytes holds every listing.
  *
  * Answers g in bits 8 to 15 (lesson_branching_count) and k from bit 16 on
  * (lesson_state_count), or the first of LESSON_TOO_SHORT to
@@ -202,7 +213,7 @@ uint64_t lesson_list(const uint8_t *book, size_t book_len, uint32_t layer, uint3
  * off: the set of layers that are switched off, any number.
  * buffer, buffer_len: where the state goes, of any length. Where the call is
  * granted, its first bytes are the state's record and the bytes past it are as
- * they were.
+ * they were. A buffer of LESSON_LONGEST_RECORD bytes holds every state.
  *
  * Answers g in bits 8 to 15 (lesson_branching_count), or the first of
  * LESSON_TOO_SHORT to LESSON_NO_SUCH_LAYER, LESSON_NO_SUCH_LAYER_OFF and

@@ -18,6 +18,14 @@ static void expect_edited(const char *what, size_t at, const char *bytes, size_t
     expect(what, book, sizeof book, expected);
 }
 
+/* B with so many facts. */
+static void expect_facts(const char *what, unsigned facts, uint64_t expected)
+{
+    char bytes[2] = {(char)HIGH(facts), (char)LOW(facts)};
+
+    expect_edited(what, 5, bytes, 2, expected);
+}
+
 int main(void)
 {
     expect("B is accepted", B, sizeof B, LESSON_GRANTED);
@@ -31,8 +39,9 @@ int main(void)
     expect_edited("arrow section of 2^32 - 1 bytes", 8, "\xFF\xFF\xFF\xFF", 4,
                   LESSON_BROKEN_SECTION);
     expect_edited("no facts", 5, "\x00\x00", 2, LESSON_OUT_OF_RANGE);
-    expect_edited("257 facts", 5, "\x01\x01", 2, LESSON_OUT_OF_RANGE);
-    expect_edited("256 facts are accepted", 5, "\x01\x00", 2, LESSON_GRANTED);
+    expect_facts("a fact too many", LESSON_MOST_FACTS + 1, LESSON_OUT_OF_RANGE);
+    expect_facts("the most facts are accepted", LESSON_MOST_FACTS, LESSON_GRANTED);
+    expect("the widest book is accepted", widest, sizeof widest, LESSON_GRANTED);
     expect_edited("33 layers", 7, "\x21", 1, LESSON_OUT_OF_RANGE);
     expect_edited("a rule of layer 4 of 4", 33, "\x04", 1, LESSON_BAD_RECORD);
     expect_edited("fact 3 of 3", 41, "\x03", 1, LESSON_BAD_RECORD);

@@ -1,5 +1,5 @@
-/* What the C test hosts share: document 01's book B, the smallest book, one with a constraint, and a
- * count of checks. */
+/* What the C test hosts share: document 01's book B, the smallest book, one with a constraint, one with
+ * as many facts as there can be, and a count of checks. */
 #ifndef HOST_H
 #define HOST_H
 
@@ -31,6 +31,35 @@ static const uint8_t never_p[38] = {
     5, 0, 0, 1, 0x80, 0,     /* at 26: q if not p */
     5, 0, 0x7F, 0xFF, 0, 0   /* at 32: 32,767 if p */
 };
+
+/* The last fact, and one that agrees with it in its low byte. */
+#define LAST_FACT (LESSON_MOST_FACTS - 1)
+#define FACT_LIKE_IT (LAST_FACT - 256)
+#define HIGH(number) ((number) >> 8)
+#define LOW(number) ((number)&0xFF)
+
+/* As many facts as there can be: the last one stands if the other does not, and the other way round. */
+static const uint8_t widest[32] = {
+    1, 0, 0, 0, 32,                                      /* head */
+    HIGH(LESSON_MOST_FACTS), LOW(LESSON_MOST_FACTS), 1,  /* at 5: facts, 1 layer */
+    0, 0, 0, 0, 0, 0,                                    /* at 8: no arrows */
+    0, 0, 0, 12, 0, 2,                                   /* at 14: rule section */
+    5, 0, HIGH(LAST_FACT), LOW(LAST_FACT),               /* at 20 */
+    0x80 | HIGH(FACT_LIKE_IT), LOW(FACT_LIKE_IT),        /* at 24 */
+    5, 0, HIGH(FACT_LIKE_IT), LOW(FACT_LIKE_IT),         /* at 26 */
+    0x80 | HIGH(LAST_FACT), LOW(LAST_FACT)               /* at 30 */
+};
+
+/* Whether a record of that book is the one in which only this fact stands. */
+static inline bool is_state_of(const uint8_t *record, size_t fact)
+{
+    bool as_expected = true;
+    size_t at;
+
+    for (at = 0; at < LESSON_LONGEST_RECORD; at++)
+        as_expected = as_expected && record[at] == (at == fact / 8 ? 0x80 >> fact % 8 : 0);
+    return as_expected;
+}
 
 static unsigned passed, failed;
 

@@ -1,5 +1,6 @@
 /* Checks lesson_list from C, through the header: listings of B, of two books with a rule that leans on
- * itself and of one with a constraint, what a refusal leaves, and NULL. */
+ * itself, of one with a constraint and of one with as many facts as there can be, what a refusal leaves, and
+ * NULL. */
 #include "host.h"
 
 #define NOISE 0xA5
@@ -53,6 +54,25 @@ static void expect_refused(const char *what, const uint8_t *book, size_t length,
     expect_buffer("  and the buffer is as it was", "", 0);
 }
 
+/* The widest book has two states, and the one in which the lower fact stands comes last. */
+static void expect_widest(void)
+{
+    static uint8_t listing[11 + 2 * LESSON_LONGEST_RECORD + 1];
+    size_t bytes = sizeof listing - 1;
+
+    memset(listing, NOISE, sizeof listing);
+    expect_answer("the widest book in a byte too few",
+                  lesson_list(widest, sizeof widest, 0, 0, listing, bytes - 1),
+                  LESSON_BUFFER_TOO_SHORT);
+    expect_true("  and the buffer is as it was", listing[0] == NOISE);
+    expect_answer("the widest book",
+                  lesson_list(widest, sizeof widest, 0, 0, listing, sizeof listing), counts(2, 2));
+    expect_true("  and its records",
+                is_state_of(listing + 11, LAST_FACT) &&
+                    is_state_of(listing + 11 + LESSON_LONGEST_RECORD, FACT_LIKE_IT));
+    expect_true("  and the byte past them", listing[bytes] == NOISE);
+}
+
 int main(void)
 {
     uint64_t answer;
@@ -79,6 +99,7 @@ int main(void)
     expect_buffer("  and its listing", "\x01\0\0\0\x0C\0\x02\0\0\0\x01\x40", 12);
     expect("the same, its layer being off", never_p, sizeof never_p, 0, 1, 40, counts(0, 1));
     expect_buffer("  and its listing", "\x01\0\0\0\x0C\0\x02\0\0\0\x01\0", 12);
+    expect_widest();
     expect_refused("B at 3 in 11 bytes", B, sizeof B, 3, 0, 11, LESSON_BUFFER_TOO_SHORT);
     expect_refused("B at 4", B, sizeof B, 4, 0, 40, LESSON_NO_SUCH_LAYER);
     expect_refused("layer before buffer", B, sizeof B, UINT32_MAX, 0, 0, LESSON_NO_SUCH_LAYER);

@@ -37,6 +37,23 @@ static void expect(const char *what, const uint8_t *book, size_t length, uint32_
     expect_true("  and the buffer", as_expected);
 }
 
+/* A state of the widest book is one of two, and needs every byte of its record. */
+static void expect_widest(void)
+{
+    uint8_t record[LESSON_LONGEST_RECORD + 1];
+
+    memset(record, NOISE, sizeof record);
+    expect_answer("the widest book in a byte too few",
+                  lesson_one(widest, sizeof widest, 0, 0, record, LESSON_LONGEST_RECORD - 1),
+                  LESSON_BUFFER_TOO_SHORT);
+    expect_true("  and the buffer is as it was", record[0] == NOISE);
+    expect_answer("the widest book", lesson_one(widest, sizeof widest, 0, 0, record, sizeof record),
+                  2 << 8);
+    expect_true("  and its state",
+                is_state_of(record, LAST_FACT) || is_state_of(record, FACT_LIKE_IT));
+    expect_true("  and the byte past it", record[LESSON_LONGEST_RECORD] == NOISE);
+}
+
 int main(void)
 {
     expect("B at 1", B, sizeof B, 1, 0, 1, 1 << 8, 0xA0);
@@ -51,6 +68,7 @@ int main(void)
     expect("the same, its layer being off", never_p, sizeof never_p, 0, 1, 8, 0, 0x00);
     expect("never anything", never, sizeof never, 0, 0, 8, LESSON_NO_STABLE_STATE, NOISE);
     expect("the same, its layer being off", never, sizeof never, 0, 1, 8, 0, 0x00);
+    expect_widest();
     expect("B in no bytes", B, sizeof B, 3, 0, 0, LESSON_BUFFER_TOO_SHORT, NOISE);
     expect("no state", without, sizeof without, 0, 0, 8, LESSON_NO_STABLE_STATE, NOISE);
     expect("no state in no bytes", without, sizeof without, 0, 0, 0, LESSON_BUFFER_TOO_SHORT,

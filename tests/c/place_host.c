@@ -51,6 +51,14 @@ int main(void)
     expect_place("a in B at 0, which is off", B, sizeof B, 0, 1, 0, 0, LESSON_IN_NONE);
     expect_place("p, which must never be", never_p, sizeof never_p, 0, 0, 0, 2, LESSON_IN_NONE);
     expect_place("q instead", never_p, sizeof never_p, 0, 0, 1, 2, LESSON_IN_EVERY);
+    expect_place("the last of the most facts", widest, sizeof widest, 0, 0, LAST_FACT, 2,
+                 LESSON_IN_SOME);
+    expect_place("one with its low byte", widest, sizeof widest, 0, 0, FACT_LIKE_IT, 2,
+                 LESSON_IN_SOME);
+    expect_place("another with it", widest, sizeof widest, 0, 0, FACT_LIKE_IT - 256, 2,
+                 LESSON_IN_NONE);
+    expect_refused("a fact too many", widest, sizeof widest, 0, 0, LESSON_MOST_FACTS,
+                   LESSON_NO_SUCH_FACT);
     expect_refused("no state", without, sizeof without, 0, 0, 0, LESSON_NO_STABLE_STATE);
     expect_refused("fact 3 of 3", B, sizeof B, 3, 0, 3, LESSON_NO_SUCH_FACT);
     expect_refused("fact 2^32 - 1", B, sizeof B, 3, 0, UINT32_MAX, LESSON_NO_SUCH_FACT);

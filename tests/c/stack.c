@@ -8,18 +8,20 @@
 #include <ucontext.h>
 
 #define STACK_BYTES (1024 * 1024)
-#define FACTS 256
+#define FACTS LESSON_MOST_FACTS
 #define LAYERS 32
 #define RULES 1024
 #define BODY 16
-#define LARGEST_BOOK 38372
+#define WIDTH LESSON_LONGEST_RECORD
 #define NOT 0x8000u
 /* The head of a constraint. */
 #define FALSITY 0x7FFFu
 /* A fact that branches and stands in no state. */
-#define NEVER 100u
+#define NEVER (FACTS - 100u)
+/* The first of those that are spoken of in no other way. */
+#define OTHERS 150u
 /* The first of the facts that stand with the free ones. */
-#define HELPERS 50u
+#define HELPERS (FACTS - 200u)
 
 enum call { EMPTY, CHECK, TEST, LIST, ONE, PLACE, CALLS };
 
@@ -38,7 +40,7 @@ static struct {
 } asked;
 
 static _Alignas(64) uint8_t stack[STACK_BYTES];
-static uint8_t buffer[1 << 16];
+static uint8_t buffer[1 << 18];
 static size_t deepest[CALLS];
 static ucontext_t here, there;
 
@@ -109,7 +111,7 @@ static uint64_t measure(enum call call)
 }
 
 /* A book being written. */
-static uint8_t book[LARGEST_BOOK];
+static uint8_t book[LESSON_LARGEST_BOOK];
 static size_t end, rules;
 
 static void put(size_t value, unsigned bytes)
@@ -172,7 +174,7 @@ static void put_largest(size_t branching, size_t free_facts, bool constraints)
 
     end = rules = 0;
     put(1, 1);
-    put(LARGEST_BOOK, 4);
+    put(LESSON_LARGEST_BOOK, 4);
     put(FACTS, 2);
     put(LAYERS, 1);
     put_arrows();
@@ -183,8 +185,8 @@ static void put_largest(size_t branching, size_t free_facts, bool constraints)
     for (; fact < branching; fact++)
         put_free(NEVER + fact, HELPERS + fact, fact);
     while (rules < RULES) {
-        head = constraints ? FALSITY : 150 + rules % 100;
-        put_rule(2 + rules % (LAYERS - 2), head, NOT | NEVER, 150 + rules % 50);
+        head = constraints ? FALSITY : OTHERS + rules % (HELPERS - OTHERS);
+        put_rule(2 + rules % (LAYERS - 2), head, NOT | NEVER, OTHERS + rules % 50);
     }
 }
 
@@ -247,22 +249,22 @@ static void measure_largest(void)
 {
     put_largest(21, 1, false);
     expect_true("21 branching facts: list",
-                measure_every(book, end, 31, 0, NEVER, 32) == LESSON_TOO_MANY_BRANCHING);
+                measure_every(book, end, 31, 0, NEVER, WIDTH) == LESSON_TOO_MANY_BRANCHING);
     put_largest(10, 2, false);
     expect_true("10 branching facts, 1,024 rules: list",
-                measure_every(book, end, 31, 0, NEVER, 32) == counts(10, 4));
+                measure_every(book, end, 31, 0, NEVER, WIDTH) == counts(10, 4));
     put_largest(11, 10, false);
     expect_true("11 branching facts, 10 of them free: list",
-                measure_every(book, end, 1, 0, NEVER, 32) == counts(11, 1024));
+                measure_every(book, end, 1, 0, NEVER, WIDTH) == counts(11, 1024));
     expect_true("the same at layer 31, with layers 2 to 31 off: list",
-                measure_every(book, end, 31, ~3u, NEVER, 32) == counts(11, 1024));
+                measure_every(book, end, 31, ~3u, NEVER, WIDTH) == counts(11, 1024));
     put_largest(20, 1, false);
     expect_true("20 branching facts: list",
-                measure_every(book, end, 1, 0, NEVER + 19, 32) == counts(20, 2));
+                measure_every(book, end, 1, 0, NEVER + 19, WIDTH) == counts(20, 2));
     lend(book, end, 31, 0, NEVER + 19, sizeof buffer);
     expect_true("largest book: check", measure(CHECK) == LESSON_GRANTED);
     expect_true("20 branching facts, 1,024 rules: one", measure(ONE) == counts(20, 0));
-    asked.lent = 32;
+    asked.lent = WIDTH;
     expect_true("20 branching facts, 1,024 rules: test", lesson_is_stable(measure(TEST)));
     expect_true("20 branching facts, 1,024 rules: place",
                 measure(PLACE) == counts(20, LESSON_IN_SOME));
@@ -273,15 +275,15 @@ static void measure_constraints(void)
 {
     put_largest(0, 0, true);
     expect_true("1,024 constraints and no rule: list",
-                measure_every(book, end, 31, 0, NEVER, 32) == counts(0, 1));
+                measure_every(book, end, 31, 0, NEVER, WIDTH) == counts(0, 1));
     put_largest(11, 10, true);
     expect_true("11 branching facts, 1,024 rules and constraints: list",
-                measure_every(book, end, 31, 0, NEVER, 32) == counts(11, 1024));
+                measure_every(book, end, 31, 0, NEVER, WIDTH) == counts(11, 1024));
     put_largest(20, 1, true);
     lend(book, end, 31, 0, NEVER + 19, sizeof buffer);
     expect_true("20 branching facts and constraints: check", measure(CHECK) == LESSON_GRANTED);
     expect_true("20 branching facts and constraints: one", measure(ONE) == counts(20, 0));
-    asked.lent = 32;
+    asked.lent = WIDTH;
     expect_true("20 branching facts and constraints: test", lesson_is_stable(measure(TEST)));
     expect_true("20 branching facts and constraints: place",
                 measure(PLACE) == counts(20, LESSON_IN_SOME));

@@ -29,6 +29,26 @@ static void expect_only(const char *what, uint32_t layer, uint32_t off, uint8_t 
     }
 }
 
+/* The widest book has two states, and no fact in one of them is mistaken for another. */
+static void expect_widest(void)
+{
+    static const unsigned facts[4] = {LAST_FACT, FACT_LIKE_IT, FACT_LIKE_IT - 256, LAST_FACT - 1};
+    char candidate[LESSON_LONGEST_RECORD + 1] = {0};
+    size_t at;
+
+    for (at = 0; at < 4; at++) {
+        candidate[facts[at] / 8] = (char)(0x80 >> facts[at] % 8);
+        expect("one fact of the widest book", widest, sizeof widest, 0, 0, candidate,
+               LESSON_LONGEST_RECORD, at < 2 ? YES : NO);
+        candidate[facts[at] / 8] = 0;
+    }
+    expect("none of its facts", widest, sizeof widest, 0, 0, candidate, LESSON_LONGEST_RECORD, NO);
+    expect("a byte too many", widest, sizeof widest, 0, 0, candidate, LESSON_LONGEST_RECORD + 1,
+           LESSON_BAD_CANDIDATE);
+    expect("a byte too few", widest, sizeof widest, 0, 0, candidate, LESSON_LONGEST_RECORD - 1,
+           LESSON_BAD_CANDIDATE);
+}
+
 int main(void)
 {
     expect_only("B at 1", 1, 0, 0xA0);
@@ -47,6 +67,7 @@ int main(void)
     expect("q, beside a constraint", never_p, sizeof never_p, 0, 0, "\x40", 1, YES);
     expect("neither", never_p, sizeof never_p, 0, 0, "\x00", 1, NO);
     expect("neither, its layer being off", never_p, sizeof never_p, 0, 1, "\x00", 1, YES);
+    expect_widest();
     expect("no book", NULL, 0, 0, 0, "\x00", 1, LESSON_TOO_SHORT);
     expect("nothing at all", NULL, 0, UINT32_MAX, 0, NULL, 0, LESSON_TOO_SHORT);
     expect("B without its last byte", B, sizeof B - 1, 3, 0, "\x20", 1, LESSON_WRONG_LENGTH);
