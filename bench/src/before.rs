@@ -1,9 +1,9 @@
 //! The calls of the second archive. Its calls may take other arguments than the engine's: they are
 //! declared and made here alone.
 //!
-//! It is expected to be one from before document 02, (h), whose calls take no set of layers that are
-//! switched off. For one whose calls take it behind the layer, as the engine's do, the last line of
-//! this file becomes `second_archive!(off);`, and nothing else changes.
+//! It is expected to be one from after document 02, (i), which answers as the engine does wherever it takes
+//! a book, and whose calls take a set of layers that are switched off behind the layer. For one whose calls
+//! take none, the last line of this file becomes `second_archive!();`.
 
 use lesson_tests::drive::Drive;
 use lesson_tests::ffi::Call;
@@ -87,4 +87,4 @@ pub fn answer(_: &[u8], _: Drive, _: Call) -> u64 {
 }
 
 #[cfg(before)]
-second_archive!();
+second_archive!(off);

@@ -5,22 +5,24 @@
 //!
 //! Run it with `cargo run --release`; with `-- --full` the books that take long come too, with
 //! `-- --only WORD` only the rows that have the word in their name, and with `-- --constraints` the
-//! second table alone. Two others come alone: with `-- --opening` the one of how long books open, and
-//! with `-- --orders` the one of listings whose records come in every order, where `--limit SECONDS`
-//! leaves out an archive that would take longer. Where LESSON_BEFORE_DIR names a folder with another
-//! liblesson.a, every row times that one too; `before` says which arguments its calls take.
+//! second table alone. Three others come alone: with `-- --opening` the one of how long books open, with
+//! `-- --junctions` the one of books with many facts, and with `-- --orders` the one of listings whose
+//! records come in every order, where `--limit SECONDS` leaves out an archive that would take longer. Where
+//! LESSON_BEFORE_DIR names a folder with another liblesson.a, every row times that one too, but for the
+//! books that it refuses; `before` says which arguments its calls take.
 
 mod before;
 mod clingo;
 mod constraints;
+mod junctions;
 mod opening;
 mod orders;
 
-use lesson_tests::book::Book;
+use lesson_tests::book::{width, Book, BYTE_ATOMS, LONGEST_RECORD};
 use lesson_tests::drive::at;
 use lesson_tests::expected::{branching, NO_STABLE_STATE};
 use lesson_tests::ffi::{self, Call};
-use lesson_tests::known::{self, Ending, Following, Known};
+use lesson_tests::known::{self, Ending, Following, Known, Slow};
 use lesson_tests::orders::{Order, Ordered};
 use lesson_tests::rng::Rng;
 use lesson_tests::shapes::{self, Planted};
@@ -171,16 +173,10 @@ struct Table {
     once: bool,
 }
 
-/// In the names of books whose states document 02 moved: an older archive answers otherwise.
-const MOVED: &str = "lean on themselves";
-
-/// In the names of books with constraints, which an archive from before document 02, (c) refuses.
-const CONSTRAINTS: &str = "constraints";
-
-/// Whether the second archive is to answer as the engine does.
-fn before_agrees(name: &str, book: &[u8]) -> bool {
-    let checked = || before::answer(book, at(0), Call::Check) == 0;
-    !name.contains(MOVED) && (!name.contains(CONSTRAINTS) || checked())
+/// Whether the second archive takes the book, which is lawful: one from before a request of document 02 may
+/// refuse what that let in.
+fn before_accepts(book: &[u8]) -> bool {
+    before::answer(book, at(0), Call::Check) == 0
 }
 
 impl Table {
@@ -217,7 +213,7 @@ impl Table {
         programs.extend(self.opponents.iter().map(|&(program, ..)| program));
         programs.retain(|&program| match program {
             Program::Plain => !self.once,
-            Program::Before => before_agrees(&name, book),
+            Program::Before => before_accepts(book),
             _ => true,
         });
         let buffers = (0..).map(|filler| vec![filler; asked.buffer]);
@@ -275,7 +271,7 @@ impl Table {
             book: &known.book.bytes(),
             layer: known.layer.into(),
             answer: known.answer(),
-            buffer: 11 + known.count * usize::from(known.book.atoms).div_ceil(8),
+            buffer: 11 + known.count * width(known.book.atoms),
             ..Asked::default()
         };
         let listings = self.row(asked, |_, buffer| Call::List(Some(buffer)));
@@ -294,7 +290,7 @@ impl Table {
                 0 => NO_STABLE_STATE,
                 _ => branching(known.branching),
             },
-            buffer: 32,
+            buffer: LONGEST_RECORD,
             ..Asked::default()
         };
         self.row(asked, |_, buffer| Call::One(Some(buffer)));
@@ -303,6 +299,11 @@ impl Table {
     /// A row for the place of a fact.
     fn place(&self, name: &str, known: &Known, fact: u16) {
         let answer = known.places()[usize::from(fact)];
+        self.placed(name, known, fact, answer);
+    }
+
+    /// The same where the answer is known.
+    fn placed(&self, name: &str, known: &Known, fact: u16, answer: u64) {
         let place = match answer >> 16 {
             0 if known.count == 0 => "no state",
             0 => "none",
@@ -332,7 +333,7 @@ fn rng(name: &str) -> Rng {
 }
 
 fn busy(branching: u16) -> Known {
-    known::busy(&mut rng("busy"), branching)
+    known::busy(&mut rng("busy"), branching, BYTE_ATOMS)
 }
 
 // A free fact is set false first, so that the records of free facts rise as they are found; where
@@ -356,7 +357,7 @@ fn checks_and_tests(table: &Table) {
     table.test("largest lawful book", &planted);
     table.test(
         "1,024 rules, worst order for filling",
-        &shapes::worst_order(),
+        &shapes::worst_order(BYTE_ATOMS),
     );
     let b = Planted {
         book: shapes::book_b(),
@@ -370,14 +371,17 @@ fn searches(table: &Table) {
     table.list("displacing pairs", &known::displacing_pairs(10, 0));
     table.list("largest lawful book", &busy(10));
     table.list("largest lawful book", &busy(14));
-    table.list("worst order for filling", &known::chained(5));
-    let leaning = known::leaning(&mut rng("leaning"), 10);
+    table.list("worst order for filling", &known::chained(5, BYTE_ATOMS));
+    let leaning = known::leaning(&mut rng("leaning"), 10, 0, BYTE_ATOMS);
     table.list("1,024 rules, most lean on themselves", &leaning);
     table.list("rising, 3 bytes", &known::free(12, 0, 24));
     table.list("rising, 4 bytes", &known::free(14, 0, 28));
     table.list("falling, 6 bytes", &known::followed(14, 14, 42, FALLING));
-    table.list("rising, 32 bytes", &known::free(14, 0, 256));
-    table.list("falling, 32 bytes", &known::followed(14, 14, 256, FALLING));
+    table.list("rising, 32 bytes", &known::free(14, 0, BYTE_ATOMS));
+    table.list(
+        "falling, 32 bytes",
+        &known::followed(14, 14, BYTE_ATOMS, FALLING),
+    );
     table.list("permuted, 4 bytes", &known::followed(10, 10, 30, REVERSED));
     for order in [Order::BitReversed, Order::ParityFirst, Order::Shuffled] {
         let name = format!("{}, 5 bytes", order.name());
@@ -407,7 +411,7 @@ fn growth(table: &Table, most_states: u16) {
         table.place("pairs and a fact without rules", &spared, 2 * choices);
     }
     for rules in [8, 32, 128, 512, 1_024] {
-        let known = known::sized(&mut rng("sized"), rules);
+        let known = known::sized(&mut rng("sized"), rules, BYTE_ATOMS);
         let name = format!("{rules} rules");
         table.check(&name, &known.book);
         table.test(&name, &known.planted(0));
@@ -424,26 +428,37 @@ fn growth(table: &Table, most_states: u16) {
 fn long_searches(table: &Table) {
     table.list("largest lawful book", &busy(16));
     table.list("largest lawful book", &busy(20));
-    table.list("worst order for filling", &known::chained(10));
+    table.list("worst order for filling", &known::chained(10, BYTE_ATOMS));
     table.list("rising, 5 bytes", &known::free(20, 0, 40));
     let by_64ths = Ordered::new(Order::Falling, 20, 40);
     assert_eq!(by_64ths.told(), 6);
     let by_64ths = by_64ths.known(&mut rng("orders"));
     table.list("falling by 64ths, 5 bytes", &by_64ths);
     table.list("falling, 8 bytes", &known::followed(20, 20, 60, FALLING));
-    table.list("rising, 32 bytes", &known::free(20, 0, 256));
-    table.list("falling, 32 bytes", &known::followed(20, 20, 256, FALLING));
+    table.list("rising, 32 bytes", &known::free(20, 0, BYTE_ATOMS));
+    table.list(
+        "falling, 32 bytes",
+        &known::followed(20, 20, BYTE_ATOMS, FALLING),
+    );
     table.list("permuted, 6 bytes", &known::followed(14, 14, 42, REVERSED));
     table.one("largest lawful book", &busy(20));
     table.place("largest lawful book", &busy(20), 20);
 }
 
+fn slow(choices: u16, ending: Ending) -> Slow {
+    Slow {
+        choices,
+        ending,
+        atoms: BYTE_ATOMS,
+    }
+}
+
 /// The slowest lawful books that we found, with so few choices that the plain program can follow,
 /// and records each of which goes past all others.
 fn worst_books(table: &Table) {
-    let slowest = |choices, ending| known::slowest(&mut rng("slowest"), choices, ending);
+    let slowest = |choices, ending| known::slowest(&mut rng("slowest"), slow(choices, ending));
     table.list("slowest", &slowest(5, Ending::Stable));
-    for (name, known) in known::every_slow(&mut rng("slow"), 8) {
+    for (name, known) in known::every_slow(&mut rng("slow"), 8, BYTE_ATOMS) {
         match known.count {
             0 => table.one(&name, &known),
             _ => table.list(&name, &known),
@@ -451,7 +466,7 @@ fn worst_books(table: &Table) {
     }
     table.place("slowest", &slowest(8, Ending::Unstable), 0);
     for choices in [14, 16] {
-        let in_turn = known::front_and_end(choices, 256);
+        let in_turn = known::front_and_end(choices, BYTE_ATOMS);
         table.list("front and end in turn, 32 bytes", &in_turn);
     }
 }
@@ -461,16 +476,18 @@ fn longest_searches(table: &Table) {
     use Ending::{Doubtful, Stable, Unstable};
     let table = &table.once();
     let rng = &mut rng("longest");
-    table.list("slowest, stable", &known::slowest(rng, 19, Stable));
-    table.list("slowest, doubtful", &known::slowest(rng, 17, Doubtful));
-    table.list("slowest, unstable", &known::slowest(rng, 17, Unstable));
-    table.list("ring, stable", &known::ring(rng, 19, Stable));
-    table.list("both ways, stable", &known::both_ways(rng, 19, Stable));
-    table.list("blocks, stable", &known::blocks(rng, 19, Stable));
-    table.list("blocks, doubtful", &known::blocks(rng, 17, Doubtful));
-    let displaced = known::displaced(19, 200, Stable);
+    let (stable, doubtful) = (slow(19, Stable), slow(17, Doubtful));
+    table.list("slowest, stable", &known::slowest(rng, stable));
+    table.list("slowest, doubtful", &known::slowest(rng, doubtful));
+    let unstable = known::slowest(rng, slow(17, Unstable));
+    table.list("slowest, unstable", &unstable);
+    table.list("ring, stable", &known::ring(rng, stable));
+    table.list("both ways, stable", &known::both_ways(rng, stable));
+    table.list("blocks, stable", &known::blocks(rng, stable));
+    table.list("blocks, doubtful", &known::blocks(rng, doubtful));
+    let displaced = known::displaced(stable, 200);
     table.list("displaced, and a chain, stable", &displaced);
-    table.list("worst order for filling", &known::chained(19));
+    table.list("worst order for filling", &known::chained(19, BYTE_ATOMS));
 }
 
 /// The standing table.
@@ -493,7 +510,7 @@ fn standing(word: String, full: bool) {
 
 fn main() {
     let (mut full, mut orders, mut limit) = (false, false, orders::LIMIT);
-    let (mut word, mut constraints_only) = (String::new(), false);
+    let (mut word, mut constraints_only, mut junctions) = (String::new(), false, false);
     let mut options = env::args().skip(1);
     while let Some(option) = options.next() {
         let mut value = || {
@@ -505,16 +522,21 @@ fn main() {
             "--full" => full = true,
             "--only" => word = value(),
             "--constraints" => constraints_only = true,
+            "--junctions" => junctions = true,
             "--opening" => return opening::table(),
             "--orders" => orders = true,
             "--limit" => limit = value().parse().expect("--limit takes seconds"),
             other => panic!(
-                "{other}: the options are --full, --only WORD, --constraints, --opening, --orders and --limit SECONDS"
+                "{other}: the options are --full, --only WORD, --constraints, --junctions, --opening, --orders \
+                 and --limit SECONDS"
             ),
         }
     }
     if orders {
         return orders::table(word, limit);
+    }
+    if junctions {
+        return junctions::table(word, full);
     }
     if !constraints_only {
         standing(word.clone(), full);

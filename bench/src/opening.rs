@@ -3,7 +3,7 @@
 //! is stable and little is left to search.
 
 use crate::{best_rounds, opponents, rng, shown, Program, FEWEST, MOST, SEED};
-use lesson_tests::book::{not, plain, Book, Literal};
+use lesson_tests::book::{not, plain, width, Book, Literal, BYTE_ATOMS};
 use lesson_tests::expected::{branching, counts, place_of, yes_or_no};
 use lesson_tests::ffi::{self, Call};
 use lesson_tests::oracle::{self, Driven};
@@ -66,7 +66,7 @@ impl Sizes {
     fn last_fact(self) -> u16 {
         match self.displacing {
             true => self.rules_of_a_layer() as u16,
-            false => 255,
+            false => BYTE_ATOMS - 1,
         }
     }
 
@@ -181,7 +181,7 @@ impl Long {
     fn new(sizes: Sizes) -> Long {
         let book = sizes.book();
         let (bytes, layer) = (book.bytes(), sizes.last_layer() as u8);
-        let mut record = vec![0; usize::from(book.atoms).div_ceil(8)];
+        let mut record = vec![0; width(book.atoms)];
         let given = ffi::one_in_place(&bytes, layer.into(), &mut record);
         assert_eq!(given, branching(sizes.branching), "one state");
         let state = oracle::state(&record, book.atoms).expect("it is a record");

@@ -2,6 +2,7 @@
 //! follow: the engine and the archive before beside the bit sets, which sort at the end.
 
 use crate::{before, best_rounds, rng, shown, Program, FEWEST, MOST, SEED};
+use lesson_tests::book::{self, BYTE_ATOMS};
 use lesson_tests::ffi::Call;
 use lesson_tests::orders::{Order, Ordered};
 use std::hint::black_box;
@@ -58,12 +59,12 @@ const RECORDS: [Records; 4] = [
         choices: &[14, 18, 20],
     },
     Records {
-        facts: 256,
+        facts: BYTE_ATOMS,
         at_the_end: false,
         choices: &[14, 18, 20],
     },
     Records {
-        facts: 256,
+        facts: BYTE_ATOMS,
         at_the_end: true,
         choices: &[14, 18],
     },
@@ -170,8 +171,8 @@ fn named(ordered: Ordered, room: Room) -> String {
 /// Seconds for a listing by each program that runs. All write the same bytes and none past them.
 fn timed(ordered: Ordered, room: Room, runs: [bool; 3]) -> Times {
     let known = ordered.known(&mut rng("orders"));
-    let (book, layer) = (known.book.bytes(), known.layer.into());
-    let width = usize::from(known.book.atoms).div_ceil(8);
+    let (bytes, layer) = (known.book.bytes(), known.layer.into());
+    let width = book::width(known.book.atoms);
     let records = match room {
         Room::Settings => 1 << known.branching,
         Room::States => known.count,
@@ -180,7 +181,7 @@ fn timed(ordered: Ordered, room: Room, runs: [bool; 3]) -> Times {
     let mut buffers = vec![vec![FILLER; HEAD + records * width]; running.len()];
     let best = best_rounds(running.len(), &mut |at| {
         let call = Call::List(Some(&mut buffers[at]));
-        let given = PROGRAMS[running[at]].answer(black_box(&book), layer, call);
+        let given = PROGRAMS[running[at]].answer(black_box(&bytes), layer, call);
         assert_eq!(given, known.answer(), "{ordered:?}");
     });
     let same = buffers.windows(2).all(|two| two[0] == two[1]);

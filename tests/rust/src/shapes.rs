@@ -583,7 +583,7 @@ fn plant_largest(rng: &mut Rng, constraints: usize) -> Planted {
 /// Each fact that stands has a rule over facts that come before it in a hidden order. Some rules
 /// say the opposite of the state, under a layer that displaces them; and the body of every other
 /// rule that could contradict the state, or rule it out, does not hold in it. There are no more rules
-/// than asked for, but for those that the state needs; and never more than there can be.
+/// than asked for, but for those that the state needs.
 fn plant(rng: &mut Rng, sizes: &Sizes) -> Planted {
     let order = hidden_order(rng, sizes.layers);
     let mut book = Book::new(sizes.atoms as u16, sizes.layers as u8);
@@ -591,7 +591,9 @@ fn plant(rng: &mut Rng, sizes: &Sizes) -> Planted {
     rng.shuffle(&mut book.arrows);
     let mut hidden: Vec<u16> = (0..book.atoms).collect();
     rng.shuffle(&mut hidden);
-    let mut state: Vec<bool> = (0..sizes.atoms).map(|_| rng.chance(50)).collect();
+    // Of many facts fewer stand and are contested, so that half of the rules need not speak of these.
+    let share = |percent: usize| percent * 512 / sizes.atoms.max(512);
+    let mut state: Vec<bool> = (0..sizes.atoms).map(|_| rng.chance(share(50))).collect();
     // The first one has nothing to lean on but its default.
     state[usize::from(hidden[0])] = false;
     let right = |atom: u16| Literal {
@@ -605,9 +607,7 @@ fn plant(rng: &mut Rng, sizes: &Sizes) -> Planted {
                 .map(|_| right(hidden[rng.below(at)]))
                 .collect()
         };
-        // Each fact that is left takes a rule at most.
-        let room = book.rules.len() + 1 + hidden.len() - at < 1_024;
-        let contested = room && rng.chance(30);
+        let contested = rng.chance(share(30));
         let upper = rng.range(1, sizes.layers - 1);
         if contested || state[usize::from(atom)] {
             let body = before(rng);
