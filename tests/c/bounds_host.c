@@ -1,5 +1,5 @@
-/* Checks the header's bounds against what the engine says: the most facts, the longest record, and the
- * largest listing, which is written in full. */
+/* Checks the header's bounds against what the engine says: the most facts, the longest record, and
+ * the largest listing, which is written in full. */
 #include "host.h"
 
 #define NOISE 0xA5
@@ -38,8 +38,9 @@ static void put_rule(size_t layer, size_t head, size_t body)
     put(body, 2);
 }
 
-/* A book of so many facts. Of its last ones so many may stand or not, behind a helper each: a quarrel
- * about the helper in layer 0, where the fact follows it, and above that the helper as it follows the fact. */
+/* A book of so many facts. Of its last ones so many may stand or not, with a helper each: a quarrel
+ * about the helper in layer 0, where the fact follows it, and above that the helper as it follows
+ * the fact. */
 static void put_book(size_t facts, size_t choices)
 {
     size_t choice;
@@ -79,7 +80,7 @@ static size_t number(size_t at, unsigned bytes)
     return value;
 }
 
-/* The book's listing has so many bytes, and says so itself; in one byte less there is no room for it. */
+/* The book's listing has so many bytes, and says so itself; in one byte less there is no room. */
 static void expect_listing(const char *what, size_t choices, size_t bytes)
 {
     size_t states = (size_t)1 << choices;

@@ -38,7 +38,8 @@ static const uint8_t never_p[38] = {
 #define HIGH(number) ((number) >> 8)
 #define LOW(number) ((number)&0xFF)
 
-/* As many facts as there can be: the last one stands if the other does not, and the other way round. */
+/* As many facts as there can be: the last one stands if the other does not, and the other way
+ * round. */
 static const uint8_t widest[32] = {
     1, 0, 0, 0, 32,                                      /* head */
     HIGH(LESSON_MOST_FACTS), LOW(LESSON_MOST_FACTS), 1,  /* at 5: facts, 1 layer */

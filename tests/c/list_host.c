@@ -1,6 +1,6 @@
 /* Checks lesson_list from C, through the header: listings of B, of two books with a rule that leans on
- * itself, of one with a constraint and of one with as many facts as there can be, what a refusal leaves, and
- * NULL. */
+ * itself, of one with a constraint and of one with as many facts as there can be, what a refusal
+ * leaves, and NULL. */
 #include "host.h"
 
 #define NOISE 0xA5

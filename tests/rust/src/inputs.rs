@@ -113,6 +113,11 @@ impl Input {
         self.unconstrained.is_some()
     }
 
+    /// Whether the book has facts whose numbers take more than a byte.
+    pub fn is_wide(&self) -> bool {
+        fields(&self.book).0 > BYTE_ATOMS.into()
+    }
+
     /// Whether only a constraint keeps a candidate from being stable.
     pub fn forbids(&self, candidate: &[u8]) -> bool {
         let yes = yes_or_no(true);

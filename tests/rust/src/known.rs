@@ -61,6 +61,14 @@ impl Known {
     }
 }
 
+/// The facts of a book with few, and of one with many each fifth and the last.
+pub fn some_facts(atoms: u16) -> Vec<u16> {
+    let step = if atoms <= BYTE_ATOMS { 1 } else { 5 };
+    let mut facts: Vec<u16> = (0..atoms - 1).step_by(step).collect();
+    facts.push(atoms - 1);
+    facts
+}
+
 pub(crate) fn bit(number: usize, at: usize) -> bool {
     number >> at & 1 == 1
 }

@@ -16,7 +16,7 @@ const SLICES: [&str; 8] = [
 ];
 
 /// Answers that a call is granted with, in the order of `Tally::granted`.
-const GRANTED: [&str; 10] = [
+const GRANTED: [&str; 11] = [
     "test yes",
     "test no",
     "list none",
@@ -27,6 +27,7 @@ const GRANTED: [&str; 10] = [
     "layers off",
     "constraints",
     "test no by a constraint alone",
+    "more facts than a byte numbers",
 ];
 
 #[derive(Default)]
@@ -38,7 +39,7 @@ pub struct Tally {
     /// For each call and each cause, 0 for none: the questions, each counted once however often
     /// it was put.
     answers: [[u64; ANSWERS]; 5],
-    granted: [u64; 10],
+    granted: [u64; 11],
     /// Slices lent as NULL with length 0.
     nulls: [u64; 8],
     /// Slices lent at each remainder of their address by 8: books, then candidates and buffers.
@@ -57,6 +58,7 @@ impl Tally {
             if cause == 0 && question.call() != 0 {
                 self.granted[7] += u64::from(input.drive.off != 0);
                 self.granted[8] += u64::from(input.has_constraints());
+                self.granted[10] += u64::from(input.is_wide());
             }
             if let Question::Test { candidate } = question {
                 self.granted[9] += u64::from(input.forbids(candidate));

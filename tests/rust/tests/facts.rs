@@ -2,11 +2,11 @@
 //! of facts that agree in their low bytes, and around the bound.
 
 use lesson_tests::book::{
-    hex, not, plain, width, Book, Literal, BYTE_ATOMS, FALSITY, LONGEST_RECORD, MAX_ATOMS, WIDE,
+    hex, not, plain, Book, Literal, BYTE_ATOMS, FALSITY, LONGEST_RECORD, MAX_ATOMS, WIDE,
 };
 use lesson_tests::drive::at;
 use lesson_tests::every_call::{assert_known_book, assert_refused};
-use lesson_tests::expected::{counts, place_of, yes_or_no, BUFFER_TOO_SHORT};
+use lesson_tests::expected::{counts, place_of, yes_or_no, BUFFER_TOO_SHORT, MAX_BRANCHING};
 use lesson_tests::ffi;
 use lesson_tests::known;
 use lesson_tests::listed::{assert_outcome, outcome};
@@ -270,10 +270,32 @@ fn literals_at_the_bound_are_lawful_below_the_books_facts_alone() {
     assert_only_state("the last two", &reached, &[last - 1, last]);
 }
 
+/// The number that the header has for a name.
+fn in_the_header(name: &str) -> usize {
+    let header = include_str!("../../../include/lesson.h");
+    let mut lines = header
+        .lines()
+        .filter_map(|line| line.trim().split_once(" = "));
+    let (_, value) = lines.find(|(left, _)| *left == name).expect(name);
+    value.trim_end_matches(',').parse().expect(name)
+}
+
+/// What `tests/c/bounds_host.c` finds the engine to say is also what the tests here go by.
+#[test]
+fn the_headers_bounds_follow_from_the_most_facts() {
+    assert_eq!(in_the_header("LESSON_MOST_FACTS"), MAX_ATOMS.into());
+    assert_eq!(in_the_header("LESSON_LONGEST_RECORD"), LONGEST_RECORD);
+    let states = in_the_header("LESSON_MOST_STATES");
+    assert_eq!(states, 1 << MAX_BRANCHING);
+    let listing = oracle::listing(MAX_ATOMS, &[]).len() + states * LONGEST_RECORD;
+    assert_eq!(in_the_header("LESSON_LARGEST_LISTING"), listing);
+    let book = shapes::largest(&mut Rng::named(seed(), "facts, largest"));
+    assert_eq!(in_the_header("LESSON_LARGEST_BOOK"), book.bytes().len());
+}
+
 /// A record of the widest book has all its bytes, in a buffer of its length and of one byte less.
 #[test]
 fn the_longest_record_needs_each_of_its_bytes() {
-    assert_eq!((width(MAX_ATOMS), LONGEST_RECORD), (128, 128));
     let book = Book::new(MAX_ATOMS, 1).rule(0, plain(MAX_ATOMS - 1), &[]);
     let bytes = book.bytes();
     let record = oracle::record(&standing(MAX_ATOMS, &[MAX_ATOMS - 1]));
