@@ -79,7 +79,7 @@ enum lesson_cause_number {
 
 /* The most facts of a book and the most states of a listing, and the most bytes of
  * a book, a record and a listing: checked against what the engine says by
- * tests/c/bounds_host.c. */
+ * tests/c/bounds_host.c, and the book's by tests/c/stack.c. */
 enum lesson_bound {
     LESSON_MOST_FACTS = 1024,
     LESSON_MOST_STATES = 1048576,

@@ -14,7 +14,8 @@ fn every_search(table: &Table, name: &str, known: &Known, never: u16) {
     table.list(name, known);
     table.one(name, known);
     let answer = place_of(known.branching, 0, known.count);
-    table.placed(name, known, never, answer);
+    let name = format!("{name}, k = {}", known.count);
+    table.placed(&name, known, never, answer);
 }
 
 /// The fact of a book that no rule speaks of.
