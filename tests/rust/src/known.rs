@@ -61,9 +61,9 @@ impl Known {
     }
 }
 
-/// The facts of a book with few, and of one with many each fifth and the last.
+/// The facts of a book with few, and of one with many each eleventh and the last.
 pub fn some_facts(atoms: u16) -> Vec<u16> {
-    let step = if atoms <= BYTE_ATOMS { 1 } else { 5 };
+    let step = if atoms <= BYTE_ATOMS { 1 } else { 11 };
     let mut facts: Vec<u16> = (0..atoms - 1).step_by(step).collect();
     facts.push(atoms - 1);
     facts
