@@ -17,15 +17,16 @@ use Rattle.table.specs.Names.{literalNamed}
 use Rattle.table.specs.Rows.{rowCount, headName, rowAt, alive}
 use Rattle.table.proofs.NameLaws.{name-low, name-high}
 use Rattle.table.proofs.RowLaws.{row-of}
-use Rattle.filling.proofs.MarkLaws.{blank}
+use Rattle.filling.proofs.MarkLaws.{blank, fact-low, fact-high, head-within, room-same}
 use Rattle.filling.proofs.GrowingLaws.{OneMore, one-low, one-high, opposite-free, grown-none, grown-both, grown-one, SoundMarks, grown-sound, head-follows}
-use Rattle.filling.specs.Marks.{literalMarked, adds, FollowsFrom, from-start, by-row, Apart, Conflict, Grown, falses, Closed, PassEnd, FilledOn, Fills}
+use Rattle.filling.specs.Marks.{Room, literalMarked, adds, FollowsFrom, from-start, by-row, Apart, Conflict, Grown, falses, Closed, PassEnd, FilledOn, Fills}
 
 module _ (book rows rejects : List ℕ) where
   -- a pass that began with p₀ and q₀ has come to row j
   pub record Passing (p₀ q₀ p q : List Bool) (added : Bool) (j : ℕ) : Type 0 where
     pub within : j ≤ rowCount rows
-    pub size : (length p ≡ maxAtoms) × (length q ≡ maxAtoms)
+    pub room : Room rows p q
+    pub size : (length p ≡ length p₀) × (length q ≡ length q₀)
     pub grown : Grown book rows rejects p₀ q₀ p q
     pub fewer : falses p + falses q + cond added 1 0 ≤ falses p₀ + falses q₀
     pub closed : added ≡ false → Closed book rows rejects p q j
@@ -44,22 +45,23 @@ forced true d e t = tt
 forced false d e t = subst T e t
 
 -- at the start no fact is marked
-start-apart : (start : List Bool) → Apart (replicate maxAtoms false) start
+start-apart : (n : ℕ) (start : List Bool) → Apart (replicate n false) start
 unfolding literalMarked atomHolds complement
-start-apart start l t u = one (l .atom) (l .negated) t u
+start-apart n start l t u = one (l .atom) (l .negated) t u
   where
-    one : (f : ℕ) (c : Bool) → T (literalMarked (replicate maxAtoms false) start (record { atom = f; negated = c })) → T (literalMarked (replicate maxAtoms false) start (record { atom = f; negated = not c })) → ⊥
-    one f true t u = subst T (blank maxAtoms f) u
-    one f false t u = subst T (blank maxAtoms f) t
+    one : (f : ℕ) (c : Bool) → T (literalMarked (replicate n false) start (record { atom = f; negated = c })) → T (literalMarked (replicate n false) start (record { atom = f; negated = not c })) → ⊥
+    one f true t u = subst T (blank n f) u
+    one f false t u = subst T (blank n f) t
 
 module _ {book rows rejects : List ℕ} where
-  pub pass-start : (p q : List Bool) → (length p ≡ maxAtoms) × (length q ≡ maxAtoms) → Passing book rows rejects p q p q false 0
-  pass-start p q w = record { within = omega arith; size = w; grown = grown-none p q; fewer = omega arith; closed = λ e i h. absurd (omega arith) }
+  pub pass-start : (p q : List Bool) → Room rows p q → Passing book rows rejects p q p q false 0
+  pass-start p q w = record { within = omega arith; room = w; size = (refl, refl); grown = grown-none p q; fewer = omega arith; closed = λ e i h. absurd (omega arith) }
 
   pub pass-skip : {p₀ q₀ p q : List Bool} {ad : Bool} {j : ℕ} → Passing book rows rejects p₀ q₀ p q ad j → j < rowCount rows
       → (r : Bool) → r ≡ adds p q rejects (rowAt book rows j) → r ≡ false → Passing book rows rejects p₀ q₀ p q ad (j + 1)
   pass-skip {p₀} {q₀} {p} {q} {ad} {j} w h r er n = record {
     within = omega arith;
+    room = w .room;
     size = w .size;
     grown = w .grown;
     fewer = w .fewer;
@@ -73,8 +75,9 @@ module _ {book rows rejects : List ℕ} where
   pass-add : {p₀ q₀ p q p′ q′ : List Bool} {ad : Bool} {j : ℕ} → Passing book rows rejects p₀ q₀ p q ad j → j < rowCount rows
       → adds p q rejects (rowAt book rows j) ≡ true → OneMore p q p′ q′ (rowAt book rows j .head)
       → literalMarked p q (complement (rowAt book rows j .head)) ≡ false → Passing book rows rejects p₀ q₀ p′ q′ true (j + 1)
-  pass-add {p = p} {q = q} {ad = ad} {j = j} w h a m free = record {
+  pass-add {p = p} {q = q} {p′ = p′} {q′ = q′} {ad = ad} {j = j} w h a m free = record {
     within = omega arith;
+    room = room-same (w .room) p′ q′ (m .size .0) (m .size .1);
     size = (m .size .0 ∙ w .size .0, m .size .1 ∙ w .size .1);
     grown = grown-both (w .grown) (grown-one p q j h a m free);
     fewer = omega (arith, w .fewer, m .fewer, at-most-one ad);
@@ -100,13 +103,13 @@ module _ {book rows rejects : List ℕ} where
   filling-grown v t g = record { grown = grown-both (v .grown) g; closed = λ e. absurd (true≢false (sym t ∙ e)) }
 
   -- the negations that are assumed follow
-  module _ (start : List Bool) where
-    start-literal : (f : ℕ) (c : Bool) → T (literalMarked (replicate maxAtoms false) start (record { atom = f; negated = c })) → FollowsFrom book rows rejects start (record { atom = f; negated = c })
+  module _ (n : ℕ) (start : List Bool) where
+    start-literal : (f : ℕ) (c : Bool) → T (literalMarked (replicate n false) start (record { atom = f; negated = c })) → FollowsFrom book rows rejects start (record { atom = f; negated = c })
     unfolding literalMarked atomHolds
     start-literal f true t = from-start f t
-    start-literal f false t = absurd (subst T (blank maxAtoms f) t)
+    start-literal f false t = absurd (subst T (blank n f) t)
 
-    start-sound : SoundMarks book rows rejects start (replicate maxAtoms false) start
+    start-sound : SoundMarks book rows rejects start (replicate n false) start
     start-sound = record { sound = λ l t. start-literal (l .atom) (l .negated) t; started = λ f t. t }
 
   -- nothing is added any more: all that follows is marked
@@ -128,8 +131,8 @@ module _ {book rows rejects : List ℕ} where
     clash = λ e. w .clash e start (s .sound);
   }
 
-  pub filled-from-start : {start p q : List Bool} {c : Bool} → FilledOn book rows rejects (replicate maxAtoms false) start p q c → Fills book rows rejects start p q c
-  filled-from-start {start} w = filled-on (start-sound start) (start-apart start) w
+  pub filled-from-start : (n : ℕ) {start blanks p q : List Bool} {c : Bool} → blanks ≡ replicate n false → FilledOn book rows rejects blanks start p q c → Fills book rows rejects start p q c
+  filled-from-start n {start} {p = p} {q = q} {c = c} e w = filled-on (start-sound n start) (start-apart n start) (subst (λ (b : List Bool). FilledOn book rows rejects b start p q c) e w)
 
   -- the last pass added nothing
   pub filled : {p₀ q₀ p q : List Bool} → Filling book rows rejects p₀ q₀ p q false → FilledOn book rows rejects p₀ q₀ p q false
@@ -176,10 +179,10 @@ module _ {book rows rejects : List ℕ} where
 
     module _ (f : c ≡ false) where
       free : literalMarked p q (complement (rowAt book rows j .head)) ≡ false
-      free = opposite-free book rows rejects p q (w .size) j (sym er ∙ t) h e o eo c ec f
+      free = opposite-free book rows rejects p q j (sym er ∙ t) h e o eo c ec f
 
       pub pass-low : h < maxAtoms → Passing book rows rejects p₀ q₀ (set p h true) q true (j + 1)
-      pass-low k = pass-add w b (sym er ∙ t) (one-low book rows rejects p q (w .size) j (sym er ∙ t) h e k) free
+      pass-low k = pass-add w b (sym er ∙ t) (one-low book rows rejects p q j (sym er ∙ t) h e k (fact-low h (length p) (head-within (w .room) j h b e) k)) free
 
-      pub pass-high : maxAtoms ≤ h → h < maxNames → Passing book rows rejects p₀ q₀ p (set q (h - maxAtoms) true) true (j + 1)
-      pass-high k i = pass-add w b (sym er ∙ t) (one-high book rows rejects p q (w .size) j (sym er ∙ t) h e k i) free
+      pub pass-high : maxAtoms ≤ h → Passing book rows rejects p₀ q₀ p (set q (h - maxAtoms) true) true (j + 1)
+      pass-high k = pass-add w b (sym er ∙ t) (one-high book rows rejects p q j (sym er ∙ t) h e k (omega (arith, w .room .same, fact-high h (length p) (head-within (w .room) j h b e) k))) free

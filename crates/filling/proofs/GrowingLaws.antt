@@ -8,7 +8,7 @@ use Prim.Native.Nat.{ℕ, zero, suc, _+_, _-_, _<_, _≤_}
 use native.Mathlib.Omega.{arith}
 use lib.Dec.{T}
 use lib.ListN.{length, getD, set, length-set}
-use Rattle.base.specs.Bounds.{maxAtoms, maxNames}
+use Rattle.base.specs.Bounds.{maxAtoms}
 use Rattle.base.specs.Lists.{all}
 use Rattle.format.specs.Book.{Literal}
 use Rattle.models.specs.StableModels.{atomHolds, positive, negative, complement}
@@ -51,55 +51,55 @@ off true t = absurd t
 off false t = refl
 
 module _ (p q : List Bool) (h : ℕ) where
-  more-low : h < maxAtoms → length p ≡ maxAtoms → T (not (literalMarked p q (literalNamed h))) → OneMore p q (set p h true) q (literalNamed h)
+  more-low : h < maxAtoms → h < length p → T (not (literalMarked p q (literalNamed h))) → OneMore p q (set p h true) q (literalNamed h)
   unfolding literalMarked atomHolds
   more-low b e n = record {
     size = (length-set p h true, refl);
     only = λ l t. at-only (l .atom) (l .negated) t;
     keeps = λ l t. at-keeps (l .atom) (l .negated) t;
-    fewer = omega (arith, falses-set p h (omega arith) (off (getD p h false) (subst (λ (x : Literal). T (not (literalMarked p q x))) (name-low h b) n)));
+    fewer = omega (arith, falses-set p h e (off (getD p h false) (subst (λ (x : Literal). T (not (literalMarked p q x))) (name-low h b) n)));
   }
     where
       at-only : (f : ℕ) (c : Bool) → T (literalMarked (set p h true) q (record { atom = f; negated = c })) → T (literalMarked p q (record { atom = f; negated = c })) ⊎ (record { atom = f; negated = c } ≡ literalNamed h)
       at-only f true t = inl t
-      at-only f false t = ⊎-elim (λ u. inl u) (λ u. inr (ap (λ (x : ℕ). positive x) u ∙ sym (name-low h b))) (set-only p h f (omega arith) t)
+      at-only f false t = ⊎-elim (λ u. inl u) (λ u. inr (ap (λ (x : ℕ). positive x) u ∙ sym (name-low h b))) (set-only p h f e t)
 
       at-keeps : (f : ℕ) (c : Bool) → T (literalMarked p q (record { atom = f; negated = c })) → T (literalMarked (set p h true) q (record { atom = f; negated = c }))
       at-keeps f true t = t
-      at-keeps f false t = set-keeps p h f (omega arith) t
+      at-keeps f false t = set-keeps p h f e t
 
-  more-high : maxAtoms ≤ h → h < maxNames → length q ≡ maxAtoms → T (not (literalMarked p q (literalNamed h))) → OneMore p q p (set q (h - maxAtoms) true) (literalNamed h)
+  more-high : maxAtoms ≤ h → h - maxAtoms < length q → T (not (literalMarked p q (literalNamed h))) → OneMore p q p (set q (h - maxAtoms) true) (literalNamed h)
   unfolding literalMarked atomHolds
-  more-high b k e n = record {
+  more-high b e n = record {
     size = (refl, length-set q (h - maxAtoms) true);
     only = λ l t. at-only (l .atom) (l .negated) t;
     keeps = λ l t. at-keeps (l .atom) (l .negated) t;
-    fewer = omega (arith, falses-set q (h - maxAtoms) (omega arith) (off (getD q (h - maxAtoms) false) (subst (λ (x : Literal). T (not (literalMarked p q x))) (name-high h b) n)));
+    fewer = omega (arith, falses-set q (h - maxAtoms) e (off (getD q (h - maxAtoms) false) (subst (λ (x : Literal). T (not (literalMarked p q x))) (name-high h b) n)));
   }
     where
       at-only : (f : ℕ) (c : Bool) → T (literalMarked p (set q (h - maxAtoms) true) (record { atom = f; negated = c })) → T (literalMarked p q (record { atom = f; negated = c })) ⊎ (record { atom = f; negated = c } ≡ literalNamed h)
       at-only f false t = inl t
-      at-only f true t = ⊎-elim (λ u. inl u) (λ u. inr (ap (λ (x : ℕ). negative x) u ∙ sym (name-high h b))) (set-only q (h - maxAtoms) f (omega arith) t)
+      at-only f true t = ⊎-elim (λ u. inl u) (λ u. inr (ap (λ (x : ℕ). negative x) u ∙ sym (name-high h b))) (set-only q (h - maxAtoms) f e t)
 
       at-keeps : (f : ℕ) (c : Bool) → T (literalMarked p q (record { atom = f; negated = c })) → T (literalMarked p (set q (h - maxAtoms) true) (record { atom = f; negated = c }))
       at-keeps f false t = t
-      at-keeps f true t = set-keeps q (h - maxAtoms) f (omega arith) t
+      at-keeps f true t = set-keeps q (h - maxAtoms) f e t
 
 -- a row that adds its head, whose name is h, marks one name more
-module _ (book rows rejects : List ℕ) (p q : List Bool) (size : (length p ≡ maxAtoms) × (length q ≡ maxAtoms)) (j : ℕ) (a : adds p q rejects (rowAt book rows j) ≡ true) (h : ℕ) (e : h ≡ headName rows j) where
+module _ (book rows rejects : List ℕ) (p q : List Bool) (j : ℕ) (a : adds p q rejects (rowAt book rows j) ≡ true) (h : ℕ) (e : h ≡ headName rows j) where
   open-head : T (not (literalMarked p q (literalNamed h)))
   unfolding rowAt adds
   open-head =
       subst (λ (x : ℕ). T (not (literalMarked p q (literalNamed x)))) (sym e)
       (and-left (not (literalMarked p q (rowAt book rows j .head))) (alive rejects (rowAt book rows j) && all (literalMarked p q) (rowAt book rows j .body)) (subst T (sym a) tt))
 
-  pub one-low : h < maxAtoms → OneMore p q (set p h true) q (rowAt book rows j .head)
+  pub one-low : h < maxAtoms → h < length p → OneMore p q (set p h true) q (rowAt book rows j .head)
   unfolding rowAt
-  one-low k = subst (λ (x : ℕ). OneMore p q (set p h true) q (literalNamed x)) e (more-low p q h k (size .0) open-head)
+  one-low k i = subst (λ (x : ℕ). OneMore p q (set p h true) q (literalNamed x)) e (more-low p q h k i open-head)
 
-  pub one-high : maxAtoms ≤ h → h < maxNames → OneMore p q p (set q (h - maxAtoms) true) (rowAt book rows j .head)
+  pub one-high : maxAtoms ≤ h → h - maxAtoms < length q → OneMore p q p (set q (h - maxAtoms) true) (rowAt book rows j .head)
   unfolding rowAt
-  one-high k i = subst (λ (x : ℕ). OneMore p q p (set q (h - maxAtoms) true) (literalNamed x)) e (more-high p q h k i (size .1) open-head)
+  one-high k i = subst (λ (x : ℕ). OneMore p q p (set q (h - maxAtoms) true) (literalNamed x)) e (more-high p q h k i open-head)
 
   -- the opposite's name is in a local, and so is its mark
   pub opposite-free : (o : ℕ) → literalNamed o ≡ complement (literalNamed h) → (c : Bool) → c ≡ literalMarked p q (literalNamed o) → c ≡ false → literalMarked p q (complement (rowAt book rows j .head)) ≡ false

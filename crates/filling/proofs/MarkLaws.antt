@@ -10,21 +10,32 @@ use native.Mathlib.Decide.{ℕ-discrete}
 use native.Mathlib.Omega.{arith}
 use borrow.Author.Tests.{le-leb, lt-leb, not-true, not-false}
 use lib.Dec.{T, leb}
-use lib.ListN.{length, getD, set, replicate, List·getD-eq-default}
-use lib.Seq.{getD-set-same, getD-set-other}
+use lib.ListN.{length, getD, set, replicate, length-replicate, List·getD-eq-default}
+use lib.Seq.{ext-getD, getD-set-same, getD-set-other}
 use Rattle.base.specs.Bounds.{maxAtoms}
 use Rattle.base.specs.Lists.{all}
 use Rattle.base.proofs.MapLaws.{constant-at}
 use Rattle.format.specs.Book.{Literal, literalOf, literalsOf}
-use Rattle.models.specs.StableModels.{atomHolds}
+use Rattle.models.specs.StableModels.{atomHolds, complement}
 use Rattle.table.specs.Names.{literalNamed}
-use Rattle.table.specs.Rows.{headName, rowAt, alive}
+use Rattle.table.specs.Rows.{rowCount, headName, rowAt, alive}
 use Rattle.table.proofs.NameLaws.{name-low, name-high}
-use Rattle.filling.specs.Marks.{literalMarked, adds}
+use Rattle.filling.specs.Marks.{Room, literalMarked, adds}
 
 -- no mark is set yet
 pub blank : (n i : ℕ) → getD {A = Bool} (replicate n false) i false ≡ false
 blank n i = constant-at false n i
+
+-- the first f marks are taken away, then all of them
+pub cleared-more : (marks : List Bool) (f : ℕ) → f < length marks → ((i : ℕ) → i < f → getD marks i false ≡ false) → (i : ℕ) → i < f + 1 → getD (set marks f false) i false ≡ false
+cleared-more marks f h w i b = go (ℕ-discrete i f)
+  where
+    go : Dec (i ≡ f) → getD (set marks f false) i false ≡ false
+    go (yes e) = ap (λ (x : ℕ). getD (set marks f false) x false) e ∙ getD-set-same marks f false false h
+    go (no n) = getD-set-other marks f i false false n ∙ w i (omega arith)
+
+pub cleared-all : (marks : List Bool) (n f : ℕ) → length marks ≡ n → n ≤ f → ((i : ℕ) → i < f → getD marks i false ≡ false) → marks ≡ replicate n false
+cleared-all marks n f e h w = ext-getD false marks (replicate n false) (e ∙ sym (length-replicate {A = Bool} n false)) (λ i b. w i (omega arith) ∙ sym (blank n i))
 
 -- one array with a mark more
 pub set-only : (p : List Bool) (f g : ℕ) → f < length p → T (atomHolds (set p f true) g) → T (atomHolds p g) ⊎ (g ≡ f)
@@ -53,13 +64,13 @@ module _ (p q : List Bool) where
   marked-high h k = ap (literalMarked p q) (sym (name-high h k))
 
   -- the two bytes of a literal as one number: a fact past the arrays is not marked, and the sign says which array has the mark
-  module _ (size : (length p ≡ maxAtoms) × (length q ≡ maxAtoms)) (a b v : ℕ) (e : v ≡ a * 256 + b) where
-    past : (c : Bool) (f : ℕ) → maxAtoms ≤ f → false ≡ atomHolds (cond c q p) f
+  module _ (size : length q ≡ length p) (a b v : ℕ) (e : v ≡ a * 256 + b) where
+    past : (c : Bool) (f : ℕ) → length p ≤ f → false ≡ atomHolds (cond c q p) f
     unfolding atomHolds
-    past true f h = sym (List·getD-eq-default q false (omega (arith, size .1)))
-    past false f h = sym (List·getD-eq-default p false (omega (arith, size .0)))
+    past true f h = sym (List·getD-eq-default q false (omega (arith, size)))
+    past false f h = sym (List·getD-eq-default p false h)
 
-    pub marked-past : maxAtoms ≤ v % 32768 → false ≡ literalMarked p q (literalOf a b)
+    pub marked-past : length p ≤ v % 32768 → false ≡ literalMarked p q (literalOf a b)
     unfolding literalMarked literalOf
     marked-past h = rw (← e) (past (leb 32768 v) (v % 32768) h)
 
@@ -70,6 +81,25 @@ module _ (p q : List Bool) where
     pub plain-marked : v < 32768 → getD p (v % 32768) false ≡ literalMarked p q (literalOf a b)
     unfolding literalMarked literalOf atomHolds
     plain-marked h = rw (← e, lt-leb 32768 v h) refl
+
+-- the place of a name whose fact the arrays have
+pub fact-low : (h n : ℕ) → literalNamed h .atom < n → h < maxAtoms → h < n
+fact-low h n b k = subst (λ (l : Literal). l .atom < n) (name-low h k) b
+
+pub fact-high : (h n : ℕ) → literalNamed h .atom < n → maxAtoms ≤ h → h - maxAtoms < n
+fact-high h n b k = subst (λ (l : Literal). l .atom < n) (name-high h k) b
+
+-- a head, whose name is in a local, and its opposite
+module _ {rows : List ℕ} {p q : List Bool} (w : Room rows p q) where
+  pub head-within : (j h : ℕ) → j < rowCount rows → h ≡ headName rows j → literalNamed h .atom < length p
+  head-within j h b e = subst (λ (x : ℕ). literalNamed x .atom < length p) (sym e) (w .heads j b)
+
+  pub opposite-within : (j h o : ℕ) → j < rowCount rows → h ≡ headName rows j → literalNamed o ≡ complement (literalNamed h) → literalNamed o .atom < length p
+  unfolding complement
+  opposite-within j h o b e c = subst (λ (l : Literal). l .atom < length p) (sym c) (head-within j h b e)
+
+  pub room-same : (p′ q′ : List Bool) → length p′ ≡ length p → length q′ ≡ length q → Room rows p′ q′
+  room-same p′ q′ x y = record { same = y ∙ w .same ∙ sym x; few = omega (arith, x, w .few); heads = λ j b. omega (arith, x, w .heads j b) }
 
 -- the tests of a row, one after the other: its head, whether it is alive, its body
 module _ (p q : List Bool) (book rows rejects : List ℕ) (j h : ℕ) (e : h ≡ headName rows j) (r : Bool) (er : r ≡ literalMarked p q (literalNamed h)) where

@@ -5,19 +5,24 @@ use mathlib.Core.Bool.{Bool, true, false, not, _&&_, cond}
 use mathlib.Core.List.{List, [], _∷_, List·Memᴰ}
 use Prim.Native.Nat.{ℕ, _+_, _*_, _<_, _≤_}
 use lib.Dec.{T}
+use lib.ListN.{length}
 use Rattle.base.specs.Bounds.{maxAtoms, maxNames, maxRules}
 use Rattle.base.specs.Lists.{all}
 use Rattle.format.specs.Book.{Literal, Rule}
 use Rattle.models.specs.StableModels.{atomHolds, positive, negative, complement}
-use Rattle.table.specs.Rows.{rowCount, rowAt, rowsOf, alive}
+use Rattle.table.specs.Names.{literalNamed}
+use Rattle.table.specs.Rows.{rowCount, headName, rowAt, rowsOf, alive}
 
--- entries of the hints, which one filling leaves for the next: the literal that each row watches, then the trail
+-- entries of the hints: the literal that each row watches and the trail, which one filling leaves for the next, and the waiting lists,
+-- a link from each name, then one from each row, and the names just marked
 abbrev pub hintSize : ℕ
-hintSize = 2 * maxRules
+hintSize = 2 * maxRules + (maxNames + maxRules) + maxRules
 
--- links of the waiting lists: one from each name, then one from each row
-abbrev pub linkSize : ℕ
-linkSize = maxNames + maxRules
+-- two arrays of marks with a place for each fact: there are as many negations, and they have the heads of all rows
+pub record Room (rows : List ℕ) (p q : List Bool) : Type 0 where
+  pub same : length q ≡ length p
+  pub few : length p ≤ maxAtoms
+  pub heads : (j : ℕ) → j < rowCount rows → literalNamed (headName rows j) .atom < length p
 
 -- the mark of a literal: the first array is for facts, the second for negations
 unfoldable pub literalMarked : List Bool → List Bool → Literal → Bool

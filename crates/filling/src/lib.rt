@@ -1,16 +1,18 @@
 // Filling: two arrays of marks, reached facts and reached negations, from the negations of a start until nothing is added. It works on
 // the rows of the table and the masks of the rejected ones, so that the test of a candidate and the search share it.
-// `hints` is what one filling leaves for the next: the literal that each row watches, then the trail. Nothing rests on it but speed, so
-// contracts say of it only how long it is.
+// The arrays are lent, with a place for each fact of the book, so that no step grows with the bound on facts.
+// `hints` is what one filling leaves for the next, the literal that each row watches and the trail, and then the waiting lists. Nothing
+// rests on it but speed, so contracts say of it only how long it is.
 ghost use mathlib.Core.Path.{_≡_};
-ghost use Prim.Native.Nat.{_<_};
-ghost use lib.ListN.{length};
+ghost use mathlib.Core.Bool.{false};
+ghost use Prim.Native.Nat.{_<_, _≤_};
+ghost use lib.ListN.{length, replicate};
 ghost use Rattle.base.specs.Bounds.{maxAtoms, maxNames, maxRules};
 ghost use Rattle.base.specs.Lists.{all};
 ghost use Rattle.format.specs.Book.{literalOf, literalsOf};
 ghost use Rattle.table.specs.Names.{literalNamed};
 ghost use Rattle.table.specs.Rows.{rowCount, rowAt, RowsFit};
-ghost use Rattle.filling.specs.Marks.{hintSize, linkSize, literalMarked, adds, Grown, PassEnd, FilledOn, Fills};
+ghost use Rattle.filling.specs.Marks.{hintSize, Room, literalMarked, adds, Grown, PassEnd, FilledOn, Fills};
 use base::MAX_ATOMS;
 use base::MAX_BODY;
 use base::MAX_NAMES;
@@ -23,11 +25,15 @@ use table::row_alive;
 use table::row_body;
 use table::row_head;
 
-// Entries of the hints: the number of the literal that each row watches, then the trail, whose count stands at MAX_RULES.
-pub const HINTS: usize = 2 * MAX_RULES;
+// Where the links of the waiting lists start in the hints, one from each name, then one from each row: behind the number of the literal
+// that each row watches, and the trail, whose count stands at MAX_RULES.
+const LINKS: usize = 2 * MAX_RULES;
 
-// Links of the waiting lists: one from each name, then one from each row.
-const LINKS: usize = MAX_NAMES + MAX_RULES;
+// Where the stack of the names just marked starts: a row marks its head once.
+const NAMES: usize = LINKS + MAX_NAMES + MAX_RULES;
+
+// Entries of the hints.
+pub const HINTS: usize = NAMES + MAX_RULES;
 
 // Turns of the waiting lists, more than a lawful book takes: a row is taken up once, tried then and once more for each literal of its
 // body, since it waits once a literal; and its head is taken up once.
@@ -35,7 +41,7 @@ const TURNS: usize = (MAX_BODY + 4) * MAX_RULES;
 
 // The mark of a name.
 fn name_marked(positive: &[bool], negative: &[bool], h: usize) -> bool
-    requires { ⌜ (length (now positive) ≡ maxAtoms) × (length (now negative) ≡ maxAtoms) × (h < maxNames) ⌝ }
+    requires { ⌜ (length (now negative) ≡ length (now positive)) × (literalNamed h .atom < length (now positive)) ⌝ }
     ensures { λ r. ⌜ r ≡ literalMarked (now (positive .entry)) (now (negative .entry)) (literalNamed h) ⌝ }
 {
     if h < MAX_ATOMS {
@@ -44,15 +50,15 @@ fn name_marked(positive: &[bool], negative: &[bool], h: usize) -> bool
     negative[h - MAX_ATOMS]
 }
 
-// The mark of the literal of two bytes. Both arrays are read, so that the sign is no branch: bodies mix signs as they like. No fact
-// is MAX_ATOMS or more.
+// The mark of the literal of two bytes. Both arrays are read, so that the sign is no branch: bodies mix signs as they like. A
+// fact past them has no mark.
 fn literal_marked(positive: &[bool], negative: &[bool], a: u8, b: u8) -> bool
-    requires { ⌜ (length (now positive) ≡ maxAtoms) × (length (now negative) ≡ maxAtoms) ⌝ }
+    requires { ⌜ length (now negative) ≡ length (now positive) ⌝ }
     ensures { λ r. ⌜ r ≡ literalMarked (now (positive .entry)) (now (negative .entry)) (literalOf a b) ⌝ }
 {
     let v = literal_value(a, b);
     let f = v % 32768;
-    if MAX_ATOMS <= f {
+    if positive.len() <= f {
         return false;
     }
     let fact = positive[f];
@@ -65,7 +71,7 @@ fn literal_marked(positive: &[bool], negative: &[bool], a: u8, b: u8) -> bool
 
 // Whether every literal of a body's bytes is marked. The one numbered `watch` is tried first.
 fn body_marked(positive: &[bool], negative: &[bool], body: &[u8], watch: usize) -> bool
-    requires { ⌜ (length (now positive) ≡ maxAtoms) × (length (now negative) ≡ maxAtoms) ⌝ }
+    requires { ⌜ length (now negative) ≡ length (now positive) ⌝ }
     ensures { λ r. ⌜ r ≡ all (literalMarked (now (positive .entry)) (now (negative .entry))) (literalsOf (now (body .entry))) ⌝ }
 {
     if watch < body.len() / 2 {
@@ -101,7 +107,7 @@ fn row_marked(
     j: usize,
 ) -> bool
     requires { ⌜ RowsFit (now book) (now rows) ⌝ }
-    requires { ⌜ (length (now positive) ≡ maxAtoms) × (length (now negative) ≡ maxAtoms) ⌝ }
+    requires { ⌜ length (now negative) ≡ length (now positive) ⌝ }
     requires { ⌜ j < rowCount (now rows) ⌝ }
     ensures { λ r. ⌜ r ≡ all (literalMarked (now (positive .entry)) (now (negative .entry))) (rowAt (now (book .entry)) (now (rows .entry)) j .body) ⌝ }
 {
@@ -125,7 +131,7 @@ fn row_adds(
 ) -> bool
     requires { ⌜ RowsFit (now book) (now rows) ⌝ }
     requires { ⌜ length (now rejects) ≡ maxNames ⌝ }
-    requires { ⌜ (length (now positive) ≡ maxAtoms) × (length (now negative) ≡ maxAtoms) ⌝ }
+    requires { ⌜ Room (now rows) (now positive) (now negative) ⌝ }
     requires { ⌜ j < rowCount (now rows) ⌝ }
     ensures { λ r. ⌜ r ≡ adds (now (positive .entry)) (now (negative .entry)) (now (rejects .entry)) (rowAt (now (book .entry)) (now (rows .entry)) j) ⌝ }
 {
@@ -150,7 +156,7 @@ fn add_head(
 ) -> bool
     requires { ⌜ RowsFit (now book) (now rows) ⌝ }
     requires { ⌜ length (now rejects) ≡ maxNames ⌝ }
-    requires { ⌜ (length (now positive) ≡ maxAtoms) × (length (now negative) ≡ maxAtoms) ⌝ }
+    requires { ⌜ Room (now rows) (now positive) (now negative) ⌝ }
     requires { ⌜ j < rowCount (now rows) ⌝ }
     ensures { λ _. ⌜ Grown (now (book .entry)) (now (rows .entry)) (now (rejects .entry)) (now (positive .entry)) (now (negative .entry)) (now (positive .exit)) (now (negative .exit)) ⌝ }
 {
@@ -198,7 +204,7 @@ fn replay(
 )
     requires { ⌜ RowsFit (now book) (now rows) ⌝ }
     requires { ⌜ length (now rejects) ≡ maxNames ⌝ }
-    requires { ⌜ (length (now positive) ≡ maxAtoms) × (length (now negative) ≡ maxAtoms) ⌝ }
+    requires { ⌜ Room (now rows) (now positive) (now negative) ⌝ }
     requires { ⌜ length (now hints) ≡ hintSize ⌝ }
     ensures { λ _. ⌜ Grown (now (book .entry)) (now (rows .entry)) (now (rejects .entry)) (now (positive .entry)) (now (negative .entry)) (now (positive .exit)) (now (negative .exit)) ⌝ }
 {
@@ -228,7 +234,7 @@ fn in_turn(i: usize, count: usize) -> usize
 // The number of a literal of a body's bytes that is not marked, looked for from the one numbered `from` on and then from the first
 // on; past them all, if there is none.
 fn unmarked_from(positive: &[bool], negative: &[bool], body: &[u8], from: usize) -> usize
-    requires { ⌜ (length (now positive) ≡ maxAtoms) × (length (now negative) ≡ maxAtoms) ⌝ }
+    requires { ⌜ length (now negative) ≡ length (now positive) ⌝ }
 {
     let count = body.len() / 2;
     let mut next = from;
@@ -263,13 +269,12 @@ fn wait(
     rows: &[u16],
     positive: &[bool],
     negative: &[bool],
-    links: &mut [u16],
     hints: &mut [u16],
     j: usize,
 ) -> bool
     requires { ⌜ RowsFit (now book) (now rows) ⌝ }
-    requires { ⌜ (length (now positive) ≡ maxAtoms) × (length (now negative) ≡ maxAtoms) ⌝ }
-    requires { ⌜ (length (now links) ≡ linkSize) × (length (now hints) ≡ hintSize) ⌝ }
+    requires { ⌜ length (now negative) ≡ length (now positive) ⌝ }
+    requires { ⌜ length (now hints) ≡ hintSize ⌝ }
     requires { ⌜ (j < rowCount (now rows)) × (j < maxRules) ⌝ }
 {
     let body = row_body(book, rows, j);
@@ -279,8 +284,8 @@ fn wait(
     }
     let h = waiting_name(body[2 * i], body[2 * i + 1]);
     hints[j] = (i % 65536) as u16;
-    links[MAX_NAMES + j] = links[h];
-    links[h] = (MAX_NAMES + j) as u16;
+    hints[LINKS + MAX_NAMES + j] = hints[LINKS + h];
+    hints[LINKS + h] = (MAX_NAMES + j) as u16;
     true
 }
 
@@ -291,14 +296,13 @@ fn settle(
     rejects: &[u32],
     positive: &mut [bool],
     negative: &mut [bool],
-    links: &mut [u16],
     hints: &mut [u16],
     j: usize,
 ) -> bool
     requires { ⌜ RowsFit (now book) (now rows) ⌝ }
     requires { ⌜ length (now rejects) ≡ maxNames ⌝ }
-    requires { ⌜ (length (now positive) ≡ maxAtoms) × (length (now negative) ≡ maxAtoms) ⌝ }
-    requires { ⌜ (length (now links) ≡ linkSize) × (length (now hints) ≡ hintSize) ⌝ }
+    requires { ⌜ Room (now rows) (now positive) (now negative) ⌝ }
+    requires { ⌜ length (now hints) ≡ hintSize ⌝ }
     requires { ⌜ (j < rowCount (now rows)) × (j < maxRules) ⌝ }
     ensures { λ _. ⌜ Grown (now (book .entry)) (now (rows .entry)) (now (rejects .entry)) (now (positive .entry)) (now (negative .entry)) (now (positive .exit)) (now (negative .exit)) ⌝ }
 {
@@ -308,7 +312,7 @@ fn settle(
     if !row_alive(book, rows, rejects, j) {
         return false;
     }
-    if wait(book, rows, positive, negative, links, hints, j) {
+    if wait(book, rows, positive, negative, hints, j) {
         return false;
     }
     let added = add_head(book, rows, rejects, positive, negative, hints, j);
@@ -318,10 +322,23 @@ fn settle(
     added
 }
 
+// Empties the waiting lists of the first n facts and of their negations.
+fn clear_links(hints: &mut [u16], n: usize)
+    requires { ⌜ (length (now hints) ≡ hintSize) × (n ≤ maxAtoms) ⌝ }
+    ensures { λ _. ⌜ length (now (hints .exit)) ≡ hintSize ⌝ }
+{
+    let mut f = 0;
+    while f < n {
+        hints[LINKS + f] = 0;
+        hints[LINKS + MAX_ATOMS + f] = 0;
+        f += 1;
+    }
+}
+
 // Marks more of what follows, by waiting lists: a row waits for a literal of its body that is not marked, and is tried again when that
 // one is. Only the order of trying is new: what is added is tested on the spot, and the passes of a filling say when nothing is left.
-// `links` leads from a name to the first row that waits for it, and from a row, at MAX_NAMES and its number, to the next; 0 ends a list.
-// On the stack `names` are those just marked, `fresh` is the first row not tried yet, `node` the next row of the list in hand. No lawful
+// A link leads from a name to the first row that waits for it, and from a row, at MAX_NAMES and its number, to the next; 0 ends a list.
+// On the stack of names are those just marked, `fresh` is the first row not tried yet, `node` the next row of the list in hand. No lawful
 // book takes all the turns.
 fn propagate(
     book: &[u8],
@@ -333,7 +350,7 @@ fn propagate(
 )
     requires { ⌜ RowsFit (now book) (now rows) ⌝ }
     requires { ⌜ length (now rejects) ≡ maxNames ⌝ }
-    requires { ⌜ (length (now positive) ≡ maxAtoms) × (length (now negative) ≡ maxAtoms) ⌝ }
+    requires { ⌜ Room (now rows) (now positive) (now negative) ⌝ }
     requires { ⌜ length (now hints) ≡ hintSize ⌝ }
     ensures { λ _. ⌜ Grown (now (book .entry)) (now (rows .entry)) (now (rejects .entry)) (now (positive .entry)) (now (negative .entry)) (now (positive .exit)) (now (negative .exit)) ⌝ }
 {
@@ -344,8 +361,7 @@ fn propagate(
     if hints[MAX_RULES] == 0 {
         hints[MAX_RULES] = 1;
     }
-    let mut links: [u16; LINKS] = [0; LINKS];
-    let mut names: [u16; MAX_NAMES] = [0; MAX_NAMES];
+    clear_links(hints, positive.len());
     let mut top = 0;
     let mut fresh = 0;
     let mut node = 0;
@@ -357,25 +373,16 @@ fn propagate(
             if count <= j {
                 return;
             }
-            node = wide16(links[node]);
-            if settle(
-                book,
-                rows,
-                rejects,
-                positive,
-                negative,
-                &mut links,
-                hints,
-                j,
-            ) {
-                if top < MAX_NAMES {
-                    names[top] = row_head(rows, j) as u16;
+            node = wide16(hints[LINKS + node]);
+            if settle(book, rows, rejects, positive, negative, hints, j) {
+                if top < MAX_RULES {
+                    hints[NAMES + top] = row_head(rows, j) as u16;
                     top += 1;
                 }
             }
         } else if 0 < top {
             top -= 1;
-            node = wide16(links[wide16(names[top]) % MAX_NAMES]);
+            node = wide16(hints[LINKS + wide16(hints[NAMES + top]) % MAX_NAMES]);
         } else if fresh < count {
             node = MAX_NAMES + fresh;
             fresh += 1;
@@ -402,7 +409,7 @@ fn pass_over_rows(
 ) -> PassResult
     requires { ⌜ RowsFit (now book) (now rows) ⌝ }
     requires { ⌜ length (now rejects) ≡ maxNames ⌝ }
-    requires { ⌜ (length (now positive) ≡ maxAtoms) × (length (now negative) ≡ maxAtoms) ⌝ }
+    requires { ⌜ Room (now rows) (now positive) (now negative) ⌝ }
     requires { ⌜ length (now hints) ≡ hintSize ⌝ }
     ensures { λ r. ⌜ PassEnd (now (book .entry)) (now (rows .entry)) (now (rejects .entry)) (now (positive .entry)) (now (negative .entry)) (now (positive .exit)) (now (negative .exit)) (r .added) (r .conflict) ⌝ }
 {
@@ -434,71 +441,68 @@ fn pass_over_rows(
     }
 }
 
-// Reached facts, reached negations, and whether a fact was reached both ways.
-pub struct Marks {
-    pub positive: [bool; MAX_ATOMS],
-    pub negative: [bool; MAX_ATOMS],
-    pub conflict: bool,
-}
-
-// The two arrays, filled from the marks in hand until nothing is added, or until a fact is reached both ways. Passes over the rows say
-// when nothing is added. Few books need more than two; where the second still adds, waiting lists go on from there, and the next
-// filling begins with the trail.
+// The two arrays, filled from the marks in hand until nothing is added, or until a fact is reached both ways: says whether one was. Passes
+// over the rows say when nothing is added. Few books need more than two; where the second still adds, waiting lists go on from there, and
+// the next filling begins with the trail.
 pub fn fill_on(
     book: &[u8],
     rows: &[u16],
     rejects: &[u32],
-    facts: [bool; MAX_ATOMS],
-    negations: [bool; MAX_ATOMS],
+    positive: &mut [bool],
+    negative: &mut [bool],
     hints: &mut [u16],
-) -> Marks
+) -> bool
     requires { ⌜ RowsFit (now book) (now rows) ⌝ }
     requires { ⌜ length (now rejects) ≡ maxNames ⌝ }
+    requires { ⌜ Room (now rows) (now positive) (now negative) ⌝ }
     requires { ⌜ length (now hints) ≡ hintSize ⌝ }
-    ensures { λ r. ⌜ FilledOn (now (book .entry)) (now (rows .entry)) (now (rejects .entry)) facts negations (r .positive) (r .negative) (r .conflict) ⌝ }
+    ensures { λ r. ⌜ FilledOn (now (book .entry)) (now (rows .entry)) (now (rejects .entry)) (now (positive .entry)) (now (negative .entry)) (now (positive .exit)) (now (negative .exit)) r ⌝ }
 {
-    let mut positive = facts;
-    let mut negative = negations;
-    replay(book, rows, rejects, &mut positive, &mut negative, hints);
+    replay(book, rows, rejects, positive, negative, hints);
     let mut added = true;
     let mut first = true;
     while added {
-        let end = pass_over_rows(book, rows, rejects, &mut positive, &mut negative, hints);
+        let end = pass_over_rows(book, rows, rejects, positive, negative, hints);
         if end.conflict {
-            return Marks {
-                positive,
-                negative,
-                conflict: true,
-            };
+            return true;
         }
         added = end.added;
         if first {
             first = false;
         } else if added {
-            propagate(book, rows, rejects, &mut positive, &mut negative, hints);
+            propagate(book, rows, rejects, positive, negative, hints);
         }
     }
-    Marks {
-        positive,
-        negative,
-        conflict: false,
+    false
+}
+
+// Takes all marks away.
+pub fn clear_marks(marks: &mut [bool])
+    ensures { λ _. ⌜ now (marks .exit) ≡ replicate (length (now (marks .entry))) false ⌝ }
+{
+    let mut f = 0;
+    while f < marks.len() {
+        marks[f] = false;
+        f += 1;
     }
 }
 
 // The two arrays, reached facts and reached negations, filled until nothing is added, or until a fact is reached both ways: no fact is
-// reached at first, and of the negations those of the start.
+// reached at first, and of the negations those that are marked. Says whether one was reached both ways.
 pub fn fill(
     book: &[u8],
     rows: &[u16],
     rejects: &[u32],
-    start: [bool; MAX_ATOMS],
+    positive: &mut [bool],
+    negative: &mut [bool],
     hints: &mut [u16],
-) -> Marks
+) -> bool
     requires { ⌜ RowsFit (now book) (now rows) ⌝ }
     requires { ⌜ length (now rejects) ≡ maxNames ⌝ }
+    requires { ⌜ Room (now rows) (now positive) (now negative) ⌝ }
     requires { ⌜ length (now hints) ≡ hintSize ⌝ }
-    ensures { λ r. ⌜ Fills (now (book .entry)) (now (rows .entry)) (now (rejects .entry)) start (r .positive) (r .negative) (r .conflict) ⌝ }
+    ensures { λ r. ⌜ Fills (now (book .entry)) (now (rows .entry)) (now (rejects .entry)) (now (negative .entry)) (now (positive .exit)) (now (negative .exit)) r ⌝ }
 {
-    let positive = [false; MAX_ATOMS];
-    fill_on(book, rows, rejects, positive, start, hints)
+    clear_marks(positive);
+    fill_on(book, rows, rejects, positive, negative, hints)
 }

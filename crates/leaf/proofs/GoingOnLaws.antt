@@ -12,7 +12,6 @@ use native.Mathlib.Omega.{arith}
 use lib.Dec.{T}
 use lib.ListN.{length, getD, set, drop, drop-of-length-le}
 use lib.Seq.{drop-cons, getD-set-same, getD-set-other}
-use Rattle.base.specs.Bounds.{maxAtoms}
 use Rattle.base.specs.Lists.{any}
 use Rattle.base.proofs.Members.{and-left, and-right, and-both, any-at, any-of}
 use Rattle.models.specs.StableModels.{Interpretation, atomHolds, positive, negative, complement}
@@ -60,20 +59,20 @@ module _ (atoms : List ℕ) (start q : List Bool) where
   joined-start = record { sound = λ f t. inl t; keeps = λ f t. t; full = λ i h. absurd (omega arith) }
 
   module _ {joined : List Bool} {i : ℕ} (w : Joined atoms start q joined i) (f : ℕ) (e : f ≡ getD atoms i 0) where
-    pub joined-skip : getD start f false ≡ false → Joined atoms start q joined (i + 1)
+    pub joined-skip : atomHolds start f ≡ false → Joined atoms start q joined (i + 1)
     unfolding atomHolds
     joined-skip n = record { sound = w .sound; keeps = w .keeps; full = covered-more atoms start joined (w .full) f e (λ t. absurd (subst T n t)) }
 
-    pub joined-more : length joined ≡ maxAtoms → f < maxAtoms → getD start f false ≡ true → Joined atoms start q (set joined f true) (i + 1)
+    pub joined-more : f < length joined → atomHolds start f ≡ true → Joined atoms start q (set joined f true) (i + 1)
     unfolding atomHolds
-    joined-more k b y = record {
+    joined-more b y = record {
       sound = λ g t. from g (ℕ-discrete g f) t;
       keeps = λ g t. kept g (ℕ-discrete g f) (w .keeps g t);
       full = covered-more atoms start (set joined f true) (λ j h t. kept (getD atoms j 0) (ℕ-discrete (getD atoms j 0) f) (w .full j h t)) f e (λ t. here);
     }
       where
         here : T (getD (set joined f true) f false)
-        here = subst T (sym (getD-set-same joined f true false (omega arith))) tt
+        here = subst T (sym (getD-set-same joined f true false b)) tt
 
         kept : (g : ℕ) → Dec (g ≡ f) → T (getD joined g false) → T (getD (set joined f true) g false)
         kept g (yes u) t = subst (λ (x : ℕ). T (getD (set joined f true) x false)) (sym u) here

@@ -1,91 +1,51 @@
 -- The stable model of a setting, as the code finds it: the start that the setting gives, agreement with it, and that what is
--- filled is the only state that can be stable there. Used by denied, undisputed, covers, agrees, decide, model_from and model_at.
+-- filled is the only state that can be stable there. Used by assume, covers, agrees, copy_marks, decide, model_from and model_at.
 -- Assumes nothing.
 use mathlib.Core.Path.{_≡_, refl, sym, ap, subst, _∙_}
 use mathlib.Core.Logic.{_⊎_, inl, inr}
 use mathlib.Core.Bool.{Bool, true, false, not, _&&_, Bool·beq, true≢false}
 use mathlib.Core.List.{List, [], _∷_, List·Memᴰ·cases-cons, List·Memᴰ·not-nil}
-use Prim.Native.Nat.{ℕ, suc, _+_, _-_, _<_, _≤_}
+use Prim.Native.Nat.{ℕ, zero, suc, _+_, _<_, _≤_}
 use native.Mathlib.Decide.{decLt, ℕ-discrete}
 use native.Mathlib.Numerals.{add-one}
 use native.Mathlib.Omega.{arith}
 use borrow.Author.Tests.{not-true, not-false}
-use lib.Dec.{T}
-use lib.ListN.{length, getD, set, take, drop, length-set, replicate, length-replicate, drop-of-length-le}
-use lib.Seq.{drop-cons, ext-getD, getD-set-same, getD-set-other, getD-take, length-take-le}
+use lib.Dec.{T, eqb, eqb→eq, eqb-refl}
+use lib.ListN.{length, getD, set, drop, replicate, drop-of-length-le, List·getD-eq-default}
+use lib.Seq.{drop-cons, ext-getD, getD-set-same, getD-set-other}
 use Rattle.base.specs.Bounds.{maxAtoms}
-use Rattle.base.specs.Lists.{consIf, all, upTo}
-use Rattle.base.proofs.MapLaws.{constant-at}
-use Rattle.base.proofs.Members.{_∈_, all-at, filter-from}
+use Rattle.base.specs.Lists.{consIf, all, any, upTo}
+use Rattle.base.proofs.MapLaws.{map-length, map-at, constant-at}
+use Rattle.base.proofs.Members.{_∈_, and-left, and-right, or-right, all-at, all-of, any-at, any-of, filter-from, same-test}
 use Rattle.base.proofs.UpTo.{passed, upTo-lt}
+use Rattle.layers.specs.Masks.{bitOf}
+use Rattle.format.specs.Book.{Rule}
 use Rattle.models.specs.Program.{Program}
-use Rattle.models.specs.StableModels.{Interpretation, atomHolds, negative, stable, StableModel}
-use Rattle.models.specs.Branching.{branching, branchingAtoms}
+use Rattle.models.specs.StableModels.{Interpretation, atomHolds, negative, signed, holds, bodyHolds, overrides, stable, StableModel, WellFormed}
+use Rattle.models.specs.Branching.{canReject, branching, branchingAtoms}
+use Rattle.models.proofs.BranchingLaws.{branch}
 use Rattle.models.proofs.LeastLaws.{beq-same}
-use Rattle.table.specs.Rows.{rowCount}
+use Rattle.table.specs.Rows.{rowCount, rowAt, overridden}
+use Rattle.table.specs.Table.{Tabulates}
 use Rattle.table.specs.Tabled.{tabled}
+use Rattle.table.proofs.RowLaws.{row-in}
 use Rattle.table.proofs.TabledLaws.{tabled-free}
 use Rattle.filling.specs.Marks.{literalMarked, Conflict, Fills}
 use Rattle.tester.specs.Masks.{RejectedMasks}
+use Rattle.tester.proofs.TestLaws.{in-rule}
 use Rattle.leaf.specs.Contested.{Uncontested}
 use Rattle.leaf.proofs.UncontestedLaws.{fills-wider, uncontested-stable}
 use Rattle.leaf.proofs.SettingMarks.{SettingStart, no-conflict, marks-found}
+use Rattle.insertion.proofs.Once.{Once}
 use Rattle.insertion.proofs.SortedLaws.{getD-member}
+use Rattle.setting.specs.Setting.{settingOf}
 use Rattle.setting.specs.RuleMasks.{Low}
+use Rattle.setting.proofs.SettingLaws.{SetAt, stands-at, at-stands}
 use Rattle.leaf.specs.Found.{agreeOn, fits, atSetting}
-use Rattle.leaf.specs.Searchable.{Searchable, Denied, Undisputed, Covered, Early, OnlyState}
-use Rattle.leaf.proofs.FoundLaws.{branching-listed, branching-small, setting-is, setting-none}
+use Rattle.leaf.specs.Searchable.{Searchable, Choices, Denied, deniedOf, Undisputed, Covered, Early, OnlyState}
+use Rattle.leaf.proofs.FoundLaws.{branching-listed, branching-small, branching-once, setting-is, setting-none}
 
--- ---- the start
--- of the first i atoms, those that the setting denies
-pub record DeniedTo (atoms : List ℕ) (setting : Interpretation) (i : ℕ) (start : List Bool) : Type 0 where
-  pub inside : i ≤ length atoms
-  pub size : length start ≡ maxAtoms
-  pub sound : (f : ℕ) → T (atomHolds start f) → (k : ℕ) × (k < i) × (getD atoms k 0 ≡ f) × T (not (atomHolds setting f))
-  pub full : (k : ℕ) → k < i → T (not (atomHolds setting (getD atoms k 0))) → T (atomHolds start (getD atoms k 0))
-
-pub denied-start : (atoms : List ℕ) (setting : Interpretation) → DeniedTo atoms setting 0 (replicate {A = Bool} maxAtoms false)
-unfolding atomHolds
-denied-start atoms setting = record {
-  inside = omega arith;
-  size = length-replicate {A = Bool} maxAtoms false;
-  sound = λ f t. absurd (subst T (constant-at false maxAtoms f) t);
-  full = λ k h. absurd (omega arith);
-}
-
-pub denied-more : (atoms : List ℕ) (setting : Interpretation) (i : ℕ) (start : List Bool) (f : ℕ) → DeniedTo atoms setting i start → i < length atoms → f ≡ getD atoms i 0 → f < maxAtoms
-    → DeniedTo atoms setting (i + 1) (set start f (not (getD setting f false)))
-unfolding atomHolds
-denied-more atoms setting i start f w h e b = record {
-  inside = omega arith;
-  size = length-set start f (not (getD setting f false)) ∙ w .size;
-  sound = λ g t. from g t (ℕ-discrete g f);
-  full = λ k q t. into k q t (ℕ-discrete (getD atoms k 0) f) (decLt k i);
-}
-  where
-    new : List Bool
-    new = set start f (not (getD setting f false))
-
-    here : getD (set start f (not (getD setting f false))) f false ≡ not (getD setting f false)
-    here = getD-set-same start f (not (getD setting f false)) false (omega (arith, w .size))
-
-    from : (g : ℕ) → T (getD (set start f (not (getD setting f false))) g false) → Dec (g ≡ f) → (k : ℕ) × (k < i + 1) × (getD atoms k 0 ≡ g) × T (not (getD setting g false))
-    from g t (yes q) = (
-      i,
-      omega arith,
-      sym e ∙ sym q,
-      subst (λ (x : ℕ). T (not (getD setting x false))) (sym q) (subst T here (subst (λ (x : ℕ). T (getD (set start f (not (getD setting f false))) x false)) q t)),
-    )
-    from g t (no n) =
-        let r = w .sound g (subst T (getD-set-other start f g (not (getD setting f false)) false n) t) in
-        (r .0, omega (arith, r .1), r .2, r .3)
-
-    into : (k : ℕ) → k < i + 1 → T (not (getD setting (getD atoms k 0) false)) → Dec (getD atoms k 0 ≡ f) → Dec (k < i) → T (getD (set start f (not (getD setting f false))) (getD atoms k 0) false)
-    into k q t (yes u) d =
-        subst (λ (x : ℕ). T (getD (set start f (not (getD setting f false))) x false)) (sym u) (subst T (sym here) (subst (λ (x : ℕ). T (not (getD setting x false))) u t))
-    into k q t (no n) (yes p) = subst T (sym (getD-set-other start f (getD atoms k 0) (not (getD setting f false)) false n)) (w .full k p t)
-    into k q t (no n) (no p) = let z : k ≡ i = omega arith in absurd (n (ap (λ (x : ℕ). getD atoms x 0) z ∙ sym e))
-
+-- ---- the setting of a mask, and what it denies
 index-of : (l : List ℕ) (f : ℕ) → f ∈ l → (k : ℕ) × (k < length l) × (getD l k 0 ≡ f)
 index-of [] f m = absurd (List·Memᴰ·not-nil m)
 index-of (x ∷ l) f m = go (λ k. index-of l f k) (List·Memᴰ·cases-cons m)
@@ -94,38 +54,107 @@ index-of (x ∷ l) f m = go (λ k. index-of l f k) (List·Memᴰ·cases-cons m)
     go r (inl e) = (0, omega arith, sym e)
     go r (inr k) = let q = r k in (suc (q .0), omega (arith, q .1), q .2)
 
-pub denied-end : (atoms : List ℕ) (setting : Interpretation) (i : ℕ) (start : List Bool) → DeniedTo atoms setting i start → length atoms ≤ i → Denied atoms setting start
-denied-end atoms setting i start w h = record {
-  sound = λ f t. let r = w .sound f t in (subst (λ (x : ℕ). x ∈ atoms) (r .2) (getD-member atoms (r .0) 0 (omega (arith, r .1, w .inside))), r .3);
-  full = λ f k t.
-      let q = index-of atoms f k in
-      subst (λ (x : ℕ). T (atomHolds start x)) (q .2) (w .full (q .0) (omega (arith, q .1)) (subst (λ (x : ℕ). T (not (atomHolds setting x))) (sym (q .2)) t));
-}
+once-place : (xs : List ℕ) → Once xs → (i j : ℕ) → i < length xs → j < length xs → getD xs i 0 ≡ getD xs j 0 → i ≡ j
+once-place [] w i j h k e = absurd (omega arith)
+once-place (x ∷ xs) w zero zero h k e = refl
+once-place (x ∷ xs) w zero (suc j) h k e = absurd (w .0 (subst (λ (y : ℕ). y ∈ xs) (sym e) (getD-member xs j 0 (omega arith))))
+once-place (x ∷ xs) w (suc i) zero h k e = absurd (w .0 (subst (λ (y : ℕ). y ∈ xs) e (getD-member xs i 0 (omega arith))))
+once-place (x ∷ xs) w (suc i) (suc j) h k e = ap suc (once-place xs (w .1) i j (omega arith) (omega arith) e)
+
+module _ {atoms : List ℕ} {n : ℕ} (w : Choices atoms n) where
+  pub choices-low : Low atoms
+  choices-low i h = omega (arith, w .low i h, w .facts-few)
+
+  pub choices-same : (m : ℕ) → m ≡ n → Choices atoms m
+  choices-same m e = subst (Choices atoms) (sym e) w
+
+  listed-low : (f : ℕ) → f ∈ atoms → f < maxAtoms
+  listed-low f k = let q = index-of atoms f k in subst (λ (x : ℕ). x < maxAtoms) (q .2) (choices-low (q .0) (q .1))
+
+  module _ (standing : ℕ) where
+    abbrev O : Interpretation
+    O = settingOf atoms standing
+
+    denies : ℕ → Bool
+    denies f = any (eqb f) atoms && not (atomHolds O f)
+
+    denied-at : (f : ℕ) → f < maxAtoms → atomHolds (deniedOf atoms standing) f ≡ denies f
+    unfolding deniedOf atomHolds denies
+    denied-at f h = map-at (λ f. any (eqb f) atoms && not (atomHolds O f)) maxAtoms false f h
+
+    denied-listed : (f : ℕ) → f ∈ atoms → atomHolds (deniedOf atoms standing) f ≡ not (atomHolds O f)
+    unfolding denies
+    denied-listed f k = denied-at f (listed-low f k) ∙ ap (λ (c : Bool). c && not (atomHolds O f)) (passed (any (eqb f) atoms) (any-of (eqb f) k (eqb-refl f)))
+
+    denied-size : length (deniedOf atoms standing) ≡ maxAtoms
+    unfolding deniedOf
+    denied-size = map-length (λ f. any (eqb f) atoms && not (atomHolds O f)) maxAtoms
+
+    denied-from : (f : ℕ) → T (atomHolds (deniedOf atoms standing) f) → Dec (f < maxAtoms) → f ∈ atoms × T (not (atomHolds O f))
+    unfolding atomHolds denies
+    denied-from f t (no h) = absurd (subst T (List·getD-eq-default (deniedOf atoms standing) false (omega (arith, denied-size))) t)
+    denied-from f t (yes h) =
+        let u : T (any (eqb f) atoms && not (atomHolds O f)) = subst T (denied-at f h) t in
+        let v = any-at (eqb f) atoms (and-left (any (eqb f) atoms) (not (atomHolds O f)) u) in
+        (subst (λ (x : ℕ). x ∈ atoms) (sym (eqb→eq f (v .0) (v .2))) (v .1), and-right (any (eqb f) atoms) (not (atomHolds O f)) u)
+
+    pub denied-of : Denied atoms O (deniedOf atoms standing)
+    denied-of = record { sound = λ f t. denied-from f t (decLt f maxAtoms); full = λ f k t. subst T (sym (denied-listed f k)) t }
+
+    -- as the code reads it: bit i is in a local, and so is the i-th atom
+    module _ {i : ℕ} (h : i < length atoms) (f : ℕ) (e : f ≡ getD atoms i 0) (r : Bool) (er : r ≡ eqb (bitOf standing i) 1) where
+      pub stands-is : r ≡ atomHolds O f
+      unfolding atomHolds
+      stands-is =
+          er
+          ∙ same-test (eqb (bitOf standing i) 1) (getD O (getD atoms i 0) false)
+          (λ t. at-stands atoms standing (getD atoms i 0) (choices-low i h) (record { place = i; before = h; atom-is = refl; bit = eqb→eq (bitOf standing i) 1 t }))
+          (λ t.
+          let x : SetAt atoms standing (length atoms) (getD atoms i 0) = stands-at atoms standing (getD atoms i 0) (choices-low i h) t in
+          subst (λ (k : ℕ). T (eqb (bitOf standing k) 1)) (w .once (x .place) i (x .before) h (x .atom-is)) (subst (λ (y : ℕ). T (eqb y 1)) (sym (x .bit)) tt))
+          ∙ ap (λ (x : ℕ). getD O x false) (sym e)
+
+      pub denied-is : not r ≡ atomHolds (deniedOf atoms standing) f
+      denied-is = ap not stands-is ∙ sym (denied-listed f (subst (λ (x : ℕ). x ∈ atoms) (sym e) (getD-member atoms i 0 h)))
 
 -- ---- the undisputed part of the start, and what covers the rest
-pub undisputed-start : (rejects : List ℕ) (start : List Bool) → Undisputed rejects start (replicate {A = Bool} maxAtoms false)
+pub undisputed-start : (rejects : List ℕ) (start : List Bool) (n : ℕ) (blanks : List Bool) → blanks ≡ replicate {A = Bool} n false → Undisputed rejects start blanks
 unfolding atomHolds
-undisputed-start rejects start = record { among = λ f t. absurd (subst T (constant-at false maxAtoms f) t); clear = λ f t. absurd (subst T (constant-at false maxAtoms f) t) }
+undisputed-start rejects start n blanks e = record { among = λ f t. absurd (none f t); clear = λ f t. absurd (none f t) }
+  where
+    none : (f : ℕ) → T (getD blanks f false) → ⊥
+    none f t = subst T (ap (λ (l : List Bool). getD l f false) e ∙ constant-at false n f) t
 
-pub undisputed-more : {rejects : List ℕ} {start assumed : List Bool} → Undisputed rejects start assumed → length assumed ≡ maxAtoms → (f : ℕ) → f < maxAtoms → getD rejects f 0 ≡ 0 → Undisputed rejects start (set assumed f (getD start f false))
+pub undisputed-more : {rejects : List ℕ} {start assumed : List Bool} → Undisputed rejects start assumed → (f : ℕ) → f < length assumed → getD rejects f 0 ≡ 0 → (v : Bool) → v ≡ atomHolds start f → Undisputed rejects start (set assumed f v)
 unfolding atomHolds
-undisputed-more {rejects} {start} {assumed} w e f b z = record {
+undisputed-more {rejects} {start} {assumed} w f b z v e = record {
   among = λ g t. among-at g (ℕ-discrete g f) t;
   clear = λ g t. clear-at g (ℕ-discrete g f) t;
 }
   where
-    other : (g : ℕ) → (g ≡ f → ⊥) → T (getD (set assumed f (getD start f false)) g false) → T (getD assumed g false)
-    other g n t = subst T (getD-set-other assumed f g (getD start f false) false n) t
+    other : (g : ℕ) → (g ≡ f → ⊥) → T (getD (set assumed f v) g false) → T (getD assumed g false)
+    other g n t = subst T (getD-set-other assumed f g v false n) t
 
-    among-at : (g : ℕ) → Dec (g ≡ f) → T (getD (set assumed f (getD start f false)) g false) → T (getD start g false)
+    among-at : (g : ℕ) → Dec (g ≡ f) → T (getD (set assumed f v) g false) → T (getD start g false)
     among-at g (no n) t = w .among g (other g n t)
     among-at g (yes q) t =
         subst (λ (x : ℕ). T (getD start x false)) (sym q)
-        (subst T (getD-set-same assumed f (getD start f false) false (omega arith)) (subst (λ (x : ℕ). T (getD (set assumed f (getD start f false)) x false)) q t))
+        (subst T (getD-set-same assumed f v false b ∙ e) (subst (λ (x : ℕ). T (getD (set assumed f v) x false)) q t))
 
-    clear-at : (g : ℕ) → Dec (g ≡ f) → T (getD (set assumed f (getD start f false)) g false) → getD rejects g 0 ≡ 0
+    clear-at : (g : ℕ) → Dec (g ≡ f) → T (getD (set assumed f v) g false) → getD rejects g 0 ≡ 0
     clear-at g (no n) t = w .clear g (other g n t)
     clear-at g (yes q) t = ap (λ (x : ℕ). getD rejects x 0) q ∙ z
+
+-- ---- the marks that are kept
+pub copied-more : (marks kept : List Bool) (f : ℕ) → f < length kept → ((g : ℕ) → g < f → getD kept g false ≡ getD marks g false) → (g : ℕ) → g < f + 1 → getD (set kept f (getD marks f false)) g false ≡ getD marks g false
+copied-more marks kept f h w g b = go (ℕ-discrete g f)
+  where
+    go : Dec (g ≡ f) → getD (set kept f (getD marks f false)) g false ≡ getD marks g false
+    go (yes q) = ap (λ (x : ℕ). getD (set kept f (getD marks f false)) x false) q ∙ getD-set-same kept f (getD marks f false) false h ∙ ap (λ (x : ℕ). getD marks x false) (sym q)
+    go (no n) = getD-set-other kept f g (getD marks f false) false n ∙ w g (omega arith)
+
+pub copied-all : (marks kept : List Bool) (f : ℕ) → length kept ≡ length marks → length kept ≤ f → ((g : ℕ) → g < f → getD kept g false ≡ getD marks g false) → kept ≡ marks
+copied-all marks kept f e h w = ext-getD false kept marks e (λ g b. w g (omega arith))
 
 module _ (atoms : List ℕ) (start q : List Bool) where
   -- one atom on, where the atom is marked or not of the start
@@ -168,6 +197,25 @@ module _ (atoms : List ℕ) (m o : Interpretation) where
   unfolding agreeOn all
   agree-end i h w = sym (w ∙ ap (λ (l : List ℕ). agreeOn l m o) (drop-of-length-le atoms {i = i} h))
 
+-- ---- what is rejected: interpretations that agree on the branching atoms reject the same rules
+module _ {P : Program} {book rows : List ℕ} (lw : WellFormed P) (table : Tabulates P book rows) where
+  -- all atoms of a row that overrides a rule branch
+  body-same : (m o : Interpretation) → ((f : ℕ) → T (branching P f) → atomHolds m f ≡ atomHolds o f) → (j i : ℕ) → j < rowCount rows → bitOf (overridden rows j) i ≡ 1 → T (bodyHolds m (rowAt book rows j)) → T (bodyHolds o (rowAt book rows j))
+  unfolding bodyHolds holds canReject
+  body-same m o same j i b z h =
+      let t : Rule = rowAt book rows j in
+      let k : t ∈ P .rules = in-rule table t (row-in book rows j b) in
+      let v = table .exact j b i z in
+      let c : T (canReject P t) = any-of (overrides P t) (in-rule table (v .0) (v .1)) (v .3) in
+      all-of (holds o) (t .body) (λ l q. subst (λ (x : Bool). T (signed (l .negated) x)) (same (l .atom) (branch P lw t k l q (or-right (l .negated) (canReject P t) c))) (all-at (holds m) h q))
+
+  pub masks-same : {rejects : List ℕ} (m o : Interpretation) → ((f : ℕ) → T (branching P f) → atomHolds m f ≡ atomHolds o f) → RejectedMasks book rows o rejects (rowCount rows) → RejectedMasks book rows m rejects (rowCount rows)
+  masks-same m o same g = record {
+    size = g .size;
+    sound = λ h i e. let x = g .sound h i e in record { row = x .row; before = x .before; facing = x .facing; holds-in = body-same o m (λ f b. sym (same f b)) (x .row) i (x .before) (x .bit) (x .holds-in); bit = x .bit };
+    full = λ h i x b. g .full h i (record { row = x .row; before = x .before; facing = x .facing; holds-in = body-same m o same (x .row) i (x .before) (x .bit) (x .holds-in); bit = x .bit }) b;
+  }
+
 -- ---- the model
 module _ {book rows atoms : List ℕ} {n : ℕ} (w : Searchable book rows atoms n) (o : Interpretation) where
   abbrev P : Program
@@ -188,31 +236,28 @@ module _ {book rows atoms : List ℕ} {n : ℕ} (w : Searchable book rows atoms 
 
   -- a conflict
   pub model-conflict : {rejects : List ℕ} → RejectedMasks book rows o rejects (rowCount rows) → {start : List Bool} → Denied atoms o start → Conflict book rows rejects start
-      → (state : List Bool) → atSetting P atoms o ≡ consIf false (take n state) []
+      → (state : List Bool) → atSetting P atoms o ≡ consIf false state []
   unfolding consIf
   model-conflict g d x state =
       at-listed ∙ setting-none P (w .formed) o (λ m sm same. no-conflict (w .formed) (w .table) g (setting-start d) sm same x)
 
-  module _ {rejects : List ℕ} {p early : List Bool} (k : OnlyState book rows rejects atoms o p early) (l : length p ≡ maxAtoms) where
-    size : length (take n p) ≡ P .atoms
-    size = length-take-le n p (omega (arith, w .few)) ∙ w .size
+  module _ {rejects : List ℕ} {p early : List Bool} (k : OnlyState book rows rejects atoms o p early) (l : length p ≡ n) where
+    size : length p ≡ P .atoms
+    size = l ∙ w .size
 
-    kept : (f : ℕ) → f < P .atoms → getD (take n p) f false ≡ getD p f false
-    kept f h = getD-take n p f false (subst (λ (k : ℕ). f < k) (sym (w .size)) h)
-
-    only : (m : Interpretation) → StableModel P m → ((f : ℕ) → T (branching P f) → atomHolds m f ≡ atomHolds o f) → m ≡ take n p
+    only : (m : Interpretation) → StableModel P m → ((f : ℕ) → T (branching P f) → atomHolds m f ≡ atomHolds o f) → m ≡ p
     unfolding atomHolds
     only m sm same =
-        ext-getD false m (take n p) (sm .size ∙ sym size)
+        ext-getD false m p (sm .size ∙ sym size)
         (λ f h.
         let b : f < P .atoms = subst (λ (k : ℕ). f < k) (sm .size) h in
-        sym (kept f b ∙ marks-found (w .formed) (w .table) (k .masks) (setting-start (k .denied)) sm same (k .filled) refl f b))
+        sym (marks-found (w .formed) (w .table) (k .masks) (setting-start (k .denied)) sm same (k .filled) refl f b))
 
-    model-is : atSetting P atoms o ≡ consIf (stable P (take n p) && agreeOn atoms (take n p) o) (take n p) []
+    model-is : atSetting P atoms o ≡ consIf (stable P p && agreeOn atoms p o) p []
     unfolding fits
     model-is =
-        at-listed ∙ setting-is P (w .formed) o (take n p) size only
-        ∙ ap (λ (l : List ℕ). consIf (stable P (take n p) && agreeOn l (take n p) o) (take n p) []) (sym (w .listed))
+        at-listed ∙ setting-is P (w .formed) o p size only
+        ∙ ap (λ (l : List ℕ). consIf (stable P p && agreeOn l p o) p []) (sym (w .listed))
 
     and-false : (a : Bool) → (a && false) ≡ false
     and-false true = refl
@@ -222,44 +267,39 @@ module _ {book rows atoms : List ℕ} {n : ℕ} (w : Searchable book rows atoms 
     and-true true = refl
     and-true false = refl
 
-    -- the state as it is lent
-    cut : take (n - 0) (drop 0 p) ≡ take n p
-    cut = let z : n - 0 ≡ n = omega arith in ap (λ (k : ℕ). take k p) z
-
-    pub state-size : length (take (n - 0) (drop 0 p)) ≡ n
-    state-size = ap length cut ∙ length-take-le n p (omega (arith, w .few))
-
-    module _ (a : Bool) (ea : a ≡ agreeOn atoms (take (n - 0) (drop 0 p)) o) where
-      agreed : agreeOn atoms (take n p) o ≡ a
-      agreed = ap (λ (s : List Bool). agreeOn atoms s o) (sym cut) ∙ sym ea
-
-      pub model-apart : not a ≡ true → atSetting P atoms o ≡ consIf false (take n p) []
+    module _ (a : Bool) (ea : a ≡ agreeOn atoms p o) where
+      pub model-apart : not a ≡ true → atSetting P atoms o ≡ consIf false p []
       model-apart t =
-          model-is ∙ ap (λ (x : Bool). consIf (stable P (take n p) && x) (take n p) []) (agreed ∙ not-true a t)
-          ∙ ap (λ (x : Bool). consIf x (take n p) []) (and-false (stable P (take n p)))
+          model-is ∙ ap (λ (x : Bool). consIf (stable P p && x) p []) (sym ea ∙ not-true a t)
+          ∙ ap (λ (x : Bool). consIf x p []) (and-false (stable P p))
 
-      pub model-tested : not a ≡ false → (s : Bool) → s ≡ stable P (take (n - 0) (drop 0 p)) → atSetting P atoms o ≡ consIf s (take n p) []
+      pub model-tested : not a ≡ false → (s : Bool) → s ≡ stable P p → atSetting P atoms o ≡ consIf s p []
       model-tested t s es =
-          model-is ∙ ap (λ (x : Bool). consIf (stable P (take n p) && x) (take n p) []) (agreed ∙ not-false a t)
-          ∙ ap (λ (x : Bool). consIf x (take n p) []) (and-true (stable P (take n p)) ∙ ap (stable P) (sym cut) ∙ sym es)
+          model-is ∙ ap (λ (x : Bool). consIf (stable P p && x) p []) (sym ea ∙ not-false a t)
+          ∙ ap (λ (x : Bool). consIf x p []) (and-true (stable P p) ∙ sym es)
 
-      -- it is stable where no rejected rule is contested
-      pub model-uncontested : not a ≡ false → (r : Bool) → (r ≡ false → Uncontested book rows rejects (take (n - 0) (drop 0 p)) early (rowCount rows)) → not r ≡ true → atSetting P atoms o ≡ consIf true (take n p) []
-      unfolding agreeOn atomHolds
-      model-uncontested t r er tr = model-tested t true (sym (passed (stable P (take (n - 0) (drop 0 p))) (subst (λ (x : Interpretation). T (stable P x)) (sym cut) found)))
-        where
-          agrees-all : T (agreeOn atoms (take n p) o)
-          agrees-all = subst T (sym (agreed ∙ not-false a t)) tt
+      module _ (t : not a ≡ false) where
+        agrees-all : T (agreeOn atoms p o)
+        agrees-all = subst T (sym (sym ea ∙ not-false a t)) tt
 
-          same-on : (f : ℕ) → T (branching P f) → atomHolds (take n p) f ≡ atomHolds o f
-          same-on f b =
-              beq-same (atomHolds (take n p) f) (atomHolds o f)
-              (all-at (λ g. Bool·beq (atomHolds (take n p) g) (atomHolds o g)) agrees-all (subst (λ (l : List ℕ). f ∈ l) (sym (w .listed)) (branching-listed P (w .formed) f b)))
+        same-on : (f : ℕ) → T (branching P f) → atomHolds p f ≡ atomHolds o f
+        unfolding agreeOn
+        same-on f b =
+            beq-same (atomHolds p f) (atomHolds o f)
+            (all-at (λ g. Bool·beq (atomHolds p g) (atomHolds o g)) agrees-all (subst (λ (l : List ℕ). f ∈ l) (sym (w .listed)) (branching-listed P (w .formed) f b)))
 
-          found : T (stable P (take n p))
-          found =
-              uncontested-stable (w .formed) (w .table) (k .masks) (setting-start (k .denied)) (k .before .undisputed .among) (k .before .undisputed .clear) (k .before .follows) (k .filled) refl (take n p) size kept same-on
-              (subst (λ (x : Interpretation). Uncontested book rows rejects x early (rowCount rows)) cut (er (not-true r tr))) (tabled-free book rows n)
+        -- the same rules are rejected in it
+        pub model-masks : RejectedMasks book rows p rejects (rowCount rows)
+        model-masks = masks-same (w .formed) (w .table) p o same-on (k .masks)
+
+        -- it is stable where no rejected rule is contested
+        pub model-uncontested : (r : Bool) → (r ≡ false → Uncontested book rows rejects p early (rowCount rows)) → not r ≡ true → atSetting P atoms o ≡ consIf true p []
+        model-uncontested r er tr = model-tested t true (sym (passed (stable P p) found))
+          where
+            found : T (stable P p)
+            found =
+                uncontested-stable (w .formed) (w .table) (k .masks) (setting-start (k .denied)) (k .before .undisputed .among) (k .before .undisputed .clear) (k .before .follows) (k .filled) refl p size (λ f h. refl) same-on
+                (er (not-true r tr)) (tabled-free book rows n)
 
 -- ---- the filling from the undisputed part of the start
 module _ {book rows rejects : List ℕ} {start assumed : List Bool} (u : Undisputed rejects start assumed) {p q : List Bool} {c : Bool} (filled : Fills book rows rejects assumed p q c) where
@@ -293,6 +333,16 @@ filled-candidate {book} {rows} {rejects} {atoms} {o} {start} {early} {p} {q} {c}
   before = b;
   negations = q;
   filled = subst (λ (x : Bool). Fills book rows rejects start p q x) e filled;
+}
+
+-- the branching facts, as the functions of a setting ask for them
+pub choices : {book rows atoms : List ℕ} {n : ℕ} → Searchable book rows atoms n → (m : ℕ) → m ≡ n → Choices atoms m
+unfolding branchingAtoms
+choices {book} {rows} {atoms} {n} w m e = record {
+  few = w .atoms-few;
+  low = λ i h. omega (arith, e, w .size, branching-small _ (w .formed) (getD atoms i 0) (subst (λ (fs : List ℕ). getD atoms i 0 ∈ fs) (w .listed) (getD-member atoms i 0 h)));
+  once = once-place atoms (subst Once (sym (w .listed)) (branching-once (tabled book rows n) (w .formed)));
+  facts-few = omega (arith, e, w .few);
 }
 
 -- every branching fact is one that there may be

@@ -3,12 +3,12 @@
 use mathlib.Core.Path.{_≡_}
 use mathlib.Core.Logic.{_⊎_}
 use mathlib.Core.Bool.{Bool, false, not, _&&_}
-use mathlib.Core.List.{List, List·Memᴰ}
+use mathlib.Core.List.{List, map, List·Memᴰ}
 use Prim.Native.Nat.{ℕ, _<_, _≤_}
-use lib.Dec.{T}
+use lib.Dec.{T, eqb}
 use lib.ListN.{length, getD}
 use Rattle.base.specs.Bounds.{maxAtoms, maxRules, maxBranching}
-use Rattle.base.specs.Lists.{any}
+use Rattle.base.specs.Lists.{any, upTo}
 use Rattle.format.specs.Book.{Literal}
 use Rattle.models.specs.StableModels.{Interpretation, atomHolds, negative, WellFormed}
 use Rattle.models.specs.Branching.{branchingAtoms}
@@ -17,6 +17,7 @@ use Rattle.table.specs.Table.{Tabulates}
 use Rattle.table.specs.Tabled.{tabled}
 use Rattle.filling.specs.Marks.{literalMarked, FollowsFrom, Apart, Fills}
 use Rattle.tester.specs.Masks.{RejectedMasks}
+use Rattle.setting.specs.Setting.{settingOf}
 
 pub record Searchable (book rows atoms : List ℕ) (n : ℕ) : Type 0 where
   pub formed : WellFormed (tabled book rows n)
@@ -28,10 +29,21 @@ pub record Searchable (book rows atoms : List ℕ) (n : ℕ) : Type 0 where
   pub some : 0 < n
   pub few : n ≤ maxAtoms
 
+-- the branching atoms as a search has them: few, each a fact below n, and each once
+pub record Choices (atoms : List ℕ) (n : ℕ) : Type 0 where
+  pub few : length atoms ≤ maxBranching
+  pub low : (i : ℕ) → i < length atoms → getD atoms i 0 < n
+  pub once : (i j : ℕ) → i < length atoms → j < length atoms → getD atoms i 0 ≡ getD atoms j 0 → i ≡ j
+  pub facts-few : n ≤ maxAtoms
+
 -- of these atoms, those that the setting denies
 pub record Denied (atoms : List ℕ) (setting : Interpretation) (start : List Bool) : Type 0 where
   pub sound : (f : ℕ) → T (atomHolds start f) → List·Memᴰ f atoms × T (not (atomHolds setting f))
   pub full : (f : ℕ) → List·Memᴰ f atoms → T (not (atomHolds setting f)) → T (atomHolds start f)
+
+-- the same, as marks, of the setting of a mask
+unfoldable pub deniedOf : List ℕ → ℕ → List Bool
+deniedOf atoms standing = map (λ f. any (eqb f) atoms && not (atomHolds (settingOf atoms standing) f)) (upTo maxAtoms)
 
 -- of the start, those of whose facts no rule is rejected
 pub record Undisputed (rejects : List ℕ) (start assumed : List Bool) : Type 0 where

@@ -3,20 +3,23 @@
 ghost use mathlib.Core.Path.{_≡_};
 ghost use mathlib.Core.Bool.{true, false};
 ghost use mathlib.Core.List.{[]};
-ghost use lib.ListN.{length, take};
+ghost use Prim.Native.Nat.{_<_};
+ghost use lib.Dec.{eqb};
+ghost use lib.ListN.{length};
 ghost use Rattle.filling.specs.Marks.{hintSize};
-ghost use Rattle.base.specs.Bounds.{maxNames};
+ghost use Rattle.base.specs.Bounds.{maxNames, maxBranching};
 ghost use Rattle.base.specs.Lists.{consIf};
+ghost use Rattle.layers.specs.Masks.{bitOf};
 ghost use Rattle.table.specs.Names.{literalNamed};
 ghost use Rattle.table.specs.Rows.{rowCount, RowsFit};
 ghost use Rattle.table.specs.Tabled.{tabled};
 ghost use Rattle.tester.specs.Masks.{RejectedMasks};
-ghost use Rattle.setting.specs.RuleMasks.{Low};
+ghost use Rattle.setting.specs.Setting.{settingOf};
 ghost use Rattle.leaf.specs.Found.{agreeOn, atSetting};
-ghost use Rattle.leaf.specs.Searchable.{Searchable, Denied, Undisputed, Covered, reachesDenied, Joined, Begun, Early, OnlyState};
+ghost use Rattle.leaf.specs.Searchable.{Searchable, Choices, deniedOf, Undisputed, Covered, reachesDenied, Joined, Begun, Early, OnlyState};
 ghost use Rattle.leaf.specs.Contested.{Answered, Uncontested};
 use base::MAX_ATOMS;
-use filling::Marks;
+use filling::clear_marks;
 use filling::fill;
 use filling::fill_on;
 use setting::atom_at;
@@ -25,56 +28,42 @@ use table::atom_holds;
 use table::row_alive;
 use table::row_head;
 use table::row_holds;
-use tester::is_stable;
+use tester::settles;
 
-// What a setting comes to: a stable model, or none.
-pub struct Found {
-    pub ok: bool,
-    pub state: [bool; MAX_ATOMS],
-}
-
-// The branching facts that the setting denies.
-fn denied(atoms: &[u32], setting: [bool; MAX_ATOMS]) -> [bool; MAX_ATOMS]
-    requires { ⌜ Low (now atoms) ⌝ }
-    ensures { λ r. ⌜ Denied (now (atoms .entry)) setting r ⌝ }
+// Whether the i-th branching fact stands at the setting of a mask.
+fn stands(standing: u32, i: usize) -> bool
+    requires { ⌜ i < maxBranching ⌝ }
+    ensures { λ r. ⌜ r ≡ eqb (bitOf standing i) 1 ⌝ }
 {
-    let mut start = [false; MAX_ATOMS];
-    let mut i = 0;
-    while i < atoms.len() {
-        let f = atom_at(atoms, i);
-        start[f] = !setting[f];
-        i += 1;
-    }
-    start
+    (standing >> (i as u32)) & 1 == 1
 }
 
-// Of the negations of a start, those of whose facts no rule is rejected: they are defaults in whatever the filling leads to.
-fn undisputed(atoms: &[u32], start: [bool; MAX_ATOMS], rejects: &[u32]) -> [bool; MAX_ATOMS]
+// Marks, of the facts that the setting denies, those of which no rule is rejected: they are defaults in whatever the filling leads to.
+fn assume(atoms: &[u32], standing: u32, rejects: &[u32], negative: &mut [bool])
     requires { ⌜ length (now rejects) ≡ maxNames ⌝ }
-    requires { ⌜ Low (now atoms) ⌝ }
-    ensures { λ r. ⌜ Undisputed (now (rejects .entry)) start r ⌝ }
+    requires { ⌜ Choices (now atoms) (length (now negative)) ⌝ }
+    ensures { λ _. ⌜ Undisputed (now (rejects .entry)) (deniedOf (now (atoms .entry)) standing) (now (negative .exit)) ⌝ }
 {
-    let mut assumed = [false; MAX_ATOMS];
+    clear_marks(negative);
     let mut i = 0;
     while i < atoms.len() {
         let f = atom_at(atoms, i);
         if rejects[f] == 0 {
-            assumed[f] = start[f];
+            negative[f] = !stands(standing, i);
         }
         i += 1;
     }
-    assumed
 }
 
-// Whether all branching facts of the start are marked.
-fn covers(atoms: &[u32], start: &[bool], negative: &[bool]) -> bool
-    requires { ⌜ Low (now atoms) ⌝ }
-    ensures { λ r. ⌜ (r ≡ true → Covered (now (atoms .entry)) (now (start .entry)) (now (negative .entry)) (length (now (atoms .entry)))) ⌝ }
+// Whether all facts that the setting denies are marked.
+fn covers(atoms: &[u32], standing: u32, negative: &[bool]) -> bool
+    requires { ⌜ Choices (now atoms) (length (now negative)) ⌝ }
+    ensures { λ r. ⌜ (r ≡ true → Covered (now (atoms .entry)) (deniedOf (now (atoms .entry)) standing) (now (negative .entry)) (length (now (atoms .entry)))) ⌝ }
 {
     let mut i = 0;
     while i < atoms.len() {
         let f = atom_at(atoms, i);
-        if atom_holds(start, f) {
+        if !stands(standing, i) {
             if !atom_holds(negative, f) {
                 return false;
             }
@@ -84,15 +73,15 @@ fn covers(atoms: &[u32], start: &[bool], negative: &[bool]) -> bool
     true
 }
 
-// Whether a branching fact of the start is reached.
-fn reaches_denied(atoms: &[u32], start: &[bool], positive: &[bool]) -> bool
-    requires { ⌜ Low (now atoms) ⌝ }
-    ensures { λ r. ⌜ r ≡ reachesDenied (now (atoms .entry)) (now (start .entry)) (now (positive .entry)) ⌝ }
+// Whether a fact that the setting denies is reached.
+fn reaches_denied(atoms: &[u32], standing: u32, positive: &[bool]) -> bool
+    requires { ⌜ Choices (now atoms) (length (now positive)) ⌝ }
+    ensures { λ r. ⌜ r ≡ reachesDenied (now (atoms .entry)) (deniedOf (now (atoms .entry)) standing) (now (positive .entry)) ⌝ }
 {
     let mut i = 0;
     while i < atoms.len() {
         let f = atom_at(atoms, i);
-        if atom_holds(start, f) {
+        if !stands(standing, i) {
             if atom_holds(positive, f) {
                 return true;
             }
@@ -102,37 +91,47 @@ fn reaches_denied(atoms: &[u32], start: &[bool], positive: &[bool]) -> bool
     false
 }
 
-// The reached negations, and those of the start.
-fn join(atoms: &[u32], start: [bool; MAX_ATOMS], negative: [bool; MAX_ATOMS]) -> [bool; MAX_ATOMS]
-    requires { ⌜ Low (now atoms) ⌝ }
-    ensures { λ r. ⌜ Joined (now (atoms .entry)) start negative r (length (now (atoms .entry))) ⌝ }
+// Marks the facts that the setting denies besides the reached negations.
+fn join(atoms: &[u32], standing: u32, negative: &mut [bool])
+    requires { ⌜ Choices (now atoms) (length (now negative)) ⌝ }
+    ensures { λ _. ⌜ Joined (now (atoms .entry)) (deniedOf (now (atoms .entry)) standing) (now (negative .entry)) (now (negative .exit)) (length (now (atoms .entry))) ⌝ }
 {
-    let mut joined = negative;
     let mut i = 0;
     while i < atoms.len() {
         let f = atom_at(atoms, i);
-        if start[f] {
-            joined[f] = true;
+        if !stands(standing, i) {
+            negative[f] = true;
         }
         i += 1;
     }
-    joined
 }
 
 // Whether a state gives the branching facts as the setting does.
-fn agrees(atoms: &[u32], state: &[bool], setting: &[bool]) -> bool
-    requires { ⌜ Low (now atoms) ⌝ }
-    ensures { λ r. ⌜ r ≡ agreeOn (now (atoms .entry)) (now (state .entry)) (now (setting .entry)) ⌝ }
+fn agrees(atoms: &[u32], state: &[bool], standing: u32) -> bool
+    requires { ⌜ Choices (now atoms) (length (now state)) ⌝ }
+    ensures { λ r. ⌜ r ≡ agreeOn (now (atoms .entry)) (now (state .entry)) (settingOf (now (atoms .entry)) standing) ⌝ }
 {
     let mut i = 0;
     while i < atoms.len() {
         let f = atom_at(atoms, i);
-        if atom_holds(state, f) != atom_holds(setting, f) {
+        if atom_holds(state, f) != stands(standing, i) {
             return false;
         }
         i += 1;
     }
     true
+}
+
+// Keeps the marks of one array in another.
+fn copy_marks(marks: &[bool], kept: &mut [bool])
+    requires { ⌜ length (now kept) ≡ length (now marks) ⌝ }
+    ensures { λ _. ⌜ now (kept .exit) ≡ now (marks .entry) ⌝ }
+{
+    let mut f = 0;
+    while f < kept.len() {
+        kept[f] = marks[f];
+        f += 1;
+    }
 }
 
 // Whether a name is an atom that does not hold and whose negation is not marked.
@@ -170,34 +169,32 @@ pub fn contested(book: &[u8], rows: &[u16], rejects: &[u32], m: &[bool], negativ
     false
 }
 
-// The stable model of a setting, if the only state that can be one is. It has to agree with the setting, or it would be found under two
-// settings. Then it needs no further test where no rejected rule is contested.
+// Whether the only state that can be stable at a setting is. It has to agree with the setting, or it would be found under two settings.
+// Then it needs no further test where no rejected rule is contested. The marks that were reached early are read before they are written.
 fn decide(
     book: &[u8],
     rows: &[u16],
     rejects: &[u32],
     atoms: &[u32],
     n: usize,
-    setting: [bool; MAX_ATOMS],
-    state: [bool; MAX_ATOMS],
-    early: &[bool],
+    standing: u32,
+    state: &[bool],
+    early: &mut [bool],
+    other: &mut [bool],
     hints: &mut [u16],
-) -> Found
+) -> bool
     requires { ⌜ Searchable (now book) (now rows) (now atoms) n ⌝ }
-    requires { ⌜ OnlyState (now book) (now rows) (now rejects) (now atoms) setting state (now early) ⌝ }
-    requires { ⌜ length (now hints) ≡ hintSize ⌝ }
-    ensures { λ r. ⌜ atSetting (tabled (now (book .entry)) (now (rows .entry)) n) (now (atoms .entry)) setting ≡ consIf (r .ok) (take n (r .state)) [] ⌝ }
+    requires { ⌜ OnlyState (now book) (now rows) (now rejects) (now atoms) (settingOf (now atoms) standing) (now state) (now early) ⌝ }
+    requires { ⌜ (length (now state) ≡ n) × (length (now early) ≡ n) × (length (now other) ≡ n) × (length (now hints) ≡ hintSize) ⌝ }
+    ensures { λ r. ⌜ atSetting (tabled (now (book .entry)) (now (rows .entry)) n) (now (atoms .entry)) (settingOf (now (atoms .entry)) standing) ≡ consIf r (now (state .entry)) [] ⌝ }
 {
-    if !agrees(atoms, &state[0..n], &setting) {
-        return Found { ok: false, state };
+    if !agrees(atoms, state, standing) {
+        return false;
     }
-    if !contested(book, rows, rejects, &state[0..n], early) {
-        return Found { ok: true, state };
+    if !contested(book, rows, rejects, state, early) {
+        return true;
     }
-    Found {
-        ok: is_stable(book, rows, &state[0..n], n, hints),
-        state,
-    }
+    settles(book, rows, rejects, state, n, early, other, hints)
 }
 
 // The stable model of a setting, if there is one, from all that the setting denies. What was reached early follows from all of it too,
@@ -209,32 +206,26 @@ fn model_from(
     rejects: &[u32],
     atoms: &[u32],
     n: usize,
-    setting: [bool; MAX_ATOMS],
-    start: [bool; MAX_ATOMS],
-    marks: Marks,
+    standing: u32,
+    positive: &mut [bool],
+    negative: &mut [bool],
+    early: &mut [bool],
     hints: &mut [u16],
-) -> Found
+) -> bool
     requires { ⌜ Searchable (now book) (now rows) (now atoms) n ⌝ }
-    requires { ⌜ RejectedMasks (now book) (now rows) setting (now rejects) (rowCount (now rows)) ⌝ }
-    requires { ⌜ Denied (now atoms) setting start ⌝ }
-    requires { ⌜ Begun (now book) (now rows) (now rejects) start (marks .positive) (marks .negative) ⌝ }
-    requires { ⌜ Early (now book) (now rows) (now rejects) start (marks .negative) ⌝ }
-    requires { ⌜ length (now hints) ≡ hintSize ⌝ }
-    ensures { λ r. ⌜ atSetting (tabled (now (book .entry)) (now (rows .entry)) n) (now (atoms .entry)) setting ≡ consIf (r .ok) (take n (r .state)) [] ⌝ }
+    requires { ⌜ RejectedMasks (now book) (now rows) (settingOf (now atoms) standing) (now rejects) (rowCount (now rows)) ⌝ }
+    requires { ⌜ Begun (now book) (now rows) (now rejects) (deniedOf (now atoms) standing) (now positive) (now negative) ⌝ }
+    requires { ⌜ Early (now book) (now rows) (now rejects) (deniedOf (now atoms) standing) (now negative) ⌝ }
+    requires { ⌜ (length (now positive) ≡ n) × (length (now negative) ≡ n) × (length (now early) ≡ n) × (length (now hints) ≡ hintSize) ⌝ }
+    ensures { λ r. ⌜ atSetting (tabled (now (book .entry)) (now (rows .entry)) n) (now (atoms .entry)) (settingOf (now (atoms .entry)) standing) ≡ consIf r (now (positive .exit)) [] ⌝ }
 {
-    let positive = marks.positive;
-    let negative = marks.negative;
-    if reaches_denied(atoms, &start, &positive) {
-        return Found {
-            ok: false,
-            state: positive,
-        };
+    if reaches_denied(atoms, standing, positive) {
+        return false;
     }
-    let joined = join(atoms, start, negative);
-    let filled = fill_on(book, rows, rejects, positive, joined, hints);
-    let state = filled.positive;
-    if filled.conflict {
-        return Found { ok: false, state };
+    copy_marks(negative, early);
+    join(atoms, standing, negative);
+    if fill_on(book, rows, rejects, positive, negative, hints) {
+        return false;
     }
     decide(
         book,
@@ -242,53 +233,62 @@ fn model_from(
         rejects,
         atoms,
         n,
-        setting,
-        state,
-        &negative,
+        standing,
+        positive,
+        early,
+        negative,
         hints,
     )
 }
 
-// The stable model of a setting, if there is one. Filling starts from the undisputed part of what the setting denies: the negations
-// that are reached early, before anything disputed is assumed. Where they come to be all that the setting denies, it need not go on.
+// Whether there is a stable model at the setting of a mask, which then stands in the first of the three lent arrays. Filling starts from
+// the undisputed part of what the setting denies: the negations that are reached early, before anything disputed is assumed. Where they
+// come to be all that the setting denies, it need not go on.
 pub fn model_at(
     book: &[u8],
     rows: &[u16],
     rejects: &[u32],
     atoms: &[u32],
     n: usize,
-    setting: [bool; MAX_ATOMS],
+    standing: u32,
+    positive: &mut [bool],
+    negative: &mut [bool],
+    early: &mut [bool],
     hints: &mut [u16],
-) -> Found
+) -> bool
     requires { ⌜ Searchable (now book) (now rows) (now atoms) n ⌝ }
-    requires { ⌜ RejectedMasks (now book) (now rows) setting (now rejects) (rowCount (now rows)) ⌝ }
-    requires { ⌜ length (now hints) ≡ hintSize ⌝ }
-    ensures { λ r. ⌜ atSetting (tabled (now (book .entry)) (now (rows .entry)) n) (now (atoms .entry)) setting ≡ consIf (r .ok) (take n (r .state)) [] ⌝ }
+    requires { ⌜ RejectedMasks (now book) (now rows) (settingOf (now atoms) standing) (now rejects) (rowCount (now rows)) ⌝ }
+    requires { ⌜ (length (now positive) ≡ n) × (length (now negative) ≡ n) × (length (now early) ≡ n) × (length (now hints) ≡ hintSize) ⌝ }
+    ensures { λ r. ⌜ atSetting (tabled (now (book .entry)) (now (rows .entry)) n) (now (atoms .entry)) (settingOf (now (atoms .entry)) standing) ≡ consIf r (now (positive .exit)) [] ⌝ }
 {
-    let start = denied(atoms, setting);
-    let marks = fill(
-        book,
-        rows,
-        rejects,
-        undisputed(atoms, start, rejects),
-        hints,
-    );
-    let state = marks.positive;
-    if marks.conflict {
-        return Found { ok: false, state };
+    assume(atoms, standing, rejects, negative);
+    if fill(book, rows, rejects, positive, negative, hints) {
+        return false;
     }
-    if covers(atoms, &start, &marks.negative) {
+    if covers(atoms, standing, negative) {
         return decide(
             book,
             rows,
             rejects,
             atoms,
             n,
-            setting,
-            state,
-            &marks.negative,
+            standing,
+            positive,
+            negative,
+            early,
             hints,
         );
     }
-    model_from(book, rows, rejects, atoms, n, setting, start, marks, hints)
+    model_from(
+        book,
+        rows,
+        rejects,
+        atoms,
+        n,
+        standing,
+        positive,
+        negative,
+        early,
+        hints,
+    )
 }

@@ -21,6 +21,7 @@ ghost use Rattle.passes.specs.Tallied.{Passed, Tallied, Bounds};
 use accepted::atom_count;
 use accepted::prepare;
 use accepted::prepare_bans;
+use base::MAX_ATOMS;
 use base::MAX_BRANCHING;
 use base::MAX_LAYERS;
 use base::MAX_NAMES;
@@ -129,7 +130,11 @@ fn pass(
     ensures { λ r. ⌜ Passed (plannedProgram (now (book .entry)) (now (rows .entry)) (now (plan .entry)) sizes) (planAtoms (now (plan .entry)) (sizes .branching)) (sizes .n) goal (now (asked .entry)) (now (part .entry)) r (now (part .exit)) ⌝ }
 {
     let mut rejects: [u32; MAX_NAMES] = [0; MAX_NAMES];
+    let mut positive = [false; MAX_ATOMS];
+    let mut negative = [false; MAX_ATOMS];
+    let mut early = [false; MAX_ATOMS];
     let mut hints: [u16; HINTS] = [0; HINTS];
+    let n = sizes.n;
     let v = Visit {
         goal,
         count: 0,
@@ -147,6 +152,9 @@ fn pass(
         sizes,
         turn,
         &mut rejects,
+        &mut positive[0..n],
+        &mut negative[0..n],
+        &mut early[0..n],
         &mut hints,
         asked,
         part,

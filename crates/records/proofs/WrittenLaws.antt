@@ -20,14 +20,9 @@ unfolding recordSize
 records-fit n k w h b e = let q : w ≤ maxRecord = omega arith in mul-le-mul b q
 
 -- a state's record as the code makes it
-pub state-record : (s : Interpretation) (n w : ℕ) (r : List ℕ) → length s ≡ maxAtoms → n ≤ maxAtoms → w ≡ recordSize n
-    → take (recordSize (length (take (n - 0) (drop 0 s)))) r ≡ recordOf (length (take (n - 0) (drop 0 s))) (take (n - 0) (drop 0 s))
-    → take (w - 0) (drop 0 r) ≡ recordOf n (take n s)
-state-record s n w r l h q e =
-    let z : n - 0 ≡ n = omega arith in
-    let y : w - 0 ≡ recordSize n = omega arith in
-    let k : length (take n s) ≡ n = length-take-le n s (omega arith) in
-    rw y (rw (z, k) at e)
+pub state-record : (s : Interpretation) (n w : ℕ) (r : List ℕ) → length s ≡ n → w ≡ recordSize n → take (recordSize (length s)) r ≡ recordOf (length s) s
+    → take (w - 0) (drop 0 r) ≡ recordOf n s
+state-record s n w r l q e = let y : w - 0 ≡ recordSize n = omega arith in rw y (rw l at e)
 
 -- the record written at an offset
 pub record-put : (n : ℕ) (m : Interpretation) (r part : List ℕ) (at : ℕ) → r ≡ recordOf n m → take at part ++ (r ++ drop (at + length r) part) ≡ take at part ++ (recordOf n m ++ drop (at + recordSize n) part)

@@ -7,7 +7,6 @@ ghost use Rattle.base.specs.Bounds.{maxAtoms, maxRecord};
 ghost use Rattle.models.specs.StableModels.{atomHolds};
 ghost use Rattle.models.specs.Listing.{bitValue, bitsValue, recordSize, recordOf, be16, be32};
 ghost use Rattle.records.specs.Written.{addedTo};
-use base::MAX_ATOMS;
 use base::MAX_RECORD;
 use base::wide;
 use format::be32;
@@ -65,12 +64,12 @@ pub fn record_of(m: &[bool]) -> [u8; MAX_RECORD]
     r
 }
 
-// Writes the record of the first n facts at an offset.
-pub fn put_state(state: [bool; MAX_ATOMS], n: usize, part: &mut [u8], at: usize)
-    requires { ⌜ (n ≤ maxAtoms) × (at + recordSize n ≤ length (now part)) ⌝ }
-    ensures { λ _. ⌜ now (part .exit) ≡ take at (now (part .entry)) ++ (recordOf n (take n state) ++ drop (at + recordSize n) (now (part .entry))) ⌝ }
+// Writes the record of a state of n facts at an offset.
+pub fn put_state(state: &[bool], n: usize, part: &mut [u8], at: usize)
+    requires { ⌜ (length (now state) ≡ n) × (n ≤ maxAtoms) × (at + recordSize n ≤ length (now part)) ⌝ }
+    ensures { λ _. ⌜ now (part .exit) ≡ take at (now (part .entry)) ++ (recordOf n (now (state .entry)) ++ drop (at + recordSize n) (now (part .entry))) ⌝ }
 {
-    let r = record_of(&state[0..n]);
+    let r = record_of(state);
     let w = record_size(n);
     put_record(part, at, &r[0..w]);
 }

@@ -3,9 +3,7 @@
 use mathlib.Core.Path.{_≡_, refl, sym, ap, _∙_}
 use mathlib.Core.Bool.{Bool, true, false, not, _&&_}
 use mathlib.Core.List.{List, [], _∷_}
-use Prim.Native.Nat.{ℕ, _-_}
-use native.Mathlib.Omega.{arith}
-use lib.ListN.{take}
+use Prim.Native.Nat.{ℕ}
 use Rattle.base.specs.Lists.{consIf, all, any, filter}
 use Rattle.format.specs.Book.{Literal}
 use Rattle.models.specs.Program.{Program, constrained}
@@ -71,7 +69,3 @@ module _ {book rows atoms : List ℕ} {n : ℕ} (w : Searchable book rows atoms 
   -- a stable model is one of the rules alone
   pub barred-model : (m : Interpretation) → StableModel (barred book rows bans n) m → StableModel (tabled book rows n) m
   barred-model m = constrained-model (tabled book rows n) (bodiesOf book bans) (tabled-free book rows n) m
-
--- a state, as the code takes it from the first n facts
-pub state-cut : (n : ℕ) (s : Interpretation) (bodies : List (List Literal)) (r : Bool) → r ≡ any (all (holds (take (n - 0) s))) bodies → r ≡ any (all (holds (take n s))) bodies
-state-cut n s bodies r e = e ∙ (let z : n - 0 ≡ n = omega arith in ap (λ (k : ℕ). any (all (holds (take k s))) bodies) z)

@@ -61,21 +61,14 @@ module _ (goal : Goal) (n count : ℕ) where
   unfolding RoomFor
   front-fits part e r = let q : recordSize n ≤ length part = subst (λ (g : Goal). RoomFor g n (count + 1) part) e r in omega (arith, q)
 
-  pub sums-fit : (s : Interpretation) (part : List ℕ) → goal ≡ goals.Sums → length s ≡ maxAtoms → n ≤ maxAtoms → RoomFor goal n (count + 1) part
-      → (length (take (n - 0) (drop 0 s)) ≤ maxAtoms) × (4 * length (take (n - 0) (drop 0 s)) ≤ length part)
+  pub sums-fit : (s : Interpretation) (part : List ℕ) → goal ≡ goals.Sums → length s ≡ n → n ≤ maxAtoms → RoomFor goal n (count + 1) part
+      → (length s ≤ maxAtoms) × (4 * length s ≤ length part)
   unfolding RoomFor
-  sums-fit s part e l h r =
-      let q : 4 * n ≤ length part = subst (λ (g : Goal). RoomFor g n (count + 1) part) e r in
-      let k : length (take (n - 0) (drop 0 s)) ≡ n - 0 = length-take-le (n - 0) s (omega arith) in
-      (omega (arith, k), omega (arith, k, q))
+  sums-fit s part e l h r = let q : 4 * n ≤ length part = subst (λ (g : Goal). RoomFor g n (count + 1) part) e r in (omega arith, omega (arith, q))
 
--- the sums as the code adds them, from the first n facts
-pub sums-of : (n : ℕ) (s : Interpretation) (part : List ℕ) → length s ≡ maxAtoms → n ≤ maxAtoms
-    → addedTo (length (take (n - 0) (drop 0 s))) part (take (n - 0) (drop 0 s)) ≡ addedTo n part (take n s)
-sums-of n s part l h =
-    let z : n - 0 ≡ n = omega arith in
-    let k : length (take n s) ≡ n = length-take-le n s (omega arith) in
-    rw (z, k) refl
+-- the sums as the code adds them
+pub sums-of : (n : ℕ) (s : Interpretation) (part : List ℕ) → length s ≡ n → addedTo (length s) part s ≡ addedTo n part s
+sums-of n s part l = ap (λ (k : ℕ). addedTo k part s) l
 
 -- ---- no model
 pub kept-none : (goal : Goal) (n count : ℕ) (part : List ℕ) → keptBy goal n count [] part ≡ part

@@ -2,11 +2,11 @@
 use mathlib.Core.Path.{_≡_, refl, sym, ap, ap₂, subst, _∙_}
 use mathlib.Core.Bool.{Bool, true, false, false≢true}
 use mathlib.Core.List.{List, [], _∷_, _++_, append-assoc, append-nil}
-use Prim.Native.Nat.{ℕ, _+_, _-_, _≤_, _<_}
+use Prim.Native.Nat.{ℕ, _+_, _≤_, _<_}
 use native.Mathlib.Omega.{arith}
 use borrow.Author.Tests.{lt-ltb, le-ltb}
 use lib.Dec.{ltb}
-use lib.ListN.{length, take, drop, length-append}
+use lib.ListN.{length, length-append}
 use Rattle.format.specs.Book.{u16At}
 use Rattle.models.specs.StableModels.{Interpretation, atomHolds}
 use Rattle.models.specs.Listing.{bitValue}
@@ -181,10 +181,6 @@ module _ (v : Visit) where
   pub sums-stop : v .goal ≡ goals.Sums → false ≡ stopped v
   unfolding reaches
   sums-stop e = rw e refl
-
--- what a state weighs, as the code takes it from the first n facts
-pub weighed : (goal : Goal) (asked : List ℕ) (s : Interpretation) (n x : ℕ) → x ≡ weightOf goal asked (take (n - 0) (drop 0 s)) → x ≡ weightOf goal asked (take n s)
-weighed goal asked s n x e = e ∙ (let z : n - 0 ≡ n = omega arith in ap (λ (k : ℕ). weightOf goal asked (take k s)) z)
 
 -- the question of a goal, and what a model weighs, in the code's cases
 module _ (goal : Goal) (asked : List ℕ) (m : Interpretation) where

@@ -4,25 +4,23 @@ ghost use mathlib.Core.Logic.{_⊎_};
 ghost use mathlib.Core.Bool.{false};
 ghost use mathlib.Core.List.{[], _∷_};
 ghost use Prim.Native.Nat.{_+_, _/_, _^_, _<_, _≤_};
-ghost use lib.ListN.{length, take, replicate};
+ghost use lib.ListN.{length, replicate};
 ghost use Rattle.base.specs.Bounds.{maxAtoms, maxNames, maxRules};
 ghost use Rattle.base.specs.Lists.{consIf, all, any};
 ghost use Rattle.models.specs.StableModels.{holds};
 ghost use Rattle.bans.specs.Bans.{bodiesOf, BansFit};
-ghost use Rattle.filling.specs.Marks.{hintSize};
 ghost use Rattle.setting.specs.Setting.{settingOf};
 ghost use Rattle.setting.specs.RuleMasks.{Headed};
 ghost use Rattle.nogoods.specs.Nogoods.{maxNogoods, Violated};
 ghost use Rattle.plan.specs.Plan.{planSize, planAtoms, planMasks, planNogoods, planBans, plannedProgram, Planned};
 ghost use Rattle.leaf.specs.Found.{atSetting, foundBy};
 ghost use Rattle.leaf.specs.Searchable.{Searchable};
+ghost use Rattle.search.specs.Lent.{Lent};
 ghost use Rattle.search.specs.Decided.{undecided, Turned};
 ghost use Rattle.search.specs.Visits.{Asks, weightOf, keptBy, RoomFor, stopped, Kept, visited, Searched, Combines};
 use bans::banned;
-use base::MAX_ATOMS;
 use base::wide;
 use format::be16;
-use leaf::Found;
 use leaf::model_at;
 use merging::merge;
 use nogoods::has_nogood;
@@ -38,7 +36,6 @@ use records::record_size;
 use rejecting::clear_at;
 use rejecting::reject_at;
 use setting::headed;
-use setting::setting_of;
 
 // What the search is for: every record, how many models there are, one record, whether the asked fact stands in some but not in all,
 // or in how many models each fact stands.
@@ -101,9 +98,9 @@ fn weight(goal: Goal, asked: &[u8], m: &[bool]) -> usize
 }
 
 // Writes what the goal keeps of one more model: a listing's record goes behind those that are there.
-fn keep(goal: Goal, state: [bool; MAX_ATOMS], n: usize, count: usize, part: &mut [u8])
-    requires { ⌜ (n ≤ maxAtoms) × (count < 4294967296) × RoomFor goal n (count + 1) (now part) ⌝ }
-    ensures { λ _. ⌜ now (part .exit) ≡ keptBy goal n count (take n state ∷ []) (now (part .entry)) ⌝ }
+fn keep(goal: Goal, state: &[bool], n: usize, count: usize, part: &mut [u8])
+    requires { ⌜ (n ≤ maxAtoms) × (count < 4294967296) × RoomFor goal n (count + 1) (now part) × (length (now state) ≡ n) ⌝ }
+    ensures { λ _. ⌜ now (part .exit) ≡ keptBy goal n count (now (state .entry) ∷ []) (now (part .entry)) ⌝ }
 {
     match goal {
         Goal::List => put_state(state, n, part, count * record_size(n)),
@@ -114,17 +111,17 @@ fn keep(goal: Goal, state: [bool; MAX_ATOMS], n: usize, count: usize, part: &mut
             }
         }
         Goal::Settle => {}
-        Goal::Sums => add_state(&state[0..n], part),
+        Goal::Sums => add_state(state, part),
     }
 }
 
 // A stable model is met: it is counted, weighed and kept.
-pub fn meet(state: [bool; MAX_ATOMS], n: usize, asked: &[u8], part: &mut [u8], v: Visit) -> Visit
-    requires { ⌜ (n ≤ maxAtoms) × Kept (now asked) n 1 v (now part) × (v .count < 4294967296) × (stopped v ≡ false) ⌝ }
-    ensures { λ r. ⌜ (r ≡ visited (now (asked .entry)) (take n state ∷ []) v) × (now (part .exit) ≡ keptBy (v .goal) n (v .count) (take n state ∷ []) (now (part .entry))) ⌝ }
+pub fn meet(state: &[bool], n: usize, asked: &[u8], part: &mut [u8], v: Visit) -> Visit
+    requires { ⌜ (n ≤ maxAtoms) × Kept (now asked) n 1 v (now part) × (v .count < 4294967296) × (stopped v ≡ false) × (length (now state) ≡ n) ⌝ }
+    ensures { λ r. ⌜ (r ≡ visited (now (asked .entry)) (now (state .entry) ∷ []) v) × (now (part .exit) ≡ keptBy (v .goal) n (v .count) (now (state .entry) ∷ []) (now (part .entry))) ⌝ }
 {
     let goal = v.goal;
-    let more = weight(goal, asked, &state[0..n]);
+    let more = weight(goal, asked, state);
     keep(goal, state, n, v.count, part);
     Visit {
         goal,
@@ -133,19 +130,18 @@ pub fn meet(state: [bool; MAX_ATOMS], n: usize, asked: &[u8], part: &mut [u8], v
     }
 }
 
-// Whether the body of a constraint holds in a state of the first n facts.
-fn forbids(book: &[u8], plan: &[u32], sizes: Sizes, state: [bool; MAX_ATOMS]) -> bool
-    requires { ⌜ (length (now plan) ≡ planSize) × (sizes .n ≤ maxAtoms) × (sizes .bans ≤ maxRules) ⌝ }
+// Whether the body of a constraint holds in a state.
+fn forbids(book: &[u8], plan: &[u32], sizes: Sizes, state: &[bool]) -> bool
+    requires { ⌜ (length (now plan) ≡ planSize) × (sizes .bans ≤ maxRules) ⌝ }
     requires { ⌜ BansFit (now book) (planBans (now plan) (sizes .bans)) ⌝ }
-    ensures { λ r. ⌜ r ≡ any (all (holds (take (sizes .n) state))) (bodiesOf (now (book .entry)) (planBans (now (plan .entry)) (sizes .bans))) ⌝ }
+    ensures { λ r. ⌜ r ≡ any (all (holds (now (state .entry)))) (bodiesOf (now (book .entry)) (planBans (now (plan .entry)) (sizes .bans))) ⌝ }
 {
-    let n = sizes.n;
     let last = BANS + sizes.bans;
-    banned(book, &plan[BANS..last], &state[0..n])
+    banned(book, &plan[BANS..last], state)
 }
 
-// The stable model of one setting, if there is one: that of the rules alone, unless the body of a constraint holds in it. A constraint's
-// facts need not branch, so it is tested on the finished state.
+// Whether there is a stable model at a setting, which then stands in the first of the three arrays of marks: that of the rules alone,
+// unless the body of a constraint holds in it. A constraint's facts need not branch, so it is tested on the finished state.
 fn find_model(
     book: &[u8],
     rows: &[u16],
@@ -153,29 +149,38 @@ fn find_model(
     sizes: Sizes,
     standing: u32,
     rejects: &mut [u32],
+    positive: &mut [bool],
+    negative: &mut [bool],
+    early: &mut [bool],
     hints: &mut [u16],
-) -> Found
+) -> bool
     requires { ⌜ Searchable (now book) (now rows) (planAtoms (now plan) (sizes .branching)) (sizes .n) ⌝ }
     requires { ⌜ Planned (now book) (now rows) (planAtoms (now plan) (sizes .branching)) (now plan) sizes ⌝ }
-    requires { ⌜ (length (now hints) ≡ hintSize) × (now rejects ≡ replicate maxNames 0) ⌝ }
-    ensures { λ r. ⌜ atSetting (plannedProgram (now (book .entry)) (now (rows .entry)) (now (plan .entry)) sizes) (planAtoms (now (plan .entry)) (sizes .branching)) (settingOf (planAtoms (now (plan .entry)) (sizes .branching)) standing) ≡ consIf (r .ok) (take (sizes .n) (r .state)) [] ⌝ }
+    requires { ⌜ Lent (sizes .n) (now rejects) (now positive) (now negative) (now early) (now hints) ⌝ }
+    ensures { λ r. ⌜ atSetting (plannedProgram (now (book .entry)) (now (rows .entry)) (now (plan .entry)) sizes) (planAtoms (now (plan .entry)) (sizes .branching)) (settingOf (planAtoms (now (plan .entry)) (sizes .branching)) standing) ≡ consIf r (now (positive .exit)) [] ⌝ }
     ensures { λ _. ⌜ now (rejects .exit) ≡ replicate maxNames 0 ⌝ }
 {
     let n = sizes.n;
     let g = sizes.branching;
     let end = REJECTING + 4 * sizes.rejecting;
-    let setting = setting_of(&plan[0..g], standing);
     reject_at(&plan[REJECTING..end], standing, rejects);
-    let found = model_at(book, rows, rejects, &plan[0..g], n, setting, hints);
+    let found = model_at(
+        book,
+        rows,
+        rejects,
+        &plan[0..g],
+        n,
+        standing,
+        positive,
+        negative,
+        early,
+        hints,
+    );
     clear_at(&plan[REJECTING..end], rejects);
-    let state = found.state;
-    if found.ok {
-        return Found {
-            ok: !forbids(book, plan, sizes, state),
-            state,
-        };
+    if found {
+        return !forbids(book, plan, sizes, positive);
     }
-    Found { ok: false, state }
+    false
 }
 
 // Visits the stable model of one setting, if there is one. It is a function of its own so that the recursion's frames stay small.
@@ -186,6 +191,9 @@ pub fn visit_setting(
     sizes: Sizes,
     standing: u32,
     rejects: &mut [u32],
+    positive: &mut [bool],
+    negative: &mut [bool],
+    early: &mut [bool],
     hints: &mut [u16],
     asked: &[u8],
     part: &mut [u8],
@@ -195,14 +203,23 @@ pub fn visit_setting(
     requires { ⌜ Planned (now book) (now rows) (planAtoms (now plan) (sizes .branching)) (now plan) sizes ⌝ }
     requires { ⌜ Kept (now asked) (sizes .n) (length (atSetting (plannedProgram (now book) (now rows) (now plan) sizes) (planAtoms (now plan) (sizes .branching)) (settingOf (planAtoms (now plan) (sizes .branching)) standing))) v (now part) ⌝ }
     requires { ⌜ (v .count < 4294967296) × (stopped v ≡ false) ⌝ }
-    requires { ⌜ (length (now hints) ≡ hintSize) × (now rejects ≡ replicate maxNames 0) ⌝ }
+    requires { ⌜ Lent (sizes .n) (now rejects) (now positive) (now negative) (now early) (now hints) ⌝ }
     ensures { λ r. ⌜ Searched (now (asked .entry)) (sizes .n) (atSetting (plannedProgram (now (book .entry)) (now (rows .entry)) (now (plan .entry)) sizes) (planAtoms (now (plan .entry)) (sizes .branching)) (settingOf (planAtoms (now (plan .entry)) (sizes .branching)) standing)) v (now (part .entry)) r (now (part .exit)) ⌝ }
     ensures { λ _. ⌜ now (rejects .exit) ≡ replicate maxNames 0 ⌝ }
 {
-    let found = find_model(book, rows, plan, sizes, standing, rejects, hints);
-    let state = found.state;
-    if found.ok {
-        return meet(state, sizes.n, asked, part, v);
+    if find_model(
+        book,
+        rows,
+        plan,
+        sizes,
+        standing,
+        rejects,
+        positive,
+        negative,
+        early,
+        hints,
+    ) {
+        return meet(positive, sizes.n, asked, part, v);
     }
     v
 }
@@ -243,7 +260,8 @@ fn combine(goal: Goal, n: usize, from: usize, mid: usize, end: usize, part: &mut
 }
 
 // Goes through the settings of the branching facts that are left, each at most once, and visits the stable model of each setting, if
-// there is one. `rejects` is all 0 between settings, and `hints` is what one filling leaves for the next. Where the quick tests say that no setting of the facts that are left
+// there is one. The arrays are lent for every setting's work: `rejects` is all 0 between
+// settings, the next three are marks, and `hints` is what one filling leaves for the next. Where the quick tests say that no setting of the facts that are left
 // has a stable model, none is gone through.
 pub fn search(
     book: &[u8],
@@ -252,6 +270,9 @@ pub fn search(
     sizes: Sizes,
     turn: Turn,
     rejects: &mut [u32],
+    positive: &mut [bool],
+    negative: &mut [bool],
+    early: &mut [bool],
     hints: &mut [u16],
     asked: &[u8],
     part: &mut [u8],
@@ -262,7 +283,7 @@ pub fn search(
     requires { ⌜ Turned (planAtoms (now plan) (sizes .branching)) (turn .left) (turn .standing) (turn .denied) ⌝ }
     requires { ⌜ Kept (now asked) (sizes .n) (length (foundBy (atSetting (plannedProgram (now book) (now rows) (now plan) sizes) (planAtoms (now plan) (sizes .branching))) (undecided (planAtoms (now plan) (sizes .branching)) (turn .left)) (settingOf (planAtoms (now plan) (sizes .branching)) (turn .standing)))) v (now part) ⌝ }
     requires { ⌜ v .count + 2 ^ turn .left ≤ 4294967296 ⌝ }
-    requires { ⌜ (length (now hints) ≡ hintSize) × (now rejects ≡ replicate maxNames 0) ⌝ }
+    requires { ⌜ Lent (sizes .n) (now rejects) (now positive) (now negative) (now early) (now hints) ⌝ }
     ensures { λ r. ⌜ Searched (now (asked .entry)) (sizes .n) (foundBy (atSetting (plannedProgram (now (book .entry)) (now (rows .entry)) (now (plan .entry)) sizes) (planAtoms (now (plan .entry)) (sizes .branching))) (undecided (planAtoms (now (plan .entry)) (sizes .branching)) (turn .left)) (settingOf (planAtoms (now (plan .entry)) (sizes .branching)) (turn .standing))) v (now (part .entry)) r (now (part .exit)) ⌝ }
     ensures { λ _. ⌜ now (rejects .exit) ≡ replicate maxNames 0 ⌝ }
 {
@@ -281,6 +302,9 @@ pub fn search(
             sizes,
             turn.standing,
             rejects,
+            positive,
+            negative,
+            early,
             hints,
             asked,
             part,
@@ -300,6 +324,9 @@ pub fn search(
         sizes,
         without,
         rejects,
+        positive,
+        negative,
+        early,
         hints,
         asked,
         part,
@@ -317,6 +344,9 @@ pub fn search(
         sizes,
         with,
         rejects,
+        positive,
+        negative,
+        early,
         hints,
         asked,
         part,

@@ -1,11 +1,11 @@
--- The setting of a mask: what stands in it, when another array is the same, and one atom more. Used by setting_of and by the search.
+-- The setting of a mask: what stands in it, when another array is the same, and one atom more. Used by the leaf of the search and by its turns.
 -- Assumes nothing.
 use mathlib.Core.Path.{_≡_, sym, ap, subst, _∙_}
 use mathlib.Core.Logic.{⊎-elim}
 use mathlib.Core.Bool.{Bool, true, false, _&&_}
 use mathlib.Core.List.{List}
-use Prim.Native.Nat.{ℕ, _+_, _<_}
-use native.Mathlib.Decide.{decLt, ℕ-discrete}
+use Prim.Native.Nat.{ℕ, _<_}
+use native.Mathlib.Decide.{ℕ-discrete}
 use native.Mathlib.Omega.{arith}
 use lib.Bits.{bitOr}
 use lib.Dec.{T, eqb, eqb→eq, eqb-refl}
@@ -70,49 +70,6 @@ module _ (atoms : List ℕ) (standing : ℕ) where
 pub setting-none : (atoms : List ℕ) → replicate maxAtoms false ≡ settingOf atoms 0
 setting-none atoms =
     setting-same atoms 0 (replicate maxAtoms false) (length-replicate {A = Bool} maxAtoms false) (λ f b t. absurd (subst T (constant-at false maxAtoms f) t)) (λ f b x. absurd (no-bit (x .place) (x .bit)))
-
--- ---- the loop of setting_of
-pub record SettingTo (atoms : List ℕ) (standing i : ℕ) (o : List Bool) : Type 0 where
-  pub size : length o ≡ maxAtoms
-  pub from : (f : ℕ) → f < maxAtoms → T (getD o f false) → SetAt atoms standing i f
-  pub into : (f : ℕ) → f < maxAtoms → SetAt atoms standing i f → T (getD o f false)
-
-pub to-start : (atoms : List ℕ) (standing : ℕ) → SettingTo atoms standing 0 (replicate maxAtoms false)
-to-start atoms standing = record {
-  size = length-replicate {A = Bool} maxAtoms false;
-  from = λ f b t. absurd (subst T (constant-at false maxAtoms f) t);
-  into = λ f b x. absurd (omega (arith, x .before));
-}
-
-module _ (atoms : List ℕ) (standing i : ℕ) (o : List Bool) (w : SettingTo atoms standing i o) where
-  wider : (f : ℕ) → SetAt atoms standing i f → SetAt atoms standing (i + 1) f
-  wider f x = record { place = x .place; before = omega (arith, x .before); atom-is = x .atom-is; bit = x .bit }
-
-  pub to-pass : (bitOf standing i ≡ 1 → ⊥) → SettingTo atoms standing (i + 1) o
-  to-pass off = record { size = w .size; from = λ f b t. wider f (w .from f b t); into = λ f b x. go f b x (decLt (x .place) i) }
-    where
-      go : (f : ℕ) → f < maxAtoms → (x : SetAt atoms standing (i + 1) f) → Dec (x .place < i) → T (getD o f false)
-      go f b x (yes l) = w .into f b (record { place = x .place; before = l; atom-is = x .atom-is; bit = x .bit })
-      go f b x (no n) = let e : x .place ≡ i = omega (arith, x .before) in absurd (off (subst (λ (k : ℕ). bitOf standing k ≡ 1) e (x .bit)))
-
-  module _ (g : ℕ) (eg : g ≡ getD atoms i 0) (bg : g < maxAtoms) where
-    pub to-more : bitOf standing i ≡ 1 → SettingTo atoms standing (i + 1) (set o g true)
-    to-more on = record { size = length-set o g true ∙ w .size; from = λ f b t. back f b t (ℕ-discrete f g); into = λ f b x. go f b x (ℕ-discrete f g) (decLt (x .place) i) }
-      where
-        here : getD (set o g true) g false ≡ true
-        here = getD-set-same o g true false (omega (arith, w .size))
-
-        back : (f : ℕ) → f < maxAtoms → T (getD (set o g true) f false) → Dec (f ≡ g) → SetAt atoms standing (i + 1) f
-        back f b t (yes e) = record { place = i; before = omega arith; atom-is = sym eg ∙ sym e; bit = on }
-        back f b t (no n) = wider f (w .from f b (subst T (getD-set-other o g f true false n) t))
-
-        go : (f : ℕ) → f < maxAtoms → (x : SetAt atoms standing (i + 1) f) → Dec (f ≡ g) → Dec (x .place < i) → T (getD (set o g true) f false)
-        go f b x (yes e) l = subst (λ (k : ℕ). T (getD (set o g true) k false)) (sym e) (subst T (sym here) tt)
-        go f b x (no n) (yes l) = subst T (sym (getD-set-other o g f true false n)) (w .into f b (record { place = x .place; before = l; atom-is = x .atom-is; bit = x .bit }))
-        go f b x (no n) (no m) = let e : x .place ≡ i = omega (arith, x .before) in absurd (n (sym (x .atom-is) ∙ ap (λ (k : ℕ). getD atoms k 0) e ∙ sym eg))
-
-pub to-end : (atoms : List ℕ) (standing i : ℕ) (o : List Bool) → SettingTo atoms standing i o → i ≡ length atoms → o ≡ settingOf atoms standing
-to-end atoms standing i o w e = setting-same atoms standing o (w .size) (λ f b t. subst (λ (k : ℕ). SetAt atoms standing k f) e (w .from f b t)) (λ f b x. w .into f b (subst (λ (k : ℕ). SetAt atoms standing k f) (sym e) x))
 
 -- ---- one atom more, that was not set: the i-th, f
 module _ (atoms : List ℕ) (standing i f : ℕ) (h : i < length atoms) (b : i < 32) (e : getD atoms i 0 ≡ f) (bf : f < maxAtoms)

@@ -8,7 +8,6 @@ ghost use lib.ListN.{length, getD};
 ghost use Rattle.base.specs.Bounds.{maxAtoms, maxBranching};
 ghost use Rattle.format.specs.Book.{literalsOf};
 ghost use Rattle.table.specs.Rows.{rowCount, rowAt, RowsFit};
-ghost use Rattle.setting.specs.Setting.{settingOf};
 ghost use Rattle.setting.specs.RuleMasks.{Low, AtomBits, BodyMasked, RulePut, Headed};
 use base::MAX_ATOMS;
 use format::literal_value;
@@ -105,23 +104,6 @@ pub fn put_rule(masks: &mut [u32], made: usize, body: BodyMasks, head: u32) -> u
     masks[at + 1] = body.negated;
     masks[at + 2] = head;
     made + 1
-}
-
-// The setting that a mask stands for.
-pub fn setting_of(atoms: &[u32], standing: u32) -> [bool; MAX_ATOMS]
-    requires { ⌜ length (now atoms) ≤ maxBranching ⌝ }
-    requires { ⌜ Low (now atoms) ⌝ }
-    ensures { λ r. ⌜ r ≡ settingOf (now (atoms .entry)) standing ⌝ }
-{
-    let mut setting = [false; MAX_ATOMS];
-    let mut i = 0;
-    while i < atoms.len() {
-        if (standing >> (i as u32)) & 1 == 1 {
-            setting[atom_at(atoms, i)] = true;
-        }
-        i += 1;
-    }
-    setting
 }
 
 // A row's head where nothing of its body is denied, and else no bit. There is no branch in it: what is denied at one setting and not

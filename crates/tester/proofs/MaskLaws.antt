@@ -1,5 +1,5 @@
 -- Rejection by masks, supported atoms, violated rows, and the other atoms: what the loops keep, row by row and atom by atom. Used by
--- row_mask, reject, name_holds, supported and defaults_of. Assumes nothing.
+-- row_mask, reject, name_holds, supported and mark_defaults. Assumes nothing.
 use mathlib.Core.Path.{_≡_, refl, sym, ap, subst, _∙_}
 use mathlib.Core.Logic.{⊎-elim}
 use mathlib.Core.Bool.{Bool, true, false, not, cond, true≢false}
@@ -9,7 +9,7 @@ use native.Mathlib.Decide.{decLt, ℕ-discrete}
 use native.Mathlib.Omega.{arith}
 use lib.Bits.{bitOr}
 use lib.Dec.{T}
-use lib.ListN.{getD, set, length-set, replicate, length-replicate}
+use lib.ListN.{length, getD, set, length-set, replicate, length-replicate, List·getD-eq-default}
 use lib.Seq.{getD-set-same, getD-set-other}
 use Rattle.base.specs.Bounds.{maxAtoms, maxNames}
 use Rattle.layers.specs.Masks.{bitOf}
@@ -117,11 +117,11 @@ module _ {book rows : List ℕ} {m : Interpretation} where
 
 -- support
 module _ {book rows : List ℕ} {m : Interpretation} where
-  pub supported-start : Supported book rows m (replicate maxAtoms false) 0
+  pub supported-start : (n : ℕ) → n ≤ maxAtoms → (atoms : List Bool) → atoms ≡ replicate n false → Supported book rows m atoms 0
   unfolding atomHolds
-  supported-start = record {
-    size = length-replicate maxAtoms false;
-    sound = λ f t. absurd (subst T (blank maxAtoms f) t);
+  supported-start n h atoms e = record {
+    few = omega (arith, ap length e, length-replicate {A = Bool} n false);
+    sound = λ f t. absurd (subst T (ap (λ (l : List Bool). getD l f false) e ∙ blank n f) t);
     full = λ f x b. absurd (omega (arith, x .before));
   }
 
@@ -130,22 +130,22 @@ module _ {book rows : List ℕ} {m : Interpretation} where
 
   -- one row on, where what row j supports is among the atoms
   module _ {atoms : List Bool} {j : ℕ} (w : Supported book rows m atoms j) where
-    supported-same : ((f : ℕ) → rowAt book rows j .head ≡ positive f → T (bodyHolds m (rowAt book rows j)) → T (atomHolds atoms f)) → Supported book rows m atoms (j + 1)
+    supported-same : ((f : ℕ) → f < length atoms → rowAt book rows j .head ≡ positive f → T (bodyHolds m (rowAt book rows j)) → T (atomHolds atoms f)) → Supported book rows m atoms (j + 1)
     supported-same n = record {
-      size = w .size;
+      few = w .few;
       sound = λ f t. support-later (w .sound f t);
       full = λ f x b. go f x b (decLt (x .row) j);
     }
       where
-        go : (f : ℕ) (x : Support book rows m (j + 1) f) → f < maxAtoms → Dec (x .row < j) → T (atomHolds atoms f)
+        go : (f : ℕ) (x : Support book rows m (j + 1) f) → f < length atoms → Dec (x .row < j) → T (atomHolds atoms f)
         go f x b (yes y) = w .full f (record { row = x .row; before = y; head-is = x .head-is; holds-in = x .holds-in }) b
         go f x b (no y) =
             let q : x .row ≡ j = omega (arith, x .before) in
-            n f (subst (λ (z : ℕ). rowAt book rows z .head ≡ positive f) q (x .head-is)) (subst (λ (z : ℕ). T (bodyHolds m (rowAt book rows z))) q (x .holds-in))
+            n f b (subst (λ (z : ℕ). rowAt book rows z .head ≡ positive f) q (x .head-is)) (subst (λ (z : ℕ). T (bodyHolds m (rowAt book rows z))) q (x .holds-in))
 
     -- a body that does not hold
     pub supported-not : (r : Bool) → r ≡ bodyHolds m (rowAt book rows j) → r ≡ false → Supported book rows m atoms (j + 1)
-    supported-not r q n = supported-same (λ f p t. absurd (subst T (sym q ∙ n) t))
+    supported-not r q n = supported-same (λ f k p t. absurd (subst T (sym q ∙ n) t))
 
     module _ (h : ℕ) (e : h ≡ headName rows j) where
       named : h < maxAtoms → rowAt book rows j .head ≡ positive h
@@ -155,30 +155,37 @@ module _ {book rows : List ℕ} {m : Interpretation} where
       head-of : h < maxAtoms → (f : ℕ) → rowAt book rows j .head ≡ positive f → h ≡ f
       head-of b f q = ap (λ (l : Literal). l .atom) (sym (named b) ∙ q)
 
-      -- a negated head
-      pub supported-negated : maxAtoms ≤ h → Supported book rows m atoms (j + 1)
+      -- a negated head, or a plain one that has no place
+      pub supported-other : length atoms ≤ h → Supported book rows m atoms (j + 1)
       unfolding rowAt
-      supported-negated b = supported-same (λ f q t. absurd (true≢false (ap (λ (l : Literal). l .negated) (sym (name-high h b) ∙ ap literalNamed e ∙ q))))
+      supported-other b = supported-same (λ f k q t. absurd (away f k q (decLt h maxAtoms)))
+        where
+          away : (f : ℕ) → f < length atoms → literalNamed (headName rows j) ≡ positive f → Dec (h < maxAtoms) → ⊥
+          away f k q (yes y) = let z : h ≡ f = head-of y f q in omega arith
+          away f k q (no y) = true≢false (ap (λ (l : Literal). l .negated) (sym (name-high h (omega arith)) ∙ ap literalNamed e ∙ q))
 
-      pub supported-more : (r : Bool) → h < maxAtoms → r ≡ bodyHolds m (rowAt book rows j) → r ≡ true → Supported book rows m (set atoms h true) (j + 1)
+      pub supported-more : (r : Bool) → h < length atoms → r ≡ bodyHolds m (rowAt book rows j) → r ≡ true → Supported book rows m (set atoms h true) (j + 1)
       unfolding atomHolds
       supported-more r b q n = record {
-        size = length-set atoms h true ∙ w .size;
-        sound = λ f u. ⊎-elim (λ v. support-later (w .sound f v)) (λ v. record { row = j; before = omega arith; head-is = named b ∙ ap positive (sym v); holds-in = holds }) (set-only atoms h f (omega (arith, w .size)) u);
-        full = λ f x k. go f x k (decLt (x .row) j);
+        few = omega (arith, length-set atoms h true, w .few);
+        sound = λ f u. ⊎-elim (λ v. support-later (w .sound f v)) (λ v. record { row = j; before = omega arith; head-is = named low ∙ ap positive (sym v); holds-in = holds }) (set-only atoms h f b u);
+        full = λ f x k. go f x (omega (arith, length-set atoms h true)) (decLt (x .row) j);
       }
         where
+          low : h < maxAtoms
+          low = omega (arith, w .few)
+
           holds : T (bodyHolds m (rowAt book rows j))
           holds = subst T (sym (sym q ∙ n)) tt
 
           here : T (atomHolds (set atoms h true) h)
-          here = subst T (sym (getD-set-same atoms h true false (omega (arith, w .size)))) tt
+          here = subst T (sym (getD-set-same atoms h true false b)) tt
 
-          go : (f : ℕ) (x : Support book rows m (j + 1) f) → f < maxAtoms → Dec (x .row < j) → T (atomHolds (set atoms h true) f)
-          go f x k (yes y) = set-keeps atoms h f (omega (arith, w .size)) (w .full f (record { row = x .row; before = y; head-is = x .head-is; holds-in = x .holds-in }) k)
+          go : (f : ℕ) (x : Support book rows m (j + 1) f) → f < length atoms → Dec (x .row < j) → T (atomHolds (set atoms h true) f)
+          go f x k (yes y) = set-keeps atoms h f b (w .full f (record { row = x .row; before = y; head-is = x .head-is; holds-in = x .holds-in }) k)
           go f x k (no y) =
               let p : x .row ≡ j = omega (arith, x .before) in
-              subst (λ (z : ℕ). T (atomHolds (set atoms h true) z)) (head-of b f (subst (λ (z : ℕ). rowAt book rows z .head ≡ positive f) p (x .head-is))) here
+              subst (λ (z : ℕ). T (atomHolds (set atoms h true) z)) (head-of low f (subst (λ (z : ℕ). rowAt book rows z .head ≡ positive f) p (x .head-is))) here
 
 -- the literal of a name, as the code tests it
 module _ (m : Interpretation) (h : ℕ) where
@@ -206,33 +213,20 @@ module _ {book rows rejects : List ℕ} {m : Interpretation} where
     fails-in = subst T (sym (ap not (sym (head-holds book rows m j h e x ex)) ∙ tx)) tt;
   }
 
--- the other atoms
-module _ {atoms : List Bool} where
-  pub others-start : Others atoms (replicate maxAtoms false) 0
-  unfolding atomHolds
-  others-start = record {
-    size = length-replicate maxAtoms false;
-    sound = λ f t. absurd (subst T (blank maxAtoms f) t);
-    full = λ f b. absurd (omega arith);
-  }
-
-  pub others-more : {others : List Bool} {f : ℕ} → Others atoms others f → f < maxAtoms → Others atoms (set others f (not (getD atoms f false))) (f + 1)
-  unfolding atomHolds
-  others-more {others} {f} w b = record {
-    size = length-set others f (not (getD atoms f false)) ∙ w .size;
-    sound = λ g t. sound-at g (ℕ-discrete g f) t;
-    full = λ g k t. full-at g k (ℕ-discrete g f) t;
-  }
+-- the other atoms: of the first f, those that are not among the atoms
+module _ (atoms : List Bool) where
+  pub others-more : (others : List Bool) (f : ℕ) → f < length others → ((g : ℕ) → g < f → getD others g false ≡ not (getD atoms g false))
+      → (g : ℕ) → g < f + 1 → getD (set others f (not (getD atoms f false))) g false ≡ not (getD atoms g false)
+  others-more others f h w g k = go (ℕ-discrete g f)
     where
-      at-f : (g : ℕ) → g ≡ f → getD (set others f (not (getD atoms f false))) g false ≡ not (getD atoms g false)
-      at-f g q = ap (λ (x : ℕ). getD (set others f (not (getD atoms f false))) x false) q ∙ getD-set-same others f (not (getD atoms f false)) false (omega (arith, w .size)) ∙ ap (λ (x : ℕ). not (getD atoms x false)) (sym q)
+      go : Dec (g ≡ f) → getD (set others f (not (getD atoms f false))) g false ≡ not (getD atoms g false)
+      go (yes q) = ap (λ (x : ℕ). getD (set others f (not (getD atoms f false))) x false) q ∙ getD-set-same others f (not (getD atoms f false)) false h ∙ ap (λ (x : ℕ). not (getD atoms x false)) (sym q)
+      go (no n) = getD-set-other others f g (not (getD atoms f false)) false n ∙ w g (omega arith)
 
-      sound-at : (g : ℕ) → Dec (g ≡ f) → T (getD (set others f (not (getD atoms f false))) g false) → (g < f + 1) × T (not (getD atoms g false))
-      sound-at g (yes q) t = (omega arith, subst T (at-f g q) t)
-      sound-at g (no n) t =
-          let v : (g < f) × T (not (getD atoms g false)) = w .sound g (subst T (getD-set-other others f g (not (getD atoms f false)) false n) t) in
-          (omega (arith, v .0), v .1)
-
-      full-at : (g : ℕ) → g < f + 1 → Dec (g ≡ f) → T (not (getD atoms g false)) → T (getD (set others f (not (getD atoms f false))) g false)
-      full-at g k (yes q) t = subst T (sym (at-f g q)) t
-      full-at g k (no n) t = subst T (sym (getD-set-other others f g (not (getD atoms f false)) false n)) (w .full g (omega arith) t)
+  pub others-end : (others : List Bool) (n f : ℕ) → length others ≡ n → n ≤ f → ((g : ℕ) → g < f → getD others g false ≡ not (getD atoms g false)) → Others atoms others n
+  unfolding atomHolds
+  others-end others n f e h w = record { sound = λ g t. from g t (decLt g n); full = λ g b t. subst T (sym (w g (omega arith))) t }
+    where
+      from : (g : ℕ) → T (getD others g false) → Dec (g < n) → (g < n) × T (not (getD atoms g false))
+      from g t (yes b) = (b, subst T (w g (omega arith)) t)
+      from g t (no b) = absurd (subst T (List·getD-eq-default others false (omega arith)) t)

@@ -23,7 +23,7 @@ use Rattle.table.specs.Table.{Tabulates}
 use Rattle.table.proofs.NameLaws.{name-back, complement-twice}
 use Rattle.table.proofs.RowLaws.{row-in, row-of}
 use Rattle.table.proofs.NamedLaws.{named-overrides, overrides-named}
-use Rattle.filling.specs.Marks.{literalMarked, FollowsFrom, from-start, by-row, Conflict, Fills}
+use Rattle.filling.specs.Marks.{Room, literalMarked, FollowsFrom, from-start, by-row, Conflict, Fills}
 use Rattle.tester.specs.Agreement.{marksAgree}
 use Rattle.tester.specs.Masks.{Rejection, RejectedMasks, Support, Supported, Violation, Others}
 
@@ -64,6 +64,14 @@ module _ {P : Program} {book rows : List ℕ} (w : Tabulates P book rows) where
 
   rule-row : (r : Rule) → r ∈ P .rules → (j : ℕ) × (j < rowCount rows) × (rowAt book rows j ≡ r)
   rule-row r k = row-of book rows r (rule-in r k)
+
+  -- what marks of n facts have a place for
+  pub row-within : WellFormed P → (j : ℕ) → j < rowCount rows → literalNamed (headName rows j) .atom < P .atoms
+  unfolding rowAt
+  row-within lw j h = lw .heads (rowAt book rows j) (row-rule j h)
+
+  pub room-for : WellFormed P → {n : ℕ} → n ≡ P .atoms → n ≤ maxAtoms → (p q : List Bool) → length p ≡ n → length q ≡ n → Room rows p q
+  room-for lw e b p q x y = record { same = y ∙ sym x; few = omega (arith, x, b); heads = λ j h. omega (arith, x, e, row-within lw j h) }
 
   -- the name of a rule's head
   head-name : (r : Rule) → r ∈ P .rules → (literalNamed (nameOf (r .head)) ≡ r .head) × (nameOf (r .head) < maxNames)
@@ -125,7 +133,7 @@ module _ {P : Program} {book rows : List ℕ} (w : Tabulates P book rows) where
         (z .exact (r .head) (lw .heads r k) .0
         (by-rule r k (alive-unrejected r k (x .lives)) (λ l i. z .exact l (lw .bodies r k l i) .1 (all-at (holds m) (x .holds-in) i))))))
 
-    module _ {atoms start : List Bool} {n : ℕ} (lw : WellFormed P) (en : n ≡ P .atoms) (bn : n ≤ maxAtoms) (s : Supported book rows m atoms (rowCount rows)) (d : Others atoms start n) where
+    module _ {atoms start : List Bool} {n : ℕ} (lw : WellFormed P) (en : n ≡ P .atoms) (size : length atoms ≡ n) (s : Supported book rows m atoms (rowCount rows)) (d : Others atoms start n) where
       start-default : (f : ℕ) → T (atomHolds start f) → T (default P m f)
       unfolding default
       start-default f t =

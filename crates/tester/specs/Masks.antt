@@ -3,7 +3,7 @@
 use mathlib.Core.Path.{_≡_}
 use mathlib.Core.Bool.{Bool, true, false, not}
 use mathlib.Core.List.{List}
-use Prim.Native.Nat.{ℕ, _<_}
+use Prim.Native.Nat.{ℕ, _<_, _≤_}
 use lib.Dec.{T}
 use lib.ListN.{length, getD}
 use Rattle.base.specs.Bounds.{maxAtoms, maxNames}
@@ -33,11 +33,11 @@ pub record Support (book rows : List ℕ) (m : Interpretation) (n f : ℕ) : Typ
   pub head-is : rowAt book rows row .head ≡ positive f
   pub holds-in : T (bodyHolds m (rowAt book rows row))
 
--- the atoms that a row before n supports; rejected rows count
+-- the atoms that a row before n supports, as far as there is a place for them; rejected rows count
 pub record Supported (book rows : List ℕ) (m : Interpretation) (atoms : List Bool) (n : ℕ) : Type 0 where
-  pub size : length atoms ≡ maxAtoms
+  pub few : length atoms ≤ maxAtoms
   pub sound : (f : ℕ) → T (atomHolds atoms f) → Support book rows m n f
-  pub full : (f : ℕ) → Support book rows m n f → f < maxAtoms → T (atomHolds atoms f)
+  pub full : (f : ℕ) → Support book rows m n f → f < length atoms → T (atomHolds atoms f)
 
 -- a row before n that is alive and whose body holds, but not its head
 pub record Violation (book rows rejects : List ℕ) (m : Interpretation) (n : ℕ) : Type 0 where
@@ -54,6 +54,5 @@ pub record Supports (book rows rejects : List ℕ) (m : Interpretation) (atoms :
 
 -- the atoms below n that are not among these
 pub record Others (atoms others : List Bool) (n : ℕ) : Type 0 where
-  pub size : length others ≡ maxAtoms
   pub sound : (f : ℕ) → T (atomHolds others f) → (f < n) × T (not (atomHolds atoms f))
   pub full : (f : ℕ) → f < n → T (not (atomHolds atoms f)) → T (atomHolds others f)

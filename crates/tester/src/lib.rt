@@ -17,6 +17,7 @@ ghost use Rattle.tester.specs.Agreement.{marksAgree};
 ghost use Rattle.tester.specs.Masks.{RejectedMasks, Supports, Others};
 use base::MAX_ATOMS;
 use base::MAX_NAMES;
+use filling::clear_marks;
 use filling::fill;
 use table::ROW_SIZE;
 use table::atom_holds;
@@ -70,21 +71,16 @@ fn name_holds(m: &[bool], h: usize) -> bool
     !atom_holds(m, h - MAX_ATOMS)
 }
 
-// What the rows whose bodies hold say: the atoms that they support, or that one of them is violated.
-pub struct SupportPass {
-    pub atoms: [bool; MAX_ATOMS],
-    pub violated: bool,
-}
-
-// The plain heads of the rows whose bodies hold, rejected or not. A row that is alive and whose head does not hold ends it: no
-// stable model violates such a row, and nothing need be filled.
-fn supported(book: &[u8], rows: &[u16], rejects: &[u32], m: &[bool]) -> SupportPass
+// Marks the plain heads of the rows whose bodies hold, rejected or not, and says whether a row is violated: one that is alive and whose
+// head does not hold ends it, as no stable model violates such a row, and nothing need be filled.
+fn supported(book: &[u8], rows: &[u16], rejects: &[u32], m: &[bool], atoms: &mut [bool]) -> bool
     requires { ⌜ RowsFit (now book) (now rows) ⌝ }
     requires { ⌜ length (now rejects) ≡ maxNames ⌝ }
-    ensures { λ r. ⌜ Supports (now (book .entry)) (now (rows .entry)) (now (rejects .entry)) (now (m .entry)) (r .atoms) (r .violated) (rowCount (now (rows .entry))) ⌝ }
+    requires { ⌜ length (now atoms) ≤ maxAtoms ⌝ }
+    ensures { λ r. ⌜ Supports (now (book .entry)) (now (rows .entry)) (now (rejects .entry)) (now (m .entry)) (now (atoms .exit)) r (rowCount (now (rows .entry))) ⌝ }
 {
     let count = rows.len() / ROW_SIZE;
-    let mut atoms = [false; MAX_ATOMS];
+    clear_marks(atoms);
     let mut j = 0;
     while j < count {
         if row_holds(book, rows, m, j) {
@@ -92,36 +88,28 @@ fn supported(book: &[u8], rows: &[u16], rejects: &[u32], m: &[bool]) -> SupportP
             let lives = row_alive(book, rows, rejects, j);
             if lives {
                 if !name_holds(m, h) {
-                    return SupportPass {
-                        atoms,
-                        violated: true,
-                    };
+                    return true;
                 }
             }
-            if h < MAX_ATOMS {
+            if h < atoms.len() {
                 atoms[h] = true;
             }
         }
         j += 1;
     }
-    SupportPass {
-        atoms,
-        violated: false,
-    }
+    false
 }
 
-// The defaults: the atoms below n that are not supported.
-fn defaults_of(atoms: [bool; MAX_ATOMS], n: usize) -> [bool; MAX_ATOMS]
-    requires { ⌜ n ≤ maxAtoms ⌝ }
-    ensures { λ r. ⌜ Others atoms r n ⌝ }
+// Marks the defaults: the atoms that are not supported.
+fn mark_defaults(atoms: &[bool], others: &mut [bool])
+    requires { ⌜ length (now others) ≡ length (now atoms) ⌝ }
+    ensures { λ _. ⌜ Others (now (atoms .entry)) (now (others .exit)) (length (now (atoms .entry))) ⌝ }
 {
-    let mut others = [false; MAX_ATOMS];
     let mut f = 0;
-    while f < n {
+    while f < others.len() {
         others[f] = !atoms[f];
         f += 1;
     }
-    others
 }
 
 // Whether the marks of an atom are what the interpretation says of it.
@@ -136,7 +124,7 @@ fn mark_agrees(positive: &[bool], negative: &[bool], m: &[bool], f: usize) -> bo
 }
 
 // Whether the marks of the atoms below n are what the interpretation says of them.
-fn marks_agree<'a>(positive: &'a [bool], negative: &'a [bool], m: &[bool], n: usize) -> bool
+fn marks_agree(positive: &[bool], negative: &[bool], m: &[bool], n: usize) -> bool
     ensures { λ r. ⌜ r ≡ all (marksAgree (now (positive .entry)) (now (negative .entry)) (now (m .entry))) (upTo n) ⌝ }
 {
     let mut f = 0;
@@ -147,6 +135,37 @@ fn marks_agree<'a>(positive: &'a [bool], negative: &'a [bool], m: &[bool], n: us
         f += 1;
     }
     true
+}
+
+// Whether an interpretation is a stable model of the program that the rows and masks tabulate, where it is known which rules are rejected
+// in it. Two arrays are lent to fill. `hints` is what an earlier filling left.
+pub fn settles(
+    book: &[u8],
+    rows: &[u16],
+    rejects: &[u32],
+    m: &[bool],
+    n: usize,
+    positive: &mut [bool],
+    negative: &mut [bool],
+    hints: &mut [u16],
+) -> bool
+    requires { ⌜ WellFormed (tabled (now book) (now rows) n) ⌝ }
+    requires { ⌜ Tabulates (tabled (now book) (now rows) n) (now book) (now rows) ⌝ }
+    requires { ⌜ n ≡ tabled (now book) (now rows) n .atoms ⌝ }
+    requires { ⌜ n ≤ maxAtoms ⌝ }
+    requires { ⌜ length (now m) ≡ n ⌝ }
+    requires { ⌜ RejectedMasks (now book) (now rows) (now m) (now rejects) (rowCount (now rows)) ⌝ }
+    requires { ⌜ (length (now positive) ≡ n) × (length (now negative) ≡ n) × (length (now hints) ≡ hintSize) ⌝ }
+    ensures { λ r. ⌜ r ≡ stable (tabled (now (book .entry)) (now (rows .entry)) n) (now (m .entry)) ⌝ }
+{
+    if supported(book, rows, rejects, m, positive) {
+        return false;
+    }
+    mark_defaults(positive, negative);
+    if fill(book, rows, rejects, positive, negative, hints) {
+        return false;
+    }
+    marks_agree(positive, negative, m, n)
 }
 
 // Whether an interpretation is a stable model of the program that the rows and masks tabulate. `hints` is what an earlier filling left.
@@ -161,14 +180,16 @@ pub fn is_stable(book: &[u8], rows: &[u16], m: &[bool], n: usize, hints: &mut [u
 {
     let mut rejects: [u32; MAX_NAMES] = [0; MAX_NAMES];
     reject(book, rows, m, &mut rejects);
-    let support = supported(book, rows, &rejects, m);
-    let atoms = support.atoms;
-    if support.violated {
-        return false;
-    }
-    let marks = fill(book, rows, &rejects, defaults_of(atoms, n), hints);
-    if marks.conflict {
-        return false;
-    }
-    marks_agree(&marks.positive, &marks.negative, m, n)
+    let mut positive = [false; MAX_ATOMS];
+    let mut negative = [false; MAX_ATOMS];
+    settles(
+        book,
+        rows,
+        &rejects,
+        m,
+        n,
+        &mut positive[0..n],
+        &mut negative[0..n],
+        hints,
+    )
 }

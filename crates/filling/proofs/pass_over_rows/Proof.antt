@@ -7,7 +7,9 @@ use lib.ListN.{length}
 use Rattle.table.specs.Rows.{rowSize}
 use Rattle.filling.specs.Marks.{hintSize}
 use Rattle.filling.proofs.FillingLaws.{Passing, pass-start, pass-skip, pass-low, pass-high, pass-clash, pass-done}
+use Rattle.filling.proofs.MarkLaws.{fact-low, fact-high, head-within, opposite-within}
 use borrow.Author.Needs.{needs}
+use native.Mathlib.Omega.{arith}
 use Rattle.filling.proofs.pass_over_rows.Statement.{statement}
 use Rattle.filling.proofs.pass_over_rows.Tie as tie
 
@@ -22,7 +24,7 @@ loop-holds : tie.Need-loop-holds Inv-loop μ-loop
 loop-holds c = (search needs, search needs, pass-start _ _ (c .before .before .before .before .before .before .pre .1 .1 .0))
 
 row-adds-requires : tie.Need-row-adds-requires Inv-loop μ-loop
-row-adds-requires c κs = search needs
+row-adds-requires c κs = (c .before .before .before .before .before .before .before .before .before .before .before .pre .0, (c .before .before .before .before .before .before .before .before .before .before .before .pre .1 .0, (c .before .before .before .before .loop .inv .2 .room, search needs)))
 
 row-head-requires : tie.Need-row-head-requires Inv-loop μ-loop
 row-head-requires c κs = search needs
@@ -31,7 +33,7 @@ opposite-requires : tie.Need-opposite-requires Inv-loop μ-loop
 opposite-requires c κs = search needs
 
 name-marked-requires : tie.Need-name-marked-requires Inv-loop μ-loop
-name-marked-requires c κs = search needs
+name-marked-requires c κs = let w = c .before .before .before .before .before .before .before .before .before .before .loop .inv .2 .room in (w .same, opposite-within w _ _ _ (search needs) (c .before .before .before .row-head .ensures .0) (c .opposite .ensures .0))
 
 same-length : tie.Need-same-length Inv-loop μ-loop
 same-length c = search needs
@@ -50,10 +52,10 @@ returns c =
     pass-clash (l .inv .2) (search needs) (a .result) (a .ensures) (c .before .before .before .before .before .before .if1 .taken) (h .result) (h .ensures .0) (c .before .before .opposite .result) (c .before .before .opposite .ensures .0) (c .before .name-marked .result) (c .before .name-marked .ensures) (h .ensures .1) (c .if2 .taken)
 
 slice-write-positive : tie.Need-slice-write-positive Inv-loop μ-loop
-slice-write-positive c = search needs
+slice-write-positive c = omega (arith, fact-low _ _ (head-within (c .before .before .before .before .before .before .before .before .before .before .before .before .before .loop .inv .2 .room) _ _ (search needs) (c .before .before .before .before .before .before .row-head .ensures .0)) (c .if3 .taken))
 
 slice-write-negative : tie.Need-slice-write-negative Inv-loop μ-loop
-slice-write-negative c = search needs
+slice-write-negative c = omega (arith, c .before .before .before .before .before .before .before .before .before .before .before .before .before .loop .inv .2 .room .same, fact-high _ _ (head-within (c .before .before .before .before .before .before .before .before .before .before .before .before .before .loop .inv .2 .room) _ _ (search needs) (c .before .before .before .before .before .before .row-head .ensures .0)) (c .if3 .left))
 
 remember-requires : tie.Need-remember-requires Inv-loop μ-loop
 remember-requires c κs = search needs
@@ -74,7 +76,7 @@ loop-again c =
       ⊎-elim
           (λ w. rw (w .12, w .13, w .15) (⊎-elim
           (λ v. rw (v .1, v .2) (pass-low (l .inv .2) k (a .result) (a .ensures) (w .0 .taken) (w .1 .result) (w .1 .ensures .0) (w .4 .result) (w .4 .ensures .0) (w .5 .result) (w .5 .ensures) (w .6 .left) (v .0 .taken)))
-          (λ v. rw (v .1, v .2) (pass-high (l .inv .2) k (a .result) (a .ensures) (w .0 .taken) (w .1 .result) (w .1 .ensures .0) (w .4 .result) (w .4 .ensures .0) (w .5 .result) (w .5 .ensures) (w .6 .left) (v .0 .left) (w .1 .ensures .1)))
+          (λ v. rw (v .1, v .2) (pass-high (l .inv .2) k (a .result) (a .ensures) (w .0 .taken) (w .1 .result) (w .1 .ensures .0) (w .4 .result) (w .4 .ensures .0) (w .5 .result) (w .5 .ensures) (w .6 .left) (v .0 .left)))
           (w .7 .came)))
           (λ w. rw (w .1, w .2, w .4) (pass-skip (l .inv .2) k (a .result) (a .ensures) (w .0 .left)))
           (c .if1 .came),

@@ -1,10 +1,11 @@
 -- Every turn that marks marks what follows (`settle`), and no other touches the marks; the turns left fall.
-use mathlib.Core.Path.{_≡_}
+use mathlib.Core.Path.{_≡_, refl}
 use mathlib.Core.Logic.{⊎-elim}
 use Prim.Native.Nat.{_/_, _≤_}
 use lib.ListN.{length, length-set}
 use Rattle.table.specs.Rows.{rowSize}
 use Rattle.base.specs.Bounds.{maxRules}
+use Rattle.filling.proofs.MarkLaws.{room-same}
 use Rattle.filling.proofs.GrowingLaws.{grown-none, grown-both}
 use Rattle.filling.proofs.WaitingLaws.{Turn}
 use borrow.Author.Needs.{needs}
@@ -12,11 +13,11 @@ use Rattle.filling.proofs.propagate.Statement.{statement}
 use Rattle.filling.proofs.propagate.Tie as tie
 
 abbrev Inv-loop : tie.InvT-loop
-Inv-loop book rows rejects positive₀ negative₀ hints₀ count links₀ names₀ top₀ fresh₀ node₀ turns₀ positive negative hints links names top fresh node turns =
-    (count ≡ length rows / rowSize) × (count ≤ maxRules) × Turn book rows rejects positive₀ negative₀ positive negative links hints names top
+Inv-loop book rows rejects positive₀ negative₀ hints₀ count top₀ fresh₀ node₀ turns₀ positive negative hints top fresh node turns =
+    (count ≡ length rows / rowSize) × (count ≤ maxRules) × Turn book rows rejects positive₀ negative₀ positive negative hints top
 
 abbrev μ-loop : tie.MeasureT-loop
-μ-loop book rows rejects positive₀ negative₀ hints₀ count links₀ names₀ top₀ fresh₀ node₀ turns₀ positive negative hints links names top fresh node turns =
+μ-loop book rows rejects positive₀ negative₀ hints₀ count top₀ fresh₀ node₀ turns₀ positive negative hints top fresh node turns =
     turns
 
 returns : tie.Need-returns Inv-loop μ-loop
@@ -28,10 +29,11 @@ slice-read-if2 c = search needs
 slice-write-hints : tie.Need-slice-write-hints Inv-loop μ-loop
 slice-write-hints c = search needs
 
+clear-links-requires : tie.Need-clear-links-requires Inv-loop μ-loop
+clear-links-requires c κs = let s = c .before .before .before .before .before .before .before .before .before .before .pre .1 .1 in (⊎-elim (λ w. rw (w .1) (simp length-set (s .1))) (λ w. rw (w .1) (s .1)) (c .before .if2 .came), s .0 .few)
+
 loop-holds : tie.Need-loop-holds Inv-loop μ-loop
-loop-holds c =
-    let s = c .before .before .before .before .before .before .before .before .before in
-    (search needs, search needs, record { grown = grown-none _ _; size = s .pre .1 .1 .0; lists = (search needs, ⊎-elim (λ w. rw (w .1) (simp length-set (s .pre .1 .1 .1))) (λ w. rw (w .1) (s .pre .1 .1 .1)) (c .if2 .came), search needs); room = search needs })
+loop-holds c = (search needs, search needs, record { grown = grown-none _ _; room = c .before .before .before .before .before .before .before .before .before .before .before .before .before .pre .1 .1 .0; sizes = (refl, refl); lists = c .before .before .clear-links .ensures; depth = search needs })
 
 sub-turns : tie.Need-sub-turns Inv-loop μ-loop
 sub-turns c = search needs
@@ -48,35 +50,35 @@ same-length-3 c = search needs
 returns-2 : tie.Need-returns-2 Inv-loop μ-loop
 returns-2 c = search needs
 
+add-wide16 : tie.Need-add-wide16 Inv-loop μ-loop
+add-wide16 c = search needs
+
 mul-wide16 : tie.Need-mul-wide16 Inv-loop μ-loop
 mul-wide16 c = search needs
 
-array-read-wide16 : tie.Need-array-read-wide16 Inv-loop μ-loop
-array-read-wide16 c = search needs
+slice-read-wide16 : tie.Need-slice-read-wide16 Inv-loop μ-loop
+slice-read-wide16 c = search needs
 
 wide16-requires : tie.Need-wide16-requires Inv-loop μ-loop
 wide16-requires c κs = search needs
 
-slice-aggregate-settle : tie.Need-slice-aggregate-settle Inv-loop μ-loop
-slice-aggregate-settle c = search needs
-
 settle-requires : tie.Need-settle-requires Inv-loop μ-loop
-settle-requires c κs =
-    let s = c .before .before .before .before .before .before .before .before .before .before .before .before .before .before .before .before .before .before in
-    let l = c .before .before .before .before .before .before .before .before .loop in
-    (s .pre .0, (s .pre .1 .0, (l .inv .2 .size, (search needs, search needs))))
+settle-requires c κs = let l = c .before .before .before .before .before .before .before .before .loop in (c .before .before .before .before .before .before .before .before .before .before .before .before .before .before .before .before .before .before .before .before .before .before .pre .0, (c .before .before .before .before .before .before .before .before .before .before .before .before .before .before .before .before .before .before .before .before .before .before .pre .1 .0, (l .inv .2 .room, (search needs, search needs))))
 
 row-head-requires : tie.Need-row-head-requires Inv-loop μ-loop
 row-head-requires c κs = search needs
 
-cast-names : tie.Need-cast-names Inv-loop μ-loop
-cast-names c = search needs
+cast-hints : tie.Need-cast-hints Inv-loop μ-loop
+cast-hints c = search needs
 
-mul-names : tie.Need-mul-names Inv-loop μ-loop
-mul-names c = search needs
+add-hints : tie.Need-add-hints Inv-loop μ-loop
+add-hints c = search needs
 
-array-write-names : tie.Need-array-write-names Inv-loop μ-loop
-array-write-names c = search needs
+mul-hints : tie.Need-mul-hints Inv-loop μ-loop
+mul-hints c = search needs
+
+slice-write-hints-2 : tie.Need-slice-write-hints-2 Inv-loop μ-loop
+slice-write-hints-2 c = search needs
 
 add-top : tie.Need-add-top Inv-loop μ-loop
 add-top c = search needs
@@ -85,40 +87,43 @@ loop-less : tie.Need-loop-less Inv-loop μ-loop
 loop-less c = search needs
 
 loop-again : tie.Need-loop-again Inv-loop μ-loop
-loop-again c =
-    (search needs, search needs, record { grown = grown-both (c .before .before .before .before .before .before .before .before .before .before .before .before .before .before .before .before .before .before .before .loop .inv .2 .grown) (c .before .before .before .before .before .before .before .before .before .before .settle .ensures); size = search needs; lists = (search needs, search needs, simp length-set (c .before .before .before .before .before .before .before .before .before .before .before .before .before .before .before .before .before .before .before .loop .inv .2 .lists .2)); room = search needs })
+loop-again c = (search needs, search needs, record { grown = grown-both (c .before .before .before .before .before .before .before .before .before .before .before .before .before .before .before .before .before .before .loop .inv .2 .grown) (c .before .before .before .before .before .before .before .before .before .settle .ensures); room = room-same (c .before .before .before .before .before .before .before .before .before .before .before .before .before .before .before .before .before .before .loop .inv .2 .room) _ _ (search needs) (search needs); sizes = (search needs, search needs); lists = simp length-set (search needs); depth = search needs })
 
 loop-less-2 : tie.Need-loop-less-2 Inv-loop μ-loop
 loop-less-2 c = search needs
 
 loop-again-2 : tie.Need-loop-again-2 Inv-loop μ-loop
-loop-again-2 c =
-    (search needs, search needs, record { grown = grown-both (c .before .before .before .before .before .before .before .before .before .before .before .before .before .before .before .before .before .before .loop .inv .2 .grown) (c .before .before .before .before .before .before .before .before .before .settle .ensures); size = search needs; lists = search needs; room = search needs })
+loop-again-2 c = (search needs, search needs, record { grown = grown-both (c .before .before .before .before .before .before .before .before .before .before .before .before .before .before .before .before .before .loop .inv .2 .grown) (c .before .before .before .before .before .before .before .before .settle .ensures); room = room-same (c .before .before .before .before .before .before .before .before .before .before .before .before .before .before .before .before .before .loop .inv .2 .room) _ _ (search needs) (search needs); sizes = (search needs, search needs); lists = search needs; depth = search needs })
 
 loop-less-3 : tie.Need-loop-less-3 Inv-loop μ-loop
 loop-less-3 c = search needs
 
 loop-again-3 : tie.Need-loop-again-3 Inv-loop μ-loop
-loop-again-3 c =
-    (search needs, search needs, record { grown = grown-both (c .before .before .before .before .before .before .before .before .before .before .before .before .before .before .before .before .before .loop .inv .2 .grown) (c .before .before .before .before .before .before .before .before .settle .ensures); size = search needs; lists = search needs; room = search needs })
+loop-again-3 c = (search needs, search needs, record { grown = grown-both (c .before .before .before .before .before .before .before .before .before .before .before .before .before .before .before .before .loop .inv .2 .grown) (c .before .before .before .before .before .before .before .settle .ensures); room = room-same (c .before .before .before .before .before .before .before .before .before .before .before .before .before .before .before .before .loop .inv .2 .room) _ _ (search needs) (search needs); sizes = (search needs, search needs); lists = search needs; depth = search needs })
 
 sub-top : tie.Need-sub-top Inv-loop μ-loop
 sub-top c = search needs
 
+add-wide16-2 : tie.Need-add-wide16-2 Inv-loop μ-loop
+add-wide16-2 c = search needs
+
 mul-wide16-2 : tie.Need-mul-wide16-2 Inv-loop μ-loop
 mul-wide16-2 c = search needs
 
-array-read-wide16-2 : tie.Need-array-read-wide16-2 Inv-loop μ-loop
-array-read-wide16-2 c = search needs
+slice-read-wide16-2 : tie.Need-slice-read-wide16-2 Inv-loop μ-loop
+slice-read-wide16-2 c = search needs
 
 wide16-requires-2 : tie.Need-wide16-requires-2 Inv-loop μ-loop
 wide16-requires-2 c κs = search needs
 
+add-wide16-3 : tie.Need-add-wide16-3 Inv-loop μ-loop
+add-wide16-3 c = search needs
+
 mul-wide16-3 : tie.Need-mul-wide16-3 Inv-loop μ-loop
 mul-wide16-3 c = search needs
 
-array-read-wide16-3 : tie.Need-array-read-wide16-3 Inv-loop μ-loop
-array-read-wide16-3 c = search needs
+slice-read-wide16-3 : tie.Need-slice-read-wide16-3 Inv-loop μ-loop
+slice-read-wide16-3 c = search needs
 
 wide16-requires-3 : tie.Need-wide16-requires-3 Inv-loop μ-loop
 wide16-requires-3 c κs = search needs
@@ -127,7 +132,7 @@ loop-less-4 : tie.Need-loop-less-4 Inv-loop μ-loop
 loop-less-4 c = search needs
 
 loop-again-4 : tie.Need-loop-again-4 Inv-loop μ-loop
-loop-again-4 c = let l = c .before .before .before .before .before .loop in (search needs, search needs, record { grown = l .inv .2 .grown; size = l .inv .2 .size; lists = l .inv .2 .lists; room = search needs })
+loop-again-4 c = let l = c .before .before .before .before .before .before .before .loop in (search needs, search needs, record { grown = l .inv .2 .grown; room = l .inv .2 .room; sizes = l .inv .2 .sizes; lists = l .inv .2 .lists; depth = search needs })
 
 add-node : tie.Need-add-node Inv-loop μ-loop
 add-node c = search needs
@@ -174,21 +179,23 @@ propagate-spec =
     returns
     slice-read-if2
     slice-write-hints
+    clear-links-requires
     loop-holds
     sub-turns
     same-length
     same-length-2
     same-length-3
     returns-2
+    add-wide16
     mul-wide16
-    array-read-wide16
+    slice-read-wide16
     wide16-requires
-    slice-aggregate-settle
     settle-requires
     row-head-requires
-    cast-names
-    mul-names
-    array-write-names
+    cast-hints
+    add-hints
+    mul-hints
+    slice-write-hints-2
     add-top
     loop-less
     loop-again
@@ -197,11 +204,13 @@ propagate-spec =
     loop-less-3
     loop-again-3
     sub-top
+    add-wide16-2
     mul-wide16-2
-    array-read-wide16-2
+    slice-read-wide16-2
     wide16-requires-2
+    add-wide16-3
     mul-wide16-3
-    array-read-wide16-3
+    slice-read-wide16-3
     wide16-requires-3
     loop-less-4
     loop-again-4

@@ -1,5 +1,5 @@
 -- The three tests of the definition, one after the other.
-use Rattle.filling.proofs.MarkLaws.{adds-not, adds-dead, adds-body}
+use Rattle.filling.proofs.MarkLaws.{head-within, adds-not, adds-dead, adds-body}
 use borrow.Author.Needs.{needs}
 use Rattle.filling.proofs.row_adds.Statement.{statement}
 use Rattle.filling.proofs.row_adds.Tie as tie
@@ -8,7 +8,7 @@ row-head-requires : tie.Need-row-head-requires
 row-head-requires c κs = search needs
 
 name-marked-requires : tie.Need-name-marked-requires
-name-marked-requires c κs = search needs
+name-marked-requires c κs = let w = c .before .before .before .before .before .before .before .pre .1 .1 .0 in (w .same, head-within w _ _ (c .before .before .before .before .before .before .before .pre .1 .1 .1) (c .row-head .ensures .0))
 
 returns : tie.Need-returns
 returns c =

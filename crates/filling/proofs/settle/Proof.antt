@@ -1,4 +1,5 @@
 -- Only the trial of the head marks anything, and it marks what follows.
+use Rattle.filling.proofs.MarkLaws.{head-within}
 use borrow.Author.Needs.{needs}
 use Rattle.filling.proofs.settle.Statement.{statement}
 use Rattle.filling.proofs.settle.Tie as tie
@@ -7,7 +8,7 @@ row-head-requires : tie.Need-row-head-requires
 row-head-requires c κs = search needs
 
 name-marked-requires : tie.Need-name-marked-requires
-name-marked-requires c κs = search needs
+name-marked-requires c κs = let w = c .before .before .before .before .before .before .before .before .before .pre .1 .1 .0 in (w .same, head-within w _ _ (c .before .before .before .before .before .before .before .before .before .pre .1 .1 .1 .1 .0) (c .row-head .ensures .0))
 
 same-length : tie.Need-same-length
 same-length c = search needs
@@ -42,17 +43,17 @@ same-length-6 c = search needs
 same-length-7 : tie.Need-same-length-7
 same-length-7 c = search needs
 
-same-length-8 : tie.Need-same-length-8
-same-length-8 c = search needs
-
 returns-3 : tie.Need-returns-3
 returns-3 c = search needs
 
 add-head-requires : tie.Need-add-head-requires
-add-head-requires c κs = let s = c .before .before .before .before .before .before .before .before .before .before .before .before .before .before .before .before .before .before .before .before .before .before .before .before .before .before .before in (s .pre .0, (s .pre .1 .0, (s .pre .1 .1 .0, search needs)))
+add-head-requires c κs = (c .before .before .before .before .before .before .before .before .before .before .before .before .before .before .before .before .before .before .before .before .before .before .before .pre .0, (c .before .before .before .before .before .before .before .before .before .before .before .before .before .before .before .before .before .before .before .before .before .before .before .pre .1 .0, (c .before .before .before .before .before .before .before .before .before .before .before .before .before .before .before .before .before .before .before .before .before .before .before .pre .1 .1 .0, c .before .before .before .before .before .before .before .before .before .before .before .before .before .before .before .before .before .before .before .before .before .before .before .pre .1 .1 .1 .1 .0)))
 
 remember-requires : tie.Need-remember-requires
-remember-requires c κs = search (needs, c .before .before .before .before .before .before .before .before .before .before .before .before .hints, c .before .before .before .before .before .before .before .before .before .before .before .before .before .before .before .before .before .before .before .before .before .before .before .before .before .before .before .before .before .before .before .before .before .before .pre .1 .1 .1 .0)
+remember-requires c κs = search (needs, c .before .before .before .before .before .before .before .before .before .before .before .before .hints, c .before .before .before .before .before .before .before .before .before .before .before .before .before .before .before .before .before .before .before .before .before .before .before .before .before .before .before .before .before .before .pre .1 .1 .1 .0)
+
+same-length-8 : tie.Need-same-length-8
+same-length-8 c = search needs
 
 same-length-9 : tie.Need-same-length-9
 same-length-9 c = search needs
@@ -60,26 +61,17 @@ same-length-9 c = search needs
 same-length-10 : tie.Need-same-length-10
 same-length-10 c = search needs
 
+returns-4 : tie.Need-returns-4
+returns-4 c = search needs
+
 same-length-11 : tie.Need-same-length-11
 same-length-11 c = search needs
 
 same-length-12 : tie.Need-same-length-12
 same-length-12 c = search needs
 
-returns-4 : tie.Need-returns-4
-returns-4 c = search needs
-
 same-length-13 : tie.Need-same-length-13
 same-length-13 c = search needs
-
-same-length-14 : tie.Need-same-length-14
-same-length-14 c = search needs
-
-same-length-15 : tie.Need-same-length-15
-same-length-15 c = search needs
-
-same-length-16 : tie.Need-same-length-16
-same-length-16 c = search needs
 
 returns-5 : tie.Need-returns-5
 returns-5 c = search needs
@@ -101,17 +93,14 @@ settle-spec =
     same-length-5
     same-length-6
     same-length-7
-    same-length-8
     returns-3
     add-head-requires
     remember-requires
+    same-length-8
     same-length-9
     same-length-10
+    returns-4
     same-length-11
     same-length-12
-    returns-4
     same-length-13
-    same-length-14
-    same-length-15
-    same-length-16
     returns-5)

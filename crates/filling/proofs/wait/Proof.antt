@@ -1,4 +1,4 @@
--- Nothing is said of the lists but that they keep their lengths.
+-- All places are inside the hints, and nothing is said of what stands there.
 use lib.ListN.{length-set}
 use borrow.Author.Needs.{needs}
 use Rattle.filling.proofs.wait.Statement.{statement}
@@ -49,38 +49,44 @@ mul-hints c = search needs
 slice-write-hints : tie.Need-slice-write-hints
 slice-write-hints c = search needs
 
-mul-links : tie.Need-mul-links
-mul-links c = search needs
+add-hints : tie.Need-add-hints
+add-hints c = search needs
 
-slice-read-links : tie.Need-slice-read-links
-slice-read-links c = search needs
+mul-hints-2 : tie.Need-mul-hints-2
+mul-hints-2 c = search needs
 
-add-links : tie.Need-add-links
-add-links c = search needs
+slice-read-hints : tie.Need-slice-read-hints
+slice-read-hints c = simp length-set (search needs)
 
-mul-links-2 : tie.Need-mul-links-2
-mul-links-2 c = search needs
+add-hints-2 : tie.Need-add-hints-2
+add-hints-2 c = search needs
 
-slice-write-links : tie.Need-slice-write-links
-slice-write-links c = search needs
+add-hints-3 : tie.Need-add-hints-3
+add-hints-3 c = search needs
 
-add-links-2 : tie.Need-add-links-2
-add-links-2 c = search needs
+mul-hints-3 : tie.Need-mul-hints-3
+mul-hints-3 c = search needs
 
-cast-links : tie.Need-cast-links
-cast-links c = search needs
+slice-write-hints-2 : tie.Need-slice-write-hints-2
+slice-write-hints-2 c = simp length-set (search needs)
 
-mul-links-3 : tie.Need-mul-links-3
-mul-links-3 c = search needs
+add-hints-4 : tie.Need-add-hints-4
+add-hints-4 c = search needs
 
-slice-write-links-2 : tie.Need-slice-write-links-2
-slice-write-links-2 c = simp length-set (search needs)
+cast-hints-2 : tie.Need-cast-hints-2
+cast-hints-2 c = search needs
+
+add-hints-5 : tie.Need-add-hints-5
+add-hints-5 c = search needs
+
+mul-hints-4 : tie.Need-mul-hints-4
+mul-hints-4 c = search needs
+
+slice-write-hints-3 : tie.Need-slice-write-hints-3
+slice-write-hints-3 c = simp length-set (search needs)
 
 same-length : tie.Need-same-length
 same-length c = search needs
-
-same-length-2 : tie.Need-same-length-2
-same-length-2 c = search needs
 
 returns-2 : tie.Need-returns-2
 returns-2 c = search needs
@@ -104,15 +110,17 @@ wait-spec =
     cast-hints
     mul-hints
     slice-write-hints
-    mul-links
-    slice-read-links
-    add-links
-    mul-links-2
-    slice-write-links
-    add-links-2
-    cast-links
-    mul-links-3
-    slice-write-links-2
+    add-hints
+    mul-hints-2
+    slice-read-hints
+    add-hints-2
+    add-hints-3
+    mul-hints-3
+    slice-write-hints-2
+    add-hints-4
+    cast-hints-2
+    add-hints-5
+    mul-hints-4
+    slice-write-hints-3
     same-length
-    same-length-2
     returns-2)

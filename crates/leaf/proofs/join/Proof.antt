@@ -1,33 +1,33 @@
--- The invariant: the marks are those at entry and, of the atoms passed, those of the start. The atoms left fall.
-use mathlib.Core.Path.{_≡_}
+-- Of the facts passed, those that the setting denies are marked. The facts left fall.
+use mathlib.Core.Path.{_≡_, refl, sym, _∙_}
 use mathlib.Core.Logic.{⊎-elim}
-use Prim.Native.Nat.{_-_}
+use Prim.Native.Nat.{_-_, _≤_}
 use lib.ListN.{length, length-set}
-use Rattle.base.specs.Bounds.{maxAtoms}
-use Rattle.leaf.specs.Searchable.{Joined}
+use Rattle.leaf.specs.Searchable.{deniedOf, Joined}
+use Rattle.leaf.proofs.ModelLaws.{choices-low, denied-is}
 use Rattle.leaf.proofs.GoingOnLaws.{joined-start, joined-skip, joined-more}
-use native.Mathlib.Omega.{arith}
 use borrow.Author.Needs.{needs}
+use native.Mathlib.Omega.{arith}
 use Rattle.leaf.proofs.join.Statement.{statement}
 use Rattle.leaf.proofs.join.Tie as tie
 
 abbrev Inv-loop : tie.InvT-loop
-Inv-loop atoms start joined₀ i₀ joined i = (length joined ≡ maxAtoms) × Joined atoms start joined₀ joined i
+Inv-loop atoms standing negative₀ i₀ negative i = (length negative ≡ length negative₀) × (i ≤ length atoms) × Joined atoms (deniedOf atoms standing) negative₀ negative i
 
 abbrev μ-loop : tie.MeasureT-loop
-μ-loop atoms start joined₀ i₀ joined i = length atoms - i
+μ-loop atoms standing negative₀ i₀ negative i = length atoms - i
 
 loop-holds : tie.Need-loop-holds Inv-loop μ-loop
-loop-holds c = (search needs, joined-start (c .before .args .atoms .now) _ _)
+loop-holds c = (refl, search needs, joined-start _ _ _)
 
 atom-at-requires : tie.Need-atom-at-requires Inv-loop μ-loop
-atom-at-requires c κs = search needs
+atom-at-requires c κs = (c .loop-test .taken, choices-low (c .before .before .before .before .pre))
 
-array-read-if1 : tie.Need-array-read-if1 Inv-loop μ-loop
-array-read-if1 c = omega (arith, c .atom-at .ensures .1)
+stands-requires : tie.Need-stands-requires Inv-loop μ-loop
+stands-requires c κs = omega (arith, c .before .before .before .before .before .pre .few, c .before .loop-test .taken)
 
-array-write-joined : tie.Need-array-write-joined Inv-loop μ-loop
-array-write-joined c = omega (arith, c .before .atom-at .ensures .1, c .before .before .before .loop .inv .0)
+slice-write-negative : tie.Need-slice-write-negative Inv-loop μ-loop
+slice-write-negative c = omega (arith, c .before .before .before .before .before .before .before .pre .low _ (c .before .before .before .loop-test .taken), c .before .before .atom-at .ensures .0, c .before .before .before .before .loop .inv .0)
 
 add-i : tie.Need-add-i Inv-loop μ-loop
 add-i c = search needs
@@ -37,16 +37,22 @@ loop-less c = search needs
 
 loop-again : tie.Need-loop-again Inv-loop μ-loop
 loop-again c =
-    let e = c .before .before .before .before .before .args in
-    let l = c .before .before .before .loop in
-    let f = c .before .atom-at in
+    let l = c .before .before .before .before .loop in
+    let f = c .before .before .atom-at in
+    let s = c .before .stands in
+    let a = c .before .before .before .before .before .before .before .args .atoms .now in
+    let k = denied-is (c .before .before .before .before .before .before .before .pre) (c .before .before .before .before .before .before .before .args .standing) (c .before .before .before .loop-test .taken) (f .result) (f .ensures .0) (s .result) (s .ensures) in
+    let b = c .before .before .before .before .before .before .before .pre .low _ (c .before .before .before .loop-test .taken) in
     ⊎-elim
-    (λ w. rw (w .1) (simp length-set (l .inv .0), joined-more (e .atoms .now) _ _ (l .inv .1) (f .result) (f .ensures .0) (l .inv .0) (f .ensures .1) (w .0 .taken)))
-    (λ w. rw (w .1) (l .inv .0, joined-skip (e .atoms .now) _ _ (l .inv .1) (f .result) (f .ensures .0) (w .0 .left)))
+    (λ w. rw (w .1) (simp length-set (l .inv .0), search needs, joined-more a _ _ (l .inv .2) (f .result) (f .ensures .0) (omega (arith, b, f .ensures .0, l .inv .0)) (sym k ∙ w .0 .taken)))
+    (λ w. rw (w .1) (l .inv .0, search needs, joined-skip a _ _ (l .inv .2) (f .result) (f .ensures .0) (sym k ∙ w .0 .left)))
     (c .if1 .came)
 
+same-length : tie.Need-same-length Inv-loop μ-loop
+same-length c = search needs
+
 returns : tie.Need-returns Inv-loop μ-loop
-returns c = let l = c .before .loop in record { sound = l .inv .1 .sound; keeps = l .inv .1 .keeps; full = λ i h. l .inv .1 .full i (omega (arith, c .loop-test .left)) }
+returns c = let l = c .before .loop in record { sound = l .inv .2 .sound; keeps = l .inv .2 .keeps; full = λ i h. l .inv .2 .full i (omega (arith, c .loop-test .left)) }
 
 pub join-spec : {M : Type 1} → statement M
 join-spec =
@@ -56,9 +62,10 @@ join-spec =
     μ-loop
     loop-holds
     atom-at-requires
-    array-read-if1
-    array-write-joined
+    stands-requires
+    slice-write-negative
     add-i
     loop-less
     loop-again
+    same-length
     returns)

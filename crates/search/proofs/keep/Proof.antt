@@ -13,10 +13,10 @@ record-size-requires : tie.Need-record-size-requires
 record-size-requires c κs = search needs
 
 mul-put-state : tie.Need-mul-put-state
-mul-put-state c = let a = c .before .before .before .before .before .args in omega (arith, times-fit (a .count) (c .record-size .result) (omega (arith, c .before .before .before .before .before .pre .1)) (c .record-size .ensures .1))
+mul-put-state c = let a = c .before .before .before .before .before .before .args in omega (arith, times-fit (a .count) (c .record-size .result) (omega (arith, c .before .before .before .before .before .before .pre .1)) (c .record-size .ensures .1))
 
 put-state-requires : tie.Need-put-state-requires
-put-state-requires c κs = let a = c .before .before .before .before .before .args in (c .before .before .before .before .before .pre .0, place-fits (a .goal) (a .n) (a .count) _ (a .part .now) (c .before .before .enum-told .given .1) (c .record-size .ensures .0) (c .before .before .before .before .before .pre .2))
+put-state-requires c κs = let a = c .before .before .before .before .before .before .args in (c .before .before .before .before .before .before .pre .3, c .before .before .before .before .before .before .pre .0, place-fits (a .goal) (a .n) (a .count) _ (a .part .now) (c .before .before .enum-told .given .1) (c .record-size .ensures .0) (c .before .before .before .before .before .before .pre .2))
 
 enum-known-goal : tie.Need-enum-known-goal
 enum-known-goal c = search needs
@@ -25,7 +25,7 @@ enum-told-2 : tie.Need-enum-told-2
 enum-told-2 c = search needs
 
 put-state-requires-2 : tie.Need-put-state-requires-2
-put-state-requires-2 c κs = let a = c .before .before .before .before .before .args in (c .before .before .before .before .before .pre .0, front-fits (a .goal) (a .n) (a .count) (a .part .now) (c .before .before .enum-told2 .given .1) (c .before .before .before .before .before .pre .2))
+put-state-requires-2 c κs = let a = c .before .before .before .before .before .before .args in (c .before .before .before .before .before .before .pre .3, c .before .before .before .before .before .before .pre .0, front-fits (a .goal) (a .n) (a .count) (a .part .now) (c .before .before .enum-told2 .given .1) (c .before .before .before .before .before .before .pre .2))
 
 enum-told-3 : tie.Need-enum-told-3
 enum-told-3 c = search needs
@@ -33,44 +33,35 @@ enum-told-3 c = search needs
 enum-told-4 : tie.Need-enum-told-4
 enum-told-4 c = search needs
 
-sub-add-state : tie.Need-sub-add-state
-sub-add-state c = search needs
-
-part-add-state-start : tie.Need-part-add-state-start
-part-add-state-start c = search needs
-
-part-add-state-end : tie.Need-part-add-state-end
-part-add-state-end c = search needs
-
 add-state-requires : tie.Need-add-state-requires
-add-state-requires c κs = let a = c .before .before .before .before .before .before .args in sums-fit (a .goal) (a .n) (a .count) (a .t2) (a .part .now) (c .before .before .before .enum-told4 .given .1) (search needs) (c .before .before .before .before .before .before .pre .0) (c .before .before .before .before .before .before .pre .2)
+add-state-requires c κs = let a = c .before .before .before .before .before .args in sums-fit (a .goal) (a .n) (a .count) (a .state .now) (a .part .now) (c .before .enum-told4 .given .1) (c .before .before .before .before .before .pre .3) (c .before .before .before .before .before .pre .0) (c .before .before .before .before .before .pre .2)
 
 same-length : tie.Need-same-length
 same-length c = search needs
 
 returns : tie.Need-returns
-returns c = let a = c .before .before .before .before .before .before .before .before .args in keep-listed (a .goal) (a .n) (a .count) _ (a .part .now) (c .before .before .before .before .before .enum-told .given .1) _ (c .before .before .before .record-size .ensures .0) _ (c .before .before .put-state .ensures)
+returns c = let a = c .before .before .before .before .before .before .before .before .before .args in keep-listed (a .goal) (a .n) (a .count) _ (a .part .now) (c .before .before .before .before .before .enum-told .given .1) _ (c .before .before .before .record-size .ensures .0) _ (c .before .before .put-state .ensures)
 
 returns-2 : tie.Need-returns-2
-returns-2 c = let a = c .before .before .before .before .args in keep-count (a .goal) (a .n) (a .count) _ (a .part .now) _ (c .before .goal .given .1)
+returns-2 c = let a = c .before .before .before .before .before .args in keep-count (a .goal) (a .n) (a .count) _ (a .part .now) _ (c .before .goal .given .1)
 
 same-length-2 : tie.Need-same-length-2
 same-length-2 c = search needs
 
 returns-3 : tie.Need-returns-3
-returns-3 c = let a = c .before .before .before .before .before .before .before .before .args in keep-first (a .goal) (a .n) (a .count) _ (a .part .now) (c .before .before .before .before .before .enum-told2 .given .1) (c .before .before .before .before .if1 .taken) _ (c .before .before .put-state2 .ensures)
+returns-3 c = let a = c .before .before .before .before .before .before .before .before .before .args in keep-first (a .goal) (a .n) (a .count) _ (a .part .now) (c .before .before .before .before .before .enum-told2 .given .1) (c .before .before .before .before .if1 .taken) _ (c .before .before .put-state2 .ensures)
 
 returns-4 : tie.Need-returns-4
-returns-4 c = let a = c .before .before .before .before .args in keep-later (a .goal) (a .n) (a .count) _ (a .part .now) (c .before .enum-told2 .given .1) (c .if1 .left)
+returns-4 c = let a = c .before .before .before .before .before .args in keep-later (a .goal) (a .n) (a .count) _ (a .part .now) (c .before .enum-told2 .given .1) (c .if1 .left)
 
 returns-5 : tie.Need-returns-5
-returns-5 c = let a = c .before .before .before .args in keep-settle (a .goal) (a .n) (a .count) _ (a .part .now) (c .enum-told3 .given .1)
+returns-5 c = let a = c .before .before .before .before .args in keep-settle (a .goal) (a .n) (a .count) _ (a .part .now) (c .enum-told3 .given .1)
 
 same-length-3 : tie.Need-same-length-3
 same-length-3 c = search needs
 
 returns-6 : tie.Need-returns-6
-returns-6 c = let a = c .before .before .before .before .before .before .before .before .before .args in keep-sums (a .goal) (a .n) (a .count) _ (a .part .now) (c .before .before .before .before .before .before .enum-told4 .given .1) _ (c .before .before .add-state .ensures ∙ sums-of (a .n) (a .t2) (a .part .now) (search needs) (c .before .before .before .before .before .before .before .before .before .pre .0))
+returns-6 c = let a = c .before .before .before .before .before .before .before .before .args in keep-sums (a .goal) (a .n) (a .count) _ (a .part .now) (c .before .before .before .before .enum-told4 .given .1) _ (c .before .before .add-state .ensures ∙ sums-of (a .n) (a .state .now) (a .part .now) (c .before .before .before .before .before .before .before .before .pre .3))
 
 pub keep-spec : {M : Type 1} → statement M
 keep-spec =
@@ -85,9 +76,6 @@ keep-spec =
     put-state-requires-2
     enum-told-3
     enum-told-4
-    sub-add-state
-    part-add-state-start
-    part-add-state-end
     add-state-requires
     same-length
     returns

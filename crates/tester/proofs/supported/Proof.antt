@@ -4,23 +4,27 @@ use mathlib.Core.Path.{_≡_, refl, sym, subst}
 use mathlib.Core.Logic.{⊎-elim}
 use mathlib.Core.Bool.{true≢false}
 use Prim.Native.Nat.{_-_, _/_, _≤_}
-use lib.ListN.{length}
+use lib.ListN.{length, length-set}
 use Rattle.table.specs.Rows.{rowSize}
 use Rattle.tester.specs.Masks.{Supported}
-use Rattle.tester.proofs.MaskLaws.{supported-start, supported-negated, supported-not, supported-more, violation-at}
+use Rattle.tester.proofs.MaskLaws.{supported-start, supported-other, supported-not, supported-more, violation-at}
 use borrow.Author.Needs.{needs}
 use native.Mathlib.Omega.{arith}
 use Rattle.tester.proofs.supported.Statement.{statement}
 use Rattle.tester.proofs.supported.Tie as tie
 
 abbrev Inv-loop : tie.InvT-loop
-Inv-loop book rows rejects m count atoms₀ j₀ atoms j = (count ≡ length rows / rowSize) × (j ≤ count) × Supported book rows m atoms j
+Inv-loop book rows rejects m atoms₀ count j₀ atoms j =
+    (count ≡ length rows / rowSize) × (j ≤ count) × (length atoms ≡ length atoms₀) × Supported book rows m atoms j
 
 abbrev μ-loop : tie.MeasureT-loop
-μ-loop book rows rejects m count atoms₀ j₀ atoms j = count - j
+μ-loop book rows rejects m atoms₀ count j₀ atoms j = count - j
+
+clear-marks-requires : tie.Need-clear-marks-requires Inv-loop μ-loop
+clear-marks-requires c κs = search needs
 
 loop-holds : tie.Need-loop-holds Inv-loop μ-loop
-loop-holds c = (refl, omega arith, supported-start)
+loop-holds c = (search needs, search needs, refl, supported-start _ (c .before .before .before .before .before .before .before .before .before .pre .1 .1) _ (c .before .before .clear-marks .ensures))
 
 row-holds-requires : tie.Need-row-holds-requires Inv-loop μ-loop
 row-holds-requires c κs = search needs
@@ -34,6 +38,9 @@ row-alive-requires c κs = search needs
 name-holds-requires : tie.Need-name-holds-requires Inv-loop μ-loop
 name-holds-requires c κs = search needs
 
+same-length : tie.Need-same-length Inv-loop μ-loop
+same-length c = search needs
+
 returns : tie.Need-returns Inv-loop μ-loop
 returns c =
     let l = c .before .before .before .before .before .before .before .before .loop in
@@ -46,8 +53,8 @@ returns c =
       violation = λ e. violation-at (l .j) (search needs) (a .result) (a .ensures) (c .before .before .if2 .taken) (k .result) (k .ensures) (c .before .before .before .before .before .if1 .taken) (h .result) (h .ensures .0) (x .result) (x .ensures) (c .if3 .taken);
     }
 
-array-write-atoms : tie.Need-array-write-atoms Inv-loop μ-loop
-array-write-atoms c = search needs
+slice-write-atoms : tie.Need-slice-write-atoms Inv-loop μ-loop
+slice-write-atoms c = search needs
 
 add-j : tie.Need-add-j Inv-loop μ-loop
 add-j c = search needs
@@ -57,22 +64,25 @@ loop-less c = search needs
 
 loop-again : tie.Need-loop-again Inv-loop μ-loop
 loop-again c =
-    let w = c .before .before .before .loop .inv .2 in
+    let w = c .before .before .before .loop .inv .3 in
     let k = c .before .row-holds in
     ⊎-elim
-    (λ v. (refl, omega arith, rw (v .5) (supported-more w (v .1 .result) (v .1 .ensures .0) (k .result) (v .4 .taken) (k .ensures) (v .0 .taken))))
+    (λ v. (search needs, search needs, rw (v .5) (simp length-set (c .before .before .before .loop .inv .2)), rw (v .5) (supported-more w (v .1 .result) (v .1 .ensures .0) (k .result) (v .4 .taken) (k .ensures) (v .0 .taken))))
     (λ u. ⊎-elim
-    (λ v. (refl, omega arith, rw (v .5) (supported-negated w (v .1 .result) (v .1 .ensures .0) (v .4 .left))))
-    (λ v. (refl, omega arith, rw (v .1) (supported-not w (k .result) (k .ensures) (v .0 .left))))
+    (λ v. (search needs, search needs, rw (v .5) (c .before .before .before .loop .inv .2), rw (v .5) (supported-other w (v .1 .result) (v .1 .ensures .0) (v .4 .left))))
+    (λ v. (search needs, search needs, rw (v .1) (c .before .before .before .loop .inv .2), rw (v .1) (supported-not w (k .result) (k .ensures) (v .0 .left))))
     u)
     (c .if1 .came)
 
+same-length-2 : tie.Need-same-length-2 Inv-loop μ-loop
+same-length-2 c = search needs
+
 returns-2 : tie.Need-returns-2 Inv-loop μ-loop
 returns-2 c =
-    let e = c .before .before .before .before .before .before .args in
+    let e = c .before .before .before .before .before .before .before .before .before .before .before .args in
     let l = c .before .loop in
     record {
-      support = λ y. subst (Supported (e .book .now) (e .rows .now) (e .m .now) (l .atoms)) {x = l .j} {y = length (e .rows .now) / rowSize} (omega (arith, c .loop-test .left, l .inv .1)) (l .inv .2);
+      support = λ y. subst (Supported (e .book .now) (e .rows .now) (e .m .now) (l .atoms)) {x = l .j} {y = length (e .rows .now) / rowSize} (omega (arith, c .loop-test .left, l .inv .0, l .inv .1)) (l .inv .3);
       violation = λ y. absurd (true≢false (sym y));
     }
 
@@ -82,14 +92,17 @@ supported-spec =
     (tie.spec
     Inv-loop
     μ-loop
+    clear-marks-requires
     loop-holds
     row-holds-requires
     row-head-requires
     row-alive-requires
     name-holds-requires
+    same-length
     returns
-    array-write-atoms
+    slice-write-atoms
     add-j
     loop-less
     loop-again
+    same-length-2
     returns-2)
