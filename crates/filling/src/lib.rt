@@ -338,6 +338,7 @@ fn clear_links(hints: &mut [u16], n: usize)
 // Marks more of what follows, by waiting lists: a row waits for a literal of its body that is not marked, and is tried again when that
 // one is. Only the order of trying is new: what is added is tested on the spot, and the passes of a filling say when nothing is left.
 // A link leads from a name to the first row that waits for it, and from a row, at MAX_NAMES and its number, to the next; 0 ends a list.
+// The links of an earlier filling are still there: those of the names are cleared at once, a row's own when it is first taken up.
 // On the stack of names are those just marked, `fresh` is the first row not tried yet, `node` the next row of the list in hand. No lawful
 // book takes all the turns.
 fn propagate(
@@ -385,6 +386,7 @@ fn propagate(
             node = wide16(hints[LINKS + wide16(hints[NAMES + top]) % MAX_NAMES]);
         } else if fresh < count {
             node = MAX_NAMES + fresh;
+            hints[LINKS + node] = 0;
             fresh += 1;
         } else {
             return;

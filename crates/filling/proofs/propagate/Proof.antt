@@ -137,6 +137,15 @@ loop-again-4 c = let l = c .before .before .before .before .before .before .befo
 add-node : tie.Need-add-node Inv-loop μ-loop
 add-node c = search needs
 
+add-hints-2 : tie.Need-add-hints-2 Inv-loop μ-loop
+add-hints-2 c = search needs
+
+mul-hints-2 : tie.Need-mul-hints-2 Inv-loop μ-loop
+mul-hints-2 c = search needs
+
+slice-write-hints-3 : tie.Need-slice-write-hints-3 Inv-loop μ-loop
+slice-write-hints-3 c = search needs
+
 add-fresh : tie.Need-add-fresh Inv-loop μ-loop
 add-fresh c = search needs
 
@@ -144,7 +153,7 @@ loop-less-5 : tie.Need-loop-less-5 Inv-loop μ-loop
 loop-less-5 c = search needs
 
 loop-again-5 : tie.Need-loop-again-5 Inv-loop μ-loop
-loop-again-5 c = search needs
+loop-again-5 c = let l = c .before .before .before .before .loop in (search needs, search needs, record { grown = l .inv .2 .grown; room = l .inv .2 .room; sizes = l .inv .2 .sizes; lists = simp length-set (l .inv .2 .lists); depth = search needs })
 
 same-length-4 : tie.Need-same-length-4 Inv-loop μ-loop
 same-length-4 c = search needs
@@ -215,6 +224,9 @@ propagate-spec =
     loop-less-4
     loop-again-4
     add-node
+    add-hints-2
+    mul-hints-2
+    slice-write-hints-3
     add-fresh
     loop-less-5
     loop-again-5
