@@ -351,9 +351,10 @@ const REVERSED: Following = Following {
 };
 
 fn checks_and_tests(table: &Table) {
-    table.check("largest lawful book", &shapes::largest(&mut rng("largest")));
+    let largest = shapes::largest(&mut rng("largest"), BYTE_ATOMS);
+    table.check("largest lawful book", &largest);
     table.check("B", &shapes::book_b());
-    let planted = shapes::planted_largest(&mut rng("planted largest"));
+    let planted = shapes::planted_largest(&mut rng("planted largest"), BYTE_ATOMS);
     table.test("largest lawful book", &planted);
     table.test(
         "1,024 rules, worst order for filling",

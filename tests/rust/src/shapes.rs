@@ -558,18 +558,18 @@ pub fn planted(rng: &mut Rng) -> Planted {
 }
 
 /// The same in the largest lawful book, with 1,024 rules of 16 literals.
-pub fn planted_largest(rng: &mut Rng) -> Planted {
-    plant_largest(rng, 0)
+pub fn planted_largest(rng: &mut Rng, atoms: u16) -> Planted {
+    plant_largest(rng, atoms, 0)
 }
 
 /// The same with constraints for most of the rules that the state does not need.
-pub fn planted_constrained(rng: &mut Rng) -> Planted {
-    plant_largest(rng, 80)
+pub fn planted_constrained(rng: &mut Rng, atoms: u16) -> Planted {
+    plant_largest(rng, atoms, 80)
 }
 
-fn plant_largest(rng: &mut Rng, constraints: usize) -> Planted {
+fn plant_largest(rng: &mut Rng, atoms: u16, constraints: usize) -> Planted {
     let sizes = Sizes {
-        atoms: rng.pick(&[BYTE_ATOMS, MAX_ATOMS]).into(),
+        atoms: atoms.into(),
         layers: 32,
         arrows: 0,
         rules: 1024,
@@ -692,9 +692,9 @@ pub fn large(rng: &mut Rng) -> Book {
 
 /// The largest lawful book: 38,372 bytes. Its arrows are those of a line of 32 layers, all of
 /// them, and the first of its arrows leads from the line's first layer to its last.
-pub fn largest(rng: &mut Rng) -> Book {
+pub fn largest(rng: &mut Rng, atoms: u16) -> Book {
     let sizes = Sizes {
-        atoms: MAX_ATOMS.into(),
+        atoms: atoms.into(),
         layers: 32,
         arrows: 0,
         rules: 1024,

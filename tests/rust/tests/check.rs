@@ -314,7 +314,7 @@ fn engine_and_reader_agree_on_every_change_of_one_byte_of_b() {
 
 /// The largest lawful book after an edit of its draft.
 fn largest_with(edit: impl Fn(&mut Draft)) -> Vec<u8> {
-    let mut draft = shapes::largest(&mut Rng::named(seed(), "largest")).draft();
+    let mut draft = shapes::largest(&mut Rng::named(seed(), "largest"), MAX_ATOMS).draft();
     edit(&mut draft);
     draft.bytes()
 }

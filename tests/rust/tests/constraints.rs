@@ -589,11 +589,12 @@ fn one_constraint_of_the_largest_book_decides_about_a_candidate() {
     let seed = seed();
     let mut rng = Rng::named(seed, "constraints, planted");
     for index in 0..20 {
+        let atoms = [BYTE_ATOMS, MAX_ATOMS][index % 2];
         let shapes::Planted {
             mut book,
             layer,
             state,
-        } = shapes::planted_constrained(&mut rng);
+        } = shapes::planted_constrained(&mut rng, atoms);
         let what = format!("seed {seed}, constraints, planted, book {index}");
         let record = oracle::record(&state);
         let drive = Drive::from(layer);

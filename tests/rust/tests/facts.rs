@@ -289,7 +289,7 @@ fn the_headers_bounds_follow_from_the_most_facts() {
     assert_eq!(states, 1 << MAX_BRANCHING);
     let listing = oracle::listing(MAX_ATOMS, &[]).len() + states * LONGEST_RECORD;
     assert_eq!(in_the_header("LESSON_LARGEST_LISTING"), listing);
-    let book = shapes::largest(&mut Rng::named(seed(), "facts, largest"));
+    let book = shapes::largest(&mut Rng::named(seed(), "facts, largest"), MAX_ATOMS);
     assert_eq!(in_the_header("LESSON_LARGEST_BOOK"), book.bytes().len());
 }
 

@@ -282,7 +282,7 @@ fn with_every_layer_off_the_empty_state_alone_is_stable_and_g_is_0() {
     let mut books: Vec<Book> = known.into_iter().map(|known| known.book).collect();
     books.extend((0..300).map(|_| shapes::small(&mut rng)));
     books.extend((0..100).map(|_| shapes::large(&mut rng)));
-    books.push(shapes::largest(&mut rng));
+    books.push(shapes::largest(&mut rng, MAX_ATOMS));
     for (index, book) in books.iter().enumerate() {
         let what = format!("seed {seed}, off, all, book {index}");
         let layer = rng.below(book.layers.into()) as u32;

@@ -267,7 +267,7 @@ fn input_that_comes_in_pieces_is_put_together() {
     let lines = "facts 3 models 1 branching 2\n001\n";
     assert_eq!(run_in_pieces(&bytes, pause), lines);
     let seed = seed();
-    let largest = shapes::largest(&mut Rng::named(seed, "states, largest")).bytes();
+    let largest = shapes::largest(&mut Rng::named(seed, "states, largest"), MAX_ATOMS).bytes();
     let pieces: Vec<&[u8]> = largest.chunks(4_099).collect();
     assert_eq!(run_in_pieces(&pieces, pause), "refused 12\n", "seed {seed}");
     let over = framed_book(LIMIT + 1);

@@ -525,8 +525,9 @@ fn large_books_are_answered_as_by_the_oracle_and_by_plain_rust() {
 fn largest_lawful_books_are_answered_as_by_the_oracle() {
     let seed = seed();
     let mut rng = Rng::named(seed, "planted largest");
-    for _ in 0..10 {
-        let planted = shapes::planted_largest(&mut rng);
+    for index in 0..10 {
+        let atoms = [BYTE_ATOMS, MAX_ATOMS][index % 2];
+        let planted = shapes::planted_largest(&mut rng, atoms);
         let bytes = planted.book.bytes();
         assert_eq!(bytes.len(), 38_372);
         let what = format!("seed {seed}, largest");
@@ -662,7 +663,7 @@ fn each_of_32_layers_displaces_those_before_it() {
 #[test]
 fn four_threads_on_one_book_get_the_same_answers() {
     let seed = seed();
-    let planted = shapes::planted_largest(&mut Rng::named(seed, "threads"));
+    let planted = shapes::planted_largest(&mut Rng::named(seed, "threads"), MAX_ATOMS);
     let bytes = planted.book.bytes();
     let drive = planted.layer.into();
     let right = oracle::record(&planted.state);
