@@ -3,7 +3,7 @@
 use mathlib.Core.Path.{_≡_, refl, sym, ap, ap₂, subst, _∙_}
 use mathlib.Core.Logic.{_⊎_, inl, inr}
 use mathlib.Core.List.{List, [], _∷_, _++_, map, append-assoc, append-nil, List·Memᴰ·not-nil, List·Memᴰ·cases-cons}
-use Prim.Native.Nat.{ℕ, zero, suc, _+_, _-_, _*_, _≤_, _<_}
+use Prim.Native.Nat.{ℕ, _+_, _-_, _*_, _≤_, _<_}
 use native.Mathlib.Nat.{mul-le-mul, mul-le-mul-right}
 use native.Mathlib.Omega.{arith}
 use borrow.Rule.Slice.PartMut.{putMid}
@@ -25,7 +25,7 @@ use Rattle.records.specs.Written.{sorted, addedTo, summed}
 use Rattle.records.proofs.OrderLaws.{sorted-length}
 use Rattle.search.specs.declared.Goal.{Goal}
 use Rattle.search.specs.declared.Goal.the-variants as goals
-use Rattle.search.specs.Visits.{rising, firstKept, keptBy, RoomFor, Combines}
+use Rattle.search.specs.Visits.{rising, keptBy, RoomFor, Combines}
 
 -- ---- the room that a goal needs
 -- less room for fewer models, and as much in a part of the same length
@@ -33,7 +33,6 @@ pub room-less : (goal : Goal) (n a b : ℕ) (part : List ℕ) → a ≤ b → Ro
 unfolding RoomFor
 room-less goals.List n a b part h r = let q : a * recordSize n ≤ b * recordSize n = mul-le-mul-right (recordSize n) h in omega (arith, q, r)
 room-less (goals.Count most) n a b part h r = tt
-room-less goals.First n a b part h r = r
 room-less goals.Settle n a b part h r = tt
 room-less goals.Sums n a b part h r = r
 
@@ -41,7 +40,6 @@ pub room-same : (goal : Goal) (n a : ℕ) (part part′ : List ℕ) → length p
 unfolding RoomFor
 room-same goals.List n a part part′ e r = omega (arith, e, r)
 room-same (goals.Count most) n a part part′ e r = tt
-room-same goals.First n a part part′ e r = omega (arith, e, r)
 room-same goals.Settle n a part part′ e r = tt
 room-same goals.Sums n a part part′ e r = omega (arith, e, r)
 
@@ -57,10 +55,6 @@ module _ (goal : Goal) (n count : ℕ) where
       let z : (count + 1) * recordSize n ≡ count * recordSize n + recordSize n = omega arith in
       omega (arith, q, z, ap (λ (k : ℕ). count * k) ew)
 
-  pub front-fits : (part : List ℕ) → goal ≡ goals.First → RoomFor goal n (count + 1) part → 0 + recordSize n ≤ length part
-  unfolding RoomFor
-  front-fits part e r = let q : recordSize n ≤ length part = subst (λ (g : Goal). RoomFor g n (count + 1) part) e r in omega (arith, q)
-
   pub sums-fit : (s : Interpretation) (part : List ℕ) → goal ≡ goals.Sums → length s ≡ n → n ≤ maxAtoms → RoomFor goal n (count + 1) part
       → (length s ≤ maxAtoms) × (4 * length s ≤ length part)
   unfolding RoomFor
@@ -72,11 +66,9 @@ sums-of n s part l = ap (λ (k : ℕ). addedTo k part s) l
 
 -- ---- no model
 pub kept-none : (goal : Goal) (n count : ℕ) (part : List ℕ) → keptBy goal n count [] part ≡ part
-unfolding keptBy sorted insertAll flat firstKept summed
+unfolding keptBy sorted insertAll flat summed
 kept-none goals.List n count part = let z : count + 0 ≡ count = omega arith in rw z (take-append-drop (count * recordSize n) part)
 kept-none (goals.Count most) n count part = refl
-kept-none goals.First n zero part = refl
-kept-none goals.First n (suc count) part = refl
 kept-none goals.Settle n count part = refl
 kept-none goals.Sums n count part = refl
 
@@ -88,18 +80,6 @@ module _ (goal : Goal) (n count : ℕ) (m : Interpretation) (part : List ℕ) wh
   keep-listed e w ew new f =
       let z : (count + 1) * recordSize n ≡ count * recordSize n + recordSize n = omega arith in
       f ∙ rw (e, ew, z, append-nil (recordOf n m)) refl
-
-  pub keep-first : goal ≡ goals.First → count ≡ 0 → (new : List ℕ) → new ≡ take 0 part ++ (recordOf n m ++ drop (0 + recordSize n) part) → new ≡ keptBy goal n count (m ∷ []) part
-  unfolding keptBy firstKept
-  keep-first e z new f = let y : 0 + recordSize n ≡ recordSize n = omega arith in f ∙ rw (e, z, y) refl
-
-  pub keep-later : goal ≡ goals.First → (count ≡ 0 → ⊥) → part ≡ keptBy goal n count (m ∷ []) part
-  unfolding keptBy firstKept
-  keep-later e h = rw e (go count h)
-    where
-      go : (k : ℕ) → (k ≡ 0 → ⊥) → part ≡ firstKept n k (m ∷ []) part
-      go zero h = absurd (h refl)
-      go (suc k) h = refl
 
   pub keep-count : (most : ℕ) → goal ≡ goals.Count most → part ≡ keptBy goal n count (m ∷ []) part
   unfolding keptBy
@@ -114,12 +94,6 @@ module _ (goal : Goal) (n count : ℕ) (m : Interpretation) (part : List ℕ) wh
   keep-sums e new f = f ∙ rw e refl
 
 -- ---- two runs of models
-first-append : (n count : ℕ) (xs ys : List Interpretation) (part : List ℕ) → firstKept n (count + length xs) ys (firstKept n count xs part) ≡ firstKept n count (xs ++ ys) part
-unfolding firstKept
-first-append n zero [] ys part = refl
-first-append n zero (x ∷ xs) ys part = let z : 0 + suc (length xs) ≡ suc (length xs) = omega arith in rw z refl
-first-append n (suc count) xs ys part = let z : suc count + length xs ≡ suc (count + length xs) = omega arith in rw z refl
-
 sums-append : (n : ℕ) (xs ys : List Interpretation) (part : List ℕ) → summed n (summed n part xs) ys ≡ summed n part (xs ++ ys)
 unfolding summed
 sums-append n [] ys part = refl
@@ -129,10 +103,6 @@ module _ (goal : Goal) (n from mid end : ℕ) (part : List ℕ) where
   pub combines-count : (most : ℕ) → goal ≡ goals.Count most → Combines goal n from mid end part part
   unfolding keptBy
   combines-count most e old xs ys room em ee f = f ∙ rw e refl
-
-  pub combines-first : goal ≡ goals.First → Combines goal n from mid end part part
-  unfolding keptBy
-  combines-first e old xs ys room em ee f = f ∙ rw (e, em) (first-append n from xs ys old)
 
   pub combines-settle : goal ≡ goals.Settle → Combines goal n from mid end part part
   unfolding keptBy

@@ -2,30 +2,27 @@
 -- it, so nothing that is decided denies a literal of that body; and it has no nogood. Used by search. Assumes nothing.
 use mathlib.Core.Path.{_≡_, refl, sym, ap, subst, _∙_}
 use mathlib.Core.Logic.{⊎-elim}
-use mathlib.Core.Bool.{Bool, true, false, not, _&&_, cond, false≢true}
+use mathlib.Core.Bool.{Bool, true, false, not, cond, false≢true}
 use mathlib.Core.List.{List, [], _∷_, Memᴰ·map, List·Memᴰ·head, List·Memᴰ·tail}
 use Prim.Native.Nat.{ℕ, zero, suc, _+_, _*_, _-_, _/_, _<_, _≤_}
 use native.Mathlib.Decide.{ℕ-discrete}
 use native.Mathlib.Omega.{arith}
 use lib.Bits.{bitAnd, bitOr}
-use lib.Dec.{T, T-not, not-T, eqb}
+use lib.Dec.{T, T-not}
 use lib.ListN.{length, getD, set, take, drop, length-set}
 use lib.Seq.{drop-cons, take-all, set-set, getD-set-same, getD-set-other}
-use Rattle.base.specs.Bounds.{maxAtoms, maxNames, maxBranching}
-use Rattle.base.proofs.Members.{_∈_, and-left, any-at}
+use Rattle.base.specs.Bounds.{maxAtoms, maxBranching}
+use Rattle.base.proofs.Members.{_∈_}
 use Rattle.layers.specs.Masks.{bitOf}
 use Rattle.layers.proofs.BitLaws.{no-bit, or-cases, and-first, and-second, some-bit}
 use Rattle.format.specs.Book.{Literal, Rule}
 use Rattle.models.specs.Program.{Program, constrained}
-use Rattle.models.specs.StableModels.{Interpretation, atomHolds, positive, negative, complement, signed, holds, bodyHolds, overrides, rejected, Derived, by-default, by-rule, StableModel}
+use Rattle.models.specs.StableModels.{Interpretation, atomHolds, positive, negative, complement, signed, holds, Derived, by-default, by-rule, StableModel}
 use Rattle.models.specs.Branching.{branchingAtoms}
-use Rattle.table.specs.Names.{literalNamed, nameOf}
-use Rattle.table.specs.Rows.{rowCount, headName, rowAt, alive}
+use Rattle.table.specs.Rows.{rowCount, headName, rowAt}
 use Rattle.table.specs.Tabled.{tabled}
 use Rattle.bans.specs.Bans.{bodyOf, bodiesOf, barred}
-use Rattle.table.proofs.NameLaws.{name-back, complement-twice}
 use Rattle.table.proofs.RowLaws.{row-in, row-of}
-use Rattle.table.proofs.NamedLaws.{overrides-named}
 use Rattle.setting.specs.Setting.{settingOf}
 use Rattle.setting.specs.RuleMasks.{AtomBits, RuleMask, plainMask, negatedMask, headMask, MaskOf, RuleMasks, Open, Headed}
 use Rattle.setting.proofs.BitMaskLaws.{single, single-only}
@@ -36,6 +33,7 @@ use Rattle.insertion.proofs.SortedLaws.{getD-member}
 use Rattle.leaf.specs.Found.{atSetting, foundBy}
 use Rattle.search.specs.Decided.{DecidedAt, Decided}
 use Rattle.search.proofs.AllowedLaws.{barred-formed, barred-listed, barred-model}
+use Rattle.search.proofs.RejectableLaws.{never-rejected}
 use Rattle.leaf.specs.Searchable.{Searchable}
 use Rattle.leaf.proofs.FoundLaws.{branching-small, branching-once, found-decided}
 
@@ -133,26 +131,6 @@ module _ {book rows atoms : List ℕ} {n : ℕ} (w : Searchable book rows atoms 
           go true z = let d = s .denied-in i (and-second deny denied i (subst (λ (y : ℕ). bitOf y i ≡ 1) (sym ed) z)) in subst (λ (y : Bool). T (not y)) (sym (agrees-at i (d .0))) (d .1)
           go false z = let d = s .standing-in i (and-second stand standing i (subst (λ (y : ℕ). bitOf y i ≡ 1) (sym es) z)) in subst T (sym (agrees-at i (d .0))) (d .1)
 
-    -- a rule that nothing can reject is not rejected
-    never-rejected : {rejectable : List ℕ} → Rejectable rows rejectable (rowCount rows) → (r : Rule) → r ∈ P .rules → (h : ℕ) → h < maxNames → literalNamed h ≡ r .head → T (alive rejectable r) → T (not (rejected P m r))
-    unfolding alive rejected rowAt
-    never-rejected {rejectable} q r i h b e live =
-        not-T (rejected P m r)
-        (λ d.
-        let v : (t : Rule) × t ∈ P .rules × T (overrides P t r && bodyHolds m t) = any-at (λ t. overrides P t r && bodyHolds m t) (P .rules) d in
-        let u : (j : ℕ) × (j < rowCount rows) × (rowAt book rows j ≡ v .0) = row-of book rows (v .0) (subst (λ (rs : List Rule). v .0 ∈ rs) (sym (w .table .rules)) (v .1)) in
-        let t : Rule = rowAt book rows (u .0) in
-        let over = overrides-named (w .table) (u .1) i (subst (λ (y : Rule). T (overrides P y r)) (sym (u .2)) (and-left (overrides P (v .0) r) (bodyHolds m (v .0)) (v .2))) in
-        let y : bitOf (getD rejectable h 0) (r .layer) ≡ 1 = q .full (u .0) (u .1) h (e ∙ facing t (u .0) refl (over .1)) b (r .layer) (over .0) in
-        T-not (eqb (bitOf (getD rejectable (nameOf (r .head)) 0) (r .layer)) 1) live
-        (subst (λ (x : ℕ). T (eqb (bitOf (getD rejectable x 0) (r .layer)) 1)) (sym (name-back h) ∙ ap nameOf e) (subst (λ (x : ℕ). T (eqb x 1)) (sym y) tt)))
-      where
-        row-head-is : (j : ℕ) → rowAt book rows j .head ≡ literalNamed (headName rows j)
-        row-head-is j = refl
-
-        facing : (t : Rule) (j : ℕ) → t ≡ rowAt book rows j → t .head ≡ complement (r .head) → r .head ≡ complement (literalNamed (headName rows j))
-        facing t j et eh = sym (complement-twice (r .head)) ∙ ap complement (sym eh ∙ ap (λ (x : Rule). x .head) et ∙ row-head-is j)
-
     -- so no nogood of a row is decided
     no-row-nogood : {rejectable bits : List ℕ} → Rejectable rows rejectable (rowCount rows) → (stand deny j : ℕ) → ((l : Literal) → Within bits stand deny l → T (holds m l)) → NogoodOf book rows rejectable bits j stand deny → ⊥
     unfolding rowAt holds signed complement
@@ -160,7 +138,7 @@ module _ {book rows atoms : List ℕ} {n : ℕ} (w : Searchable book rows atoms 
         let r : Rule = rowAt book rows j in
         let i : r ∈ P .rules = subst (λ (rs : List Rule). r ∈ rs) (w .table .rules) (row-in book rows j (y .before)) in
         let derived : Derived P m (r .head) =
-        by-rule r i (never-rejected all r i (headName rows j) (w .table .fits .bounded .name j (y .before)) refl (y .lives))
+        by-rule r i (never-rejected n (w .table) m all r i (headName rows j) (w .table .fits .bounded .name j (y .before)) refl (y .lives))
         (λ l q. sm .exact l (w .formed .bodies r i l q) .1 (inside l (y .body-in l q)))
         in
         apart (r .head) (sm .exact (r .head) (w .formed .heads r i) .0 derived) (inside (complement (r .head)) (y .head-in))

@@ -175,12 +175,13 @@ module _ {book rows atoms : List ℕ} {n : ℕ} (w : Searchable book rows atoms 
               subst (λ (ms : List Interpretation). Searched asked n ms v p v₂ p₃) (sym halves-are) (searched-combined asked n firstHalf secondHalf v p v₁ p₁ v₂ p₂ p₃ a b both-room j)
 
   -- no atom is left: the setting itself
-  module _ (e : left ≡ 0) (asked : List ℕ) (v : Visit) (p : List ℕ) where
-    leaf-is : foundBy leaf U (settingOf atoms standing) ≡ leaf (settingOf atoms standing)
+  module _ (e : left ≡ 0) where
+    pub leaf-is : foundBy leaf U (settingOf atoms standing) ≡ leaf (settingOf atoms standing)
     leaf-is = steps.found-at-leaf leaf U (settingOf atoms standing) (undecided-length atoms left (t .few) ∙ e)
 
-    pub leaf-kept : Kept asked n (length (foundBy leaf U (settingOf atoms standing))) v p → Kept asked n (length (leaf (settingOf atoms standing))) v p
-    leaf-kept k = subst (λ (ms : List Interpretation). Kept asked n (length ms) v p) leaf-is k
+    module _ (asked : List ℕ) (v : Visit) (p : List ℕ) where
+      pub leaf-kept : Kept asked n (length (foundBy leaf U (settingOf atoms standing))) v p → Kept asked n (length (leaf (settingOf atoms standing))) v p
+      leaf-kept k = subst (λ (ms : List Interpretation). Kept asked n (length ms) v p) leaf-is k
 
-    pub leaf-searched : (v′ : Visit) (p′ : List ℕ) → Searched asked n (leaf (settingOf atoms standing)) v p v′ p′ → Searched asked n (foundBy leaf U (settingOf atoms standing)) v p v′ p′
-    leaf-searched v′ p′ s = subst (λ (ms : List Interpretation). Searched asked n ms v p v′ p′) (sym leaf-is) s
+      pub leaf-searched : (v′ : Visit) (p′ : List ℕ) → Searched asked n (leaf (settingOf atoms standing)) v p v′ p′ → Searched asked n (foundBy leaf U (settingOf atoms standing)) v p v′ p′
+      leaf-searched v′ p′ s = subst (λ (ms : List Interpretation). Searched asked n ms v p v′ p′) (sym leaf-is) s

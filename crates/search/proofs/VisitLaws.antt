@@ -27,7 +27,6 @@ pub weight-le : (goal : Goal) (asked : List ℕ) (m : Interpretation) → weight
 unfolding weightOf
 weight-le goals.List asked m = omega arith
 weight-le (goals.Count most) asked m = omega arith
-weight-le goals.First asked m = omega arith
 weight-le goals.Settle asked m = bit-le (atomHolds m (u16At asked 0))
 weight-le goals.Sums asked m = omega arith
 
@@ -166,10 +165,6 @@ module _ (v : Visit) where
   unfolding reaches
   count-stops most e = rw e refl
 
-  pub first-stops : v .goal ≡ goals.First → ltb 0 (v .count) ≡ stopped v
-  unfolding reaches
-  first-stops e = rw e refl
-
   pub settle-stops : v .goal ≡ goals.Settle → 0 < v .weight → ltb (v .weight) (v .count) ≡ stopped v
   unfolding reaches
   settle-stops e h = rw (e, lt-ltb 0 (v .weight) h) refl
@@ -195,10 +190,6 @@ module _ (goal : Goal) (asked : List ℕ) (m : Interpretation) where
   pub weigh-count : (most : ℕ) → goal ≡ goals.Count most → (0 ≡ weightOf goal asked m) × (0 ≤ 1)
   unfolding weightOf
   weigh-count most e = (rw e refl, omega arith)
-
-  pub weigh-first : goal ≡ goals.First → (0 ≡ weightOf goal asked m) × (0 ≤ 1)
-  unfolding weightOf
-  weigh-first e = (rw e refl, omega arith)
 
   pub weigh-sums : goal ≡ goals.Sums → (0 ≡ weightOf goal asked m) × (0 ≤ 1)
   unfolding weightOf

@@ -4,7 +4,7 @@
 use mathlib.Core.Path.{_≡_}
 use mathlib.Core.Bool.{Bool, true, false, _&&_}
 use mathlib.Core.List.{List, [], _∷_, _++_, map}
-use Prim.Native.Nat.{ℕ, zero, suc, _+_, _*_, _≤_}
+use Prim.Native.Nat.{ℕ, _+_, _*_, _≤_}
 use lib.Dec.{ltb}
 use lib.ListN.{length, take, drop}
 use Rattle.base.specs.Lists.{flat}
@@ -20,7 +20,6 @@ use Rattle.search.specs.declared.Visit.{Visit}
 unfoldable pub Asks : Goal → List ℕ → Type 0
 Asks goals.List asked = Unit {0}
 Asks (goals.Count most) asked = Unit {0}
-Asks goals.First asked = Unit {0}
 Asks goals.Settle asked = 2 ≤ length asked
 Asks goals.Sums asked = Unit {0}
 
@@ -28,7 +27,6 @@ Asks goals.Sums asked = Unit {0}
 unfoldable pub weightOf : Goal → List ℕ → Interpretation → ℕ
 weightOf goals.List asked m = 0
 weightOf (goals.Count most) asked m = 0
-weightOf goals.First asked m = 0
 weightOf goals.Settle asked m = bitValue (atomHolds m (u16At asked 0)) 1
 weightOf goals.Sums asked m = 0
 
@@ -41,18 +39,11 @@ totalOf w (m ∷ ms) = w m + totalOf w ms
 abbrev pub rising : ℕ → List Interpretation → List ℕ
 rising n ms = flat (map (recordOf n) (sorted n ms))
 
--- the record of the first model of all in front
-unfoldable pub firstKept : ℕ → ℕ → List Interpretation → List ℕ → List ℕ
-firstKept n zero (m ∷ ms) part = recordOf n m ++ drop (recordSize n) part
-firstKept n zero [] part = part
-firstKept n (suc count) ms part = part
-
 -- What the part is once these models are met, and so many were before them. A listing's part has the records of the models before in
 -- front, and behind them those of these models, rising.
 unfoldable pub keptBy : Goal → ℕ → ℕ → List Interpretation → List ℕ → List ℕ
 keptBy goals.List n count ms part = take (count * recordSize n) part ++ (rising n ms ++ drop ((count + length ms) * recordSize n) part)
 keptBy (goals.Count most) n count ms part = part
-keptBy goals.First n count ms part = firstKept n count ms part
 keptBy goals.Settle n count ms part = part
 keptBy goals.Sums n count ms part = summed n part ms
 
@@ -60,16 +51,13 @@ keptBy goals.Sums n count ms part = summed n part ms
 unfoldable pub RoomFor : Goal → ℕ → ℕ → List ℕ → Type 0
 RoomFor goals.List n count part = count * recordSize n ≤ length part
 RoomFor (goals.Count most) n count part = Unit {0}
-RoomFor goals.First n count part = recordSize n ≤ length part
 RoomFor goals.Settle n count part = Unit {0}
 RoomFor goals.Sums n count part = 4 * n ≤ length part
 
--- the goal is reached: of a count, once it is past its most; of the first model, once there is one; of a fact's place, once it stands in
--- some but not in all
+-- the goal is reached: of a count, once it is past its most; of a fact's place, once it stands in some but not in all
 unfoldable pub reaches : Goal → ℕ → ℕ → Bool
 reaches goals.List count weight = false
 reaches (goals.Count most) count weight = ltb most count
-reaches goals.First count weight = ltb 0 count
 reaches goals.Settle count weight = ltb 0 weight && ltb weight count
 reaches goals.Sums count weight = false
 

@@ -1,4 +1,4 @@
-// The search through the settings of the branching facts: one recursion, which the listing, the one state and a fact's place share.
+// The search through the settings of the branching facts: one recursion, which the listing and a fact's place share.
 ghost use mathlib.Core.Path.{_≡_};
 ghost use mathlib.Core.Logic.{_⊎_};
 ghost use mathlib.Core.Bool.{false};
@@ -37,13 +37,12 @@ use rejecting::clear_at;
 use rejecting::reject_at;
 use setting::headed;
 
-// What the search is for: every record, how many models there are, one record, whether the asked fact stands in some but not in all,
-// or in how many models each fact stands.
+// What the search is for: every record, how many models there are, whether the asked fact stands in some but not in all, or in how many
+// models each fact stands.
 pub enum Goal {
     List,
     // no further than one more than this
     Count(usize),
-    First,
     Settle,
     Sums,
 }
@@ -71,7 +70,6 @@ pub fn stops(v: Visit) -> bool
     match goal {
         Goal::List => false,
         Goal::Count(most) => most < v.count,
-        Goal::First => 0 < v.count,
         Goal::Settle => {
             if 0 < v.weight {
                 v.weight < v.count
@@ -91,7 +89,6 @@ fn weight(goal: Goal, asked: &[u8], m: &[bool]) -> usize
     match goal {
         Goal::List => 0,
         Goal::Count(most) => 0,
-        Goal::First => 0,
         Goal::Settle => wide(atom_bit(m, be16(asked, 0))),
         Goal::Sums => 0,
     }
@@ -105,11 +102,6 @@ fn keep(goal: Goal, state: &[bool], n: usize, count: usize, part: &mut [u8])
     match goal {
         Goal::List => put_state(state, n, part, count * record_size(n)),
         Goal::Count(most) => {}
-        Goal::First => {
-            if count == 0 {
-                put_state(state, n, part, 0);
-            }
-        }
         Goal::Settle => {}
         Goal::Sums => add_state(state, part),
     }
@@ -142,7 +134,7 @@ fn forbids(book: &[u8], plan: &[u32], sizes: Sizes, state: &[bool]) -> bool
 
 // Whether there is a stable model at a setting, which then stands in the first of the three arrays of marks: that of the rules alone,
 // unless the body of a constraint holds in it. A constraint's facts need not branch, so it is tested on the finished state.
-fn find_model(
+pub fn find_model(
     book: &[u8],
     rows: &[u16],
     plan: &[u32],
@@ -226,7 +218,7 @@ pub fn visit_setting(
 
 // Whether the quick tests leave it open that a setting of the facts that are left has a stable model: each fact that stands is the head
 // of a rule that may yet be reached, and no nogood is decided.
-fn promising(plan: &[u32], sizes: Sizes, turn: Turn) -> bool
+pub fn promising(plan: &[u32], sizes: Sizes, turn: Turn) -> bool
     requires { ⌜ (length (now plan) ≡ planSize) × (sizes .heads ≤ maxRules) × (sizes .nogoods ≤ maxNogoods) ⌝ }
     ensures { λ r. ⌜ (r ≡ false → (Headed (planMasks (now (plan .entry)) (sizes .heads)) (length (planMasks (now (plan .entry)) (sizes .heads)) / 3) (turn .standing) (turn .denied) → ⊥) ⊎ Violated (planNogoods (now (plan .entry)) (sizes .nogoods)) (length (planNogoods (now (plan .entry)) (sizes .nogoods)) / 2) (turn .standing) (turn .denied)) ⌝ }
 {
@@ -253,16 +245,15 @@ fn combine(goal: Goal, n: usize, from: usize, mid: usize, end: usize, part: &mut
             merge(&mut part[start..stop], mid - from, end - mid, w);
         }
         Goal::Count(most) => {}
-        Goal::First => {}
         Goal::Settle => {}
         Goal::Sums => {}
     }
 }
 
 // Goes through the settings of the branching facts that are left, each at most once, and visits the stable model of each setting, if
-// there is one. The arrays are lent for every setting's work: `rejects` is all 0 between
-// settings, the next three are marks, and `hints` is what one filling leaves for the next. Where the quick tests say that no setting of the facts that are left
-// has a stable model, none is gone through.
+// there is one. The arrays are lent for every setting's work: `rejects` is all 0 between settings, the next three are marks, and `hints`
+// is what one filling leaves for the next. Where the quick tests say that no setting of the facts that are left has a stable model, none
+// is gone through.
 pub fn search(
     book: &[u8],
     rows: &[u16],

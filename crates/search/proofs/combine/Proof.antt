@@ -1,5 +1,5 @@
 -- One law a goal; where records are listed, the two runs are merged (`combines-listed`).
-use Rattle.search.proofs.KeptLaws.{times-fit, start-fits, end-fits, width-some, lent-size, combines-listed, combines-count, combines-first, combines-settle, combines-sums}
+use Rattle.search.proofs.KeptLaws.{times-fit, start-fits, end-fits, width-some, lent-size, combines-listed, combines-count, combines-settle, combines-sums}
 use native.Mathlib.Omega.{arith}
 use borrow.Author.Needs.{needs}
 use Rattle.search.proofs.combine.Statement.{statement}
@@ -44,9 +44,6 @@ enum-told-2 c = search needs
 enum-told-3 : tie.Need-enum-told-3
 enum-told-3 c = search needs
 
-enum-told-4 : tie.Need-enum-told-4
-enum-told-4 c = search needs
-
 same-length : tie.Need-same-length
 same-length c = search needs
 
@@ -57,13 +54,10 @@ returns-2 : tie.Need-returns-2
 returns-2 c = let a = c .before .before .before .before .args in combines-count (a .goal) (a .n) (a .from) (a .mid) (a .end) (a .part .now) _ (c .before .goal .given .1)
 
 returns-3 : tie.Need-returns-3
-returns-3 c = let a = c .before .before .before .args in combines-first (a .goal) (a .n) (a .from) (a .mid) (a .end) (a .part .now) (c .enum-told2 .given .1)
+returns-3 c = let a = c .before .before .before .args in combines-settle (a .goal) (a .n) (a .from) (a .mid) (a .end) (a .part .now) (c .enum-told2 .given .1)
 
 returns-4 : tie.Need-returns-4
-returns-4 c = let a = c .before .before .before .args in combines-settle (a .goal) (a .n) (a .from) (a .mid) (a .end) (a .part .now) (c .enum-told3 .given .1)
-
-returns-5 : tie.Need-returns-5
-returns-5 c = let a = c .before .before .before .args in combines-sums (a .goal) (a .n) (a .from) (a .mid) (a .end) (a .part .now) (c .enum-told4 .given .1)
+returns-4 c = let a = c .before .before .before .args in combines-sums (a .goal) (a .n) (a .from) (a .mid) (a .end) (a .part .now) (c .enum-told3 .given .1)
 
 pub combine-spec : {M : Type 1} → statement M
 combine-spec =
@@ -82,10 +76,8 @@ combine-spec =
     enum-known-goal
     enum-told-2
     enum-told-3
-    enum-told-4
     same-length
     returns
     returns-2
     returns-3
-    returns-4
-    returns-5)
+    returns-4)

@@ -1,6 +1,6 @@
 -- One law a goal.
 use mathlib.Core.Path.{_∙_}
-use Rattle.search.proofs.KeptLaws.{times-fit, place-fits, front-fits, sums-fit, sums-of, keep-listed, keep-count, keep-first, keep-later, keep-settle, keep-sums}
+use Rattle.search.proofs.KeptLaws.{times-fit, place-fits, sums-fit, sums-of, keep-listed, keep-count, keep-settle, keep-sums}
 use native.Mathlib.Omega.{arith}
 use borrow.Author.Needs.{needs}
 use Rattle.search.proofs.keep.Statement.{statement}
@@ -24,17 +24,11 @@ enum-known-goal c = search needs
 enum-told-2 : tie.Need-enum-told-2
 enum-told-2 c = search needs
 
-put-state-requires-2 : tie.Need-put-state-requires-2
-put-state-requires-2 c κs = let a = c .before .before .before .before .before .before .args in (c .before .before .before .before .before .before .pre .3, c .before .before .before .before .before .before .pre .0, front-fits (a .goal) (a .n) (a .count) (a .part .now) (c .before .before .enum-told2 .given .1) (c .before .before .before .before .before .before .pre .2))
-
 enum-told-3 : tie.Need-enum-told-3
 enum-told-3 c = search needs
 
-enum-told-4 : tie.Need-enum-told-4
-enum-told-4 c = search needs
-
 add-state-requires : tie.Need-add-state-requires
-add-state-requires c κs = let a = c .before .before .before .before .before .args in sums-fit (a .goal) (a .n) (a .count) (a .state .now) (a .part .now) (c .before .enum-told4 .given .1) (c .before .before .before .before .before .pre .3) (c .before .before .before .before .before .pre .0) (c .before .before .before .before .before .pre .2)
+add-state-requires c κs = let a = c .before .before .before .before .before .args in sums-fit (a .goal) (a .n) (a .count) (a .state .now) (a .part .now) (c .before .enum-told3 .given .1) (c .before .before .before .before .before .pre .3) (c .before .before .before .before .before .pre .0) (c .before .before .before .before .before .pre .2)
 
 same-length : tie.Need-same-length
 same-length c = search needs
@@ -49,19 +43,10 @@ same-length-2 : tie.Need-same-length-2
 same-length-2 c = search needs
 
 returns-3 : tie.Need-returns-3
-returns-3 c = let a = c .before .before .before .before .before .before .before .before .before .args in keep-first (a .goal) (a .n) (a .count) _ (a .part .now) (c .before .before .before .before .before .enum-told2 .given .1) (c .before .before .before .before .if1 .taken) _ (c .before .before .put-state2 .ensures)
+returns-3 c = let a = c .before .before .before .before .args in keep-settle (a .goal) (a .n) (a .count) _ (a .part .now) (c .enum-told2 .given .1)
 
 returns-4 : tie.Need-returns-4
-returns-4 c = let a = c .before .before .before .before .before .args in keep-later (a .goal) (a .n) (a .count) _ (a .part .now) (c .before .enum-told2 .given .1) (c .if1 .left)
-
-returns-5 : tie.Need-returns-5
-returns-5 c = let a = c .before .before .before .before .args in keep-settle (a .goal) (a .n) (a .count) _ (a .part .now) (c .enum-told3 .given .1)
-
-same-length-3 : tie.Need-same-length-3
-same-length-3 c = search needs
-
-returns-6 : tie.Need-returns-6
-returns-6 c = let a = c .before .before .before .before .before .before .before .before .args in keep-sums (a .goal) (a .n) (a .count) _ (a .part .now) (c .before .before .before .before .enum-told4 .given .1) _ (c .before .before .add-state .ensures ∙ sums-of (a .n) (a .state .now) (a .part .now) (c .before .before .before .before .before .before .before .before .pre .3))
+returns-4 c = let a = c .before .before .before .before .before .before .before .before .args in keep-sums (a .goal) (a .n) (a .count) _ (a .part .now) (c .before .before .before .before .enum-told3 .given .1) _ (c .before .before .add-state .ensures ∙ sums-of (a .n) (a .state .now) (a .part .now) (c .before .before .before .before .before .before .before .before .pre .3))
 
 pub keep-spec : {M : Type 1} → statement M
 keep-spec =
@@ -73,16 +58,11 @@ keep-spec =
     put-state-requires
     enum-known-goal
     enum-told-2
-    put-state-requires-2
     enum-told-3
-    enum-told-4
     add-state-requires
     same-length
     returns
     returns-2
-    same-length-2
     returns-3
-    returns-4
-    returns-5
-    same-length-3
-    returns-6)
+    same-length-2
+    returns-4)
