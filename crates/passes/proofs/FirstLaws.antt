@@ -1,27 +1,37 @@
--- A pass for the first model, into the room of one record: it leaves the part as it was where it meets no model, and else the record of a
--- model that may be handed out. Assumes nothing.
+-- A pass for the first model, into the room of one record: of what it meets, sorted, the first is the listing's first. Assumes nothing.
 use mathlib.Core.Path.{_≡_, refl, sym, ap, subst, _∙_}
-use mathlib.Core.List.{List, [], _∷_, _++_, append-nil, List·Memᴰ·head, Memᴰ·append-left}
-use Prim.Native.Nat.{ℕ, _<_, _≤_}
+use mathlib.Core.Bool.{Bool, false, not}
+use mathlib.Core.List.{List, [], _∷_, List·Memᴰ·not-nil}
+use Prim.Native.Nat.{ℕ, _-_, _≤_}
 use native.Mathlib.Omega.{arith}
-use borrow.Author.Tests.{ltb-true, ltb-false}
-use lib.Dec.{ltb}
-use lib.ListN.{length, drop-of-length-le}
+use borrow.Author.Tests.{ne-eqb}
+use lib.Dec.{eqb, ltb}
+use lib.ListN.{length, take, drop}
 use Rattle.base.specs.Bounds.{maxAtoms}
-use Rattle.base.proofs.Members.{_∈_}
 use Rattle.models.specs.Program.{Program}
 use Rattle.models.specs.StableModels.{Interpretation}
-use Rattle.models.specs.Listing.{recordSize, recordOf}
+use Rattle.models.specs.Listing.{stableModels}
+use Rattle.records.specs.Written.{sorted}
 use Rattle.bans.specs.Bans.{barred}
-use Rattle.search.proofs.AllowedLaws.{barred-formed, barred-size}
-use Rattle.search.specs.declared.Goal.the-variants as goals
-use Rattle.search.specs.declared.Visit.{Visit}
-use Rattle.search.specs.Visits.{firstKept, keptBy}
+use Rattle.setting.specs.Setting.{settingOf}
+use Rattle.leaf.specs.Found.{atSetting, foundBy}
 use Rattle.leaf.specs.Searchable.{Searchable}
-use Rattle.passes.specs.Tallied.{Passed, searched, Tallied}
-use Rattle.passes.specs.First.{Chosen, FirstWritten}
-use Rattle.passes.proofs.PassLaws.{empty, found-is, counted, tallied}
-use Rattle.passes.proofs.StateLaws.{searched-from, tallied-none, tallied-some}
+use Rattle.search.specs.Decided.{undecided}
+use Rattle.search.proofs.AllowedLaws.{barred-formed, barred-size}
+use Rattle.first.specs.declared.Held.{Held}
+use Rattle.first.specs.InHand.{firstAmong, recordHeld, InHand, Takes}
+use Rattle.passes.specs.Limit.{hasNoStableState}
+use Rattle.passes.specs.Tallied.{searched}
+use Rattle.passes.proofs.PassLaws.{found-is, searched-sorted}
+
+-- with nothing in hand at first, the first of what is met
+among-sorted : (n : ℕ) (ms : List Interpretation) → firstAmong n ms [] ≡ take 1 (sorted n ms)
+unfolding firstAmong sorted
+among-sorted n ms = refl
+
+nothing-held : (atoms : List ℕ) (sure : List Bool) (n : ℕ) (part : List ℕ) (held : Held) → held .found ≡ false → InHand atoms sure n part [] held part
+unfolding recordHeld
+nothing-held atoms sure n part held e = record { few = omega arith; found-is = e; part-is = refl; known = λ m k. absurd (List·Memᴰ·not-nil k) }
 
 module _ {book rows atoms : List ℕ} {n : ℕ} (w : Searchable book rows atoms n) (bans : List ℕ) where
   abbrev P : Program
@@ -30,31 +40,26 @@ module _ {book rows atoms : List ℕ} {n : ℕ} (w : Searchable book rows atoms 
   few : P .atoms ≤ maxAtoms
   few = subst (λ (k : ℕ). k ≤ maxAtoms) (barred-size w bans) (w .few)
 
-  module _ {asked part : List ℕ} {end : Visit} {part′ : List ℕ} (s : Passed P atoms n goals.First asked part end part′) where
-    t : Tallied P goals.First asked (end .count) (end .weight)
-    t = tallied w bans s
+  module _ (left : ℕ) (e : left ≡ length atoms) {held held′ : Held} (none : held .found ≡ false) {sure : List Bool} {part part′ : List ℕ}
+      (t : Takes atoms sure n (foundBy (atSetting P atoms) (undecided atoms left) (settingOf atoms 0)) held part held′ part′) where
+    all-left : foundBy (atSetting P atoms) (undecided atoms left) (settingOf atoms 0) ≡ searched P
+    all-left = ap (λ (k : ℕ). foundBy (atSetting P atoms) (drop k atoms) (settingOf atoms 0)) {x = length atoms - left} {y = 0} (omega arith) ∙ found-is w bans
 
-    kept : part′ ≡ firstKept n 0 (s .seen) part
-    unfolding keptBy
-    kept = s .part-is
+    first-is : firstAmong n (foundBy (atSetting P atoms) (undecided atoms left) (settingOf atoms 0)) [] ≡ take 1 (stableModels P)
+    first-is =
+        ap (λ (ms : List Interpretation). firstAmong n ms []) all-left ∙ among-sorted n (searched P)
+        ∙ ap (take 1) (ap (λ (k : ℕ). sorted k (searched P)) (barred-size w bans) ∙ searched-sorted P (barred-formed w bans) few)
 
-    none-met : end .count ≡ 0 → part′ ≡ part
-    unfolding firstKept
-    none-met e = kept ∙ ap (λ (ms : List Interpretation). firstKept n 0 ms part) (empty (s .seen) (sym (counted w bans s) ∙ e))
+    last : InHand atoms sure n part (take 1 (stableModels P)) held′ part′
+    last = subst (λ (l : List Interpretation). InHand atoms sure n part l held′ part′) first-is (t part [] (nothing-held atoms sure n part held none))
 
-    -- the record of the first model met, which is stable as every one is
-    one-met : length part ≡ recordSize n → 0 < end .count → (m : Interpretation) × Chosen P m × (part′ ≡ recordOf n m)
-    unfolding firstKept
-    one-met sized h = go (s .seen) kept (λ m k. k) (omega (arith, counted w bans s))
+    pub first-found : held′ .found ≡ not (hasNoStableState P)
+    unfolding hasNoStableState
+    first-found = last .found-is ∙ go (stableModels P)
       where
-        go : (ms : List Interpretation) → part′ ≡ firstKept n 0 ms part → ((m : Interpretation) → m ∈ ms → m ∈ s .seen) → 0 < length ms → (m : Interpretation) × Chosen P m × (part′ ≡ recordOf n m)
-        go [] e f z = absurd (omega arith)
-        go (m ∷ ms) e f z =
-            let k : m ∈ searched P = subst (λ (l : List Interpretation). m ∈ l) (sym (s .split) ∙ found-is w bans) (Memᴰ·append-left (s .rest) (f m (List·Memᴰ·head refl))) in
-            (m, searched-from P (barred-formed w bans) few m k, e ∙ ap (λ (l : List ℕ). recordOf n m ++ l) (drop-of-length-le part {i = recordSize n} (omega arith)) ∙ append-nil (recordOf n m))
+        go : (ms : List Interpretation) → ltb 0 (length (take 1 ms)) ≡ not (eqb (length ms) 0)
+        go [] = refl
+        go (m ∷ ms) = sym (ap not (ne-eqb (length (m ∷ ms)) 0 (λ e. omega arith)))
 
-    pub first-written : length part ≡ recordSize n → FirstWritten P n part (ltb 0 (end .count)) part′
-    first-written sized = record {
-      none = λ e. let z : end .count ≡ 0 = omega (arith, ltb-false 0 (end .count) e) in (tallied-none P (barred-formed w bans) few t z, none-met z);
-      some = λ e. let h : 0 < end .count = ltb-true 0 (end .count) e in (tallied-some P (barred-formed w bans) few t h, one-met sized h);
-    }
+    pub first-written : part′ ≡ recordHeld n (take 1 (stableModels P)) part
+    first-written = last .part-is

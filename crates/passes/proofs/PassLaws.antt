@@ -66,10 +66,6 @@ pub asks-count : (most : ℕ) (asked : List ℕ) → Asks (goals.Count most) ask
 unfolding Asks
 asks-count most asked = tt
 
-pub asks-first : (asked : List ℕ) → Asks goals.First asked
-unfolding Asks
-asks-first asked = tt
-
 pub count-room : (most n k : ℕ) (part : List ℕ) → RoomFor (goals.Count most) n k part
 unfolding RoomFor
 count-room most n k part = tt
@@ -81,10 +77,6 @@ settle-room n k part = tt
 pub list-room : (n k : ℕ) (part : List ℕ) → k * recordSize n ≤ length part → RoomFor goals.List n k part
 unfolding RoomFor
 list-room n k part h = h
-
-pub first-room : (n k : ℕ) (part : List ℕ) → length part ≡ recordSize n → RoomFor goals.First n k part
-unfolding RoomFor
-first-room n k part e = omega (arith, e)
 
 -- at first all atoms are left
 pub from-all : (P : Program) (atoms : List ℕ) (left : ℕ) → left ≡ length atoms → {asked : List ℕ} {n : ℕ} (o : Interpretation) {v : Visit} {p : List ℕ} {v′ : Visit} {p′ : List ℕ}

@@ -58,7 +58,6 @@ none-reaches : (goal : Goal) → reaches goal 0 0 ≡ false
 unfolding reaches
 none-reaches goals.List = refl
 none-reaches (goals.Count most) = le-ltb most 0 (omega arith)
-none-reaches goals.First = refl
 none-reaches goals.Settle = refl
 none-reaches goals.Sums = refl
 

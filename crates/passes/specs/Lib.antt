@@ -1,4 +1,3 @@
 pub mod Limit
 pub mod SetUp
 pub mod Tallied
-pub mod First

@@ -1,10 +1,11 @@
 // What a call works out before it searches, and passes of the search: two that count, one that writes every record and one that writes
-// the first. Document 01: "a listing may take one such pass to count and one to write"; where there is room for a record of every setting
+// the first of them. Document 01: "a listing may take one such pass to count and one to write"; where there is room for a record of every setting
 // it takes one.
 ghost use mathlib.Core.Path.{_≡_};
+ghost use mathlib.Core.Bool.{not};
 ghost use mathlib.Core.List.{[], map, _++_};
 ghost use Prim.Native.Nat.{_*_, _<_, _≤_};
-ghost use lib.ListN.{length, drop};
+ghost use lib.ListN.{length, take, drop};
 ghost use Rattle.base.specs.Bounds.{maxRules};
 ghost use Rattle.base.specs.Lists.{flat};
 ghost use Rattle.layers.specs.Masks.{LowerMasks};
@@ -14,8 +15,10 @@ ghost use Rattle.table.specs.Rows.{rowSize};
 ghost use Rattle.table.specs.Table.{programOf};
 ghost use Rattle.accepted.specs.Accepted.{IsAccepted};
 ghost use Rattle.plan.specs.Plan.{planSize, planAtoms, plannedProgram};
+ghost use Rattle.search.specs.Lent.{Lent};
 ghost use Rattle.search.specs.Visits.{Asks, RoomFor};
-ghost use Rattle.passes.specs.First.{FirstWritten};
+ghost use Rattle.first.specs.InHand.{recordHeld};
+ghost use Rattle.passes.specs.Limit.{hasNoStableState};
 ghost use Rattle.passes.specs.SetUp.{Ready, BansListed, SetUp};
 ghost use Rattle.passes.specs.Tallied.{Passed, Tallied, Bounds};
 use accepted::atom_count;
@@ -27,6 +30,9 @@ use base::MAX_LAYERS;
 use base::MAX_NAMES;
 use branching::branching_atoms;
 use filling::HINTS;
+use first::Held;
+use first::search_first;
+use first::sure_facts;
 use plan::BANS;
 use plan::PLAN;
 use plan::Sizes;
@@ -224,13 +230,81 @@ pub fn write_all(book: &[u8], rows: &[u16], plan: &[u32], sizes: Sizes, part: &m
     end.count
 }
 
-// Writes the record of the first stable model that the search meets into a part of a record's size, and says whether there is one.
+// The pass for the first record: no fact is decided at first, and nothing is in hand. The last array of marks is lent for the facts that
+// are sure.
+fn first_pass(
+    book: &[u8],
+    rows: &[u16],
+    plan: &[u32],
+    sizes: Sizes,
+    rejects: &mut [u32],
+    positive: &mut [bool],
+    negative: &mut [bool],
+    early: &mut [bool],
+    hints: &mut [u16],
+    sure: &mut [bool],
+    part: &mut [u8],
+) -> bool
+    requires { ⌜ Ready (now book) (now rows) (now plan) sizes ⌝ }
+    requires { ⌜ Lent (sizes .n) (now rejects) (now positive) (now negative) (now early) (now hints) ⌝ }
+    requires { ⌜ length (now sure) ≡ sizes .n ⌝ }
+    requires { ⌜ length (now part) ≡ recordSize (sizes .n) ⌝ }
+    ensures { λ r. ⌜ (r ≡ not (hasNoStableState (plannedProgram (now (book .entry)) (now (rows .entry)) (now (plan .entry)) sizes))) × (now (part .exit) ≡ recordHeld (sizes .n) (take 1 (stableModels (plannedProgram (now (book .entry)) (now (rows .entry)) (now (plan .entry)) sizes))) (now (part .entry))) ⌝ }
+{
+    let turn = Turn {
+        left: sizes.branching,
+        standing: 0,
+        denied: 0,
+    };
+    let none = Held {
+        found: false,
+        standing: 0,
+        ahead: 0,
+        alone: false,
+    };
+    sure_facts(book, rows, sure, negative, hints);
+    let end = search_first(
+        book,
+        rows,
+        plan,
+        sizes,
+        turn,
+        rejects,
+        positive,
+        negative,
+        early,
+        hints,
+        sure,
+        part,
+        none,
+    );
+    end.found
+}
+
+// Writes the first record of all stable models into a part of a record's size, and says whether there is one.
 pub fn write_first(book: &[u8], rows: &[u16], plan: &[u32], sizes: Sizes, part: &mut [u8]) -> bool
     requires { ⌜ Ready (now book) (now rows) (now plan) sizes ⌝ }
     requires { ⌜ length (now part) ≡ recordSize (sizes .n) ⌝ }
-    ensures { λ r. ⌜ FirstWritten (plannedProgram (now (book .entry)) (now (rows .entry)) (now (plan .entry)) sizes) (sizes .n) (now (part .entry)) r (now (part .exit)) ⌝ }
+    ensures { λ r. ⌜ (r ≡ not (hasNoStableState (plannedProgram (now (book .entry)) (now (rows .entry)) (now (plan .entry)) sizes))) × (now (part .exit) ≡ recordHeld (sizes .n) (take 1 (stableModels (plannedProgram (now (book .entry)) (now (rows .entry)) (now (plan .entry)) sizes))) (now (part .entry))) ⌝ }
 {
-    let nothing: [u8; 0] = [];
-    let end = pass(book, rows, plan, sizes, Goal::First, &nothing, part);
-    0 < end.count
+    let mut rejects: [u32; MAX_NAMES] = [0; MAX_NAMES];
+    let mut positive = [false; MAX_ATOMS];
+    let mut negative = [false; MAX_ATOMS];
+    let mut early = [false; MAX_ATOMS];
+    let mut hints: [u16; HINTS] = [0; HINTS];
+    let mut sure = [false; MAX_ATOMS];
+    let n = sizes.n;
+    first_pass(
+        book,
+        rows,
+        plan,
+        sizes,
+        &mut rejects,
+        &mut positive[0..n],
+        &mut negative[0..n],
+        &mut early[0..n],
+        &mut hints,
+        &mut sure[0..n],
+        part,
+    )
 }
