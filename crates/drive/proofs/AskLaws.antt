@@ -42,7 +42,7 @@ use Rattle.drive.specs.Asked.{ownTests, askedTests, asksNoFact, replyBy,
 
 -- ---- a refusal: the buffer is as it was
 refused-by : (q : Question) (c : Cause) (P : Program) (old : List ℕ) → Answers q (Refused c) P old (refusalOf q c) old
-unfolding refusalOf replyBy list.replyOf list.bufferOf one.replyOf place.replyOf
+unfolding refusalOf replyBy list.replyOf list.bufferOf one.replyOf one.bufferOf place.replyOf
 refused-by question.List c P old = record { reply-is = refl; buffer-is = refl }
 refused-by question.One c P old = record { reply-is = refl; buffer-is = refl }
 refused-by (question.Place fact) c P old = record { reply-is = refl; buffer-is = refl }
@@ -133,8 +133,8 @@ module _ (book : List ℕ) (layer off : ℕ) (old new : List ℕ) (r : Answer) w
   unfolding askedTests replyBy list.listReply list.listBuffer list.listTests
   list-told a = (a .reply-is, a .buffer-is)
 
-  pub one-told : Asked question.One book layer off old r new → (r ≡ State (one.oneReply book layer off old)) × one.OneBuffer book layer off old new
-  unfolding askedTests replyBy one.oneReply one.oneTests
+  pub one-told : Asked question.One book layer off old r new → (r ≡ State (one.oneReply book layer off old)) × (new ≡ one.oneBuffer book layer off old)
+  unfolding askedTests replyBy one.oneReply one.oneBuffer one.oneTests
   one-told a = (a .reply-is, a .buffer-is)
 
   pub place-told : (fact : ℕ) → Asked (question.Place fact) book layer off old r new → r ≡ Standing (place.placeReply book layer off fact)

@@ -55,7 +55,7 @@ refusalOf (question.Place fact) c = Standing (place-reply.Refused c)
 -- the buffer afterwards; a fact's place writes nothing
 abbrev pub BufferBy : Question → Verdict → Program → List ℕ → List ℕ → Type 0
 BufferBy question.List v P old new = new ≡ list.bufferOf v P old
-BufferBy question.One v P old new = one.BufferOf v P old new
+BufferBy question.One v P old new = new ≡ one.bufferOf v P old
 BufferBy (question.Place fact) v P old new = new ≡ old
 
 -- the answer and the buffer that a verdict comes to

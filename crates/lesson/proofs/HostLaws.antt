@@ -216,7 +216,7 @@ granted-reply : (r : ListReply) → readBy lessonStateCount (listAnswer r) ≡ l
 granted-reply (list.Listed k g) e t = sym (ap₂ list.Listed (ap (λ (x : Reading ℕ). x .own) e) (ap (λ (x : Reading ℕ). x .branching) e))
 granted-reply (list.Refused c) e t = absurd (false≢true (sym (ap (λ (x : Reading ℕ). x .granted) e) ∙ t))
 
-granted-call : (c : Call) → lessonGranted (listNumber c) ≡ true → Granted c (statesRead c) (branchingRead c)
+pub granted-call : (c : Call) → lessonGranted (listNumber c) ≡ true → Granted c (statesRead c) (branchingRead c)
 granted-call c t =
     granted-reply (listReply (c .book) (c .layer) (c .off) (c .buffer)) (answers-read .lesson-list .reads (record { book = c .book; layer = c .layer; off = c .off; candidate = []; buffer = c .buffer; fact = 0 })) t
 

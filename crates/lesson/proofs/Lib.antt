@@ -1,3 +1,4 @@
 pub mod AnswerLaws
 pub mod HostLaws
 pub mod SwitchedOffLaws
+pub mod SameStartLaws

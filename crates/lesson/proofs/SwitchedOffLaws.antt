@@ -1,15 +1,12 @@
 -- Each call's answer and buffer are made from the first cause that applies and from the program, so that the law of crates/accepted says
 -- that with the set 0 they are document 01's. Assumes nothing.
-use mathlib.Core.Path.{sym, subst}
 use mathlib.Core.List.{List, [], _∷_}
 use Prim.Native.Nat.{ℕ}
 use lib.ListN.{length}
 use Rattle.format.specs.Book.{bookOf}
-use Rattle.models.specs.Program.{Program}
 use Rattle.models.specs.StableModels.{stable}
 use Rattle.models.specs.Listing.{interpretationOf}
 use Rattle.book.specs.declared.Cause.the-variants.{BadCandidate}
-use Rattle.book.specs.declared.Verdict.{Verdict}
 use Rattle.accepted.proofs.SwitchedOffLaws.{answers-none}
 use Rattle.candidate.specs.Candidate.{isBadCandidate}
 use Rattle.test_call.specs.Reply as test
@@ -22,14 +19,9 @@ use Rattle.place_call.specs.Reply as place
 use Rattle.place_call.specs.declared.PlaceReply.{PlaceReply}
 use Rattle.lesson.specs.SwitchedOff.{NothingOff}
 
--- a verdict and a program, as the one state's buffer goes by both
-record Made : Type 0 where
-  verdict : Verdict
-  program : Program
-
 module _ (book : List ℕ) (layer : ℕ) where
   pub nothing-off : NothingOff book layer
-  unfolding test.testReply test.testTests list.listReply list.listBuffer list.listTests one.oneReply one.oneTests place.placeReply place.placeTests
+  unfolding test.testReply test.testTests list.listReply list.listBuffer list.listTests one.oneReply one.oneBuffer one.oneTests place.placeReply place.placeTests
   nothing-off = record {
     test-reply = λ candidate.
         answers-none TestReply (λ P. record { cause = BadCandidate; applies = isBadCandidate (bookOf book .atoms) candidate } ∷ [])
@@ -37,8 +29,6 @@ module _ (book : List ℕ) (layer : ℕ) where
     list-reply = λ old. answers-none ListReply (λ P. list.searchTests P (length old)) list.replyOf book layer;
     list-bytes = λ old. answers-none (List ℕ) (λ P. list.searchTests P (length old)) (λ v P. list.bufferOf v P old) book layer;
     one-reply = λ old. answers-none OneReply (λ P. one.searchTests P (length old)) one.replyOf book layer;
-    one-bytes = λ old new.
-        let same = answers-none Made (λ P. one.searchTests P (length old)) (λ v P. record { verdict = v; program = P }) book layer in
-        (subst (λ (x : Made). one.BufferOf (x .verdict) (x .program) old new) same, subst (λ (x : Made). one.BufferOf (x .verdict) (x .program) old new) (sym same));
+    one-bytes = λ old. answers-none (List ℕ) (λ P. one.searchTests P (length old)) (λ v P. one.bufferOf v P old) book layer;
     place-reply = λ fact. answers-none PlaceReply (λ P. place.factTests P fact) (λ v P. place.replyOf v P fact) book layer;
   }

@@ -1,3 +1,4 @@
 pub mod Answers
 pub mod Host
 pub mod SwitchedOff
+pub mod SameStart

@@ -2,7 +2,6 @@
 -- its buffer are made from document 01's causes (`wholeTests`, then the call's own) and document 01's program (`wholeProgram`), in which
 -- no layer can be switched off. proofs/SwitchedOffLaws.antt proves it. Assumes nothing.
 use mathlib.Core.Path.{_≡_}
-use mathlib.Core.Logic.{_↔_}
 use mathlib.Core.List.{List, [], _∷_, _++_}
 use Prim.Native.Nat.{ℕ}
 use lib.ListN.{length}
@@ -45,5 +44,5 @@ module _ (book : List ℕ) (layer : ℕ) where
     pub list-reply : (old : List ℕ) → list.listReply book layer 0 old ≡ list.replyOf (listVerdict old) whole
     pub list-bytes : (old : List ℕ) → list.listBuffer book layer 0 old ≡ list.bufferOf (listVerdict old) whole old
     pub one-reply : (old : List ℕ) → one.oneReply book layer 0 old ≡ one.replyOf (oneVerdict old) whole
-    pub one-bytes : (old new : List ℕ) → one.OneBuffer book layer 0 old new ↔ one.BufferOf (oneVerdict old) whole old new
+    pub one-bytes : (old : List ℕ) → one.oneBuffer book layer 0 old ≡ one.bufferOf (oneVerdict old) whole old
     pub place-reply : (fact : ℕ) → place.placeReply book layer 0 fact ≡ place.replyOf (placeVerdict fact) whole fact

@@ -5,7 +5,7 @@ ghost use Prim.Native.Nat.{_≤_};
 ghost use Rattle.book.specs.Causes.{verdict};
 ghost use Rattle.test_call.specs.Reply.{testReply};
 ghost use Rattle.list_call.specs.Reply.{listReply, listBuffer};
-ghost use Rattle.one_call.specs.Reply.{oneReply, OneBuffer};
+ghost use Rattle.one_call.specs.Reply.{oneReply, oneBuffer};
 ghost use Rattle.place_call.specs.Reply.{placeReply};
 ghost use Rattle.lesson.specs.Answers.{checkAnswer, testAnswer, listAnswer, oneAnswer, placeBits, placeAnswer, answerOf, ListFits, OneFits, PlaceFits, Fits};
 use book::Verdict;
@@ -125,12 +125,12 @@ pub extern "C" fn lesson_list(book: &[u8], layer: u32, off: u32, buffer: &mut [u
     answer_number(ask(book, layer, off, Question::List, buffer))
 }
 
-// Writes the record of a stable state of a book at a layer, with the layers of a set switched off, into the buffer's first bytes, or
+// Writes the first record of the listing of a book at a layer, with the layers of a set switched off, into the buffer's first bytes, or
 // names the first of causes 1 to 9, 19, 12, 13 and 14 that applies and leaves every byte. The answer carries g.
 #[no_mangle]
 pub extern "C" fn lesson_one(book: &[u8], layer: u32, off: u32, buffer: &mut [u8]) -> u64
     ensures answer { λ r. ⌜ r ≡ oneAnswer (oneReply (now (book .entry)) layer off (now (buffer .entry))) ⌝ }
-    ensures bytes { λ _. ⌜ OneBuffer (now (book .entry)) layer off (now (buffer .entry)) (now (buffer .exit)) ⌝ }
+    ensures bytes { λ _. ⌜ now (buffer .exit) ≡ oneBuffer (now (book .entry)) layer off (now (buffer .entry)) ⌝ }
 {
     answer_number(ask(book, layer, off, Question::One, buffer))
 }

@@ -283,3 +283,7 @@ equal-exactly c d k g j h a b =
 -- the numbers of a granted answer are small
 pub granted-small : (c : Call) (k g : ℕ) → Granted c k g → (k ≤ 1048576) × (g ≤ maxBranching)
 granted-small c k g e = let w : Told c k g = told c k g e in (k-small c k g w, w .few)
+
+-- record i of a granted listing is that of model i
+pub record-listed : (c : Call) (k g : ℕ) → Granted c k g → (i : ℕ) → i < length (stableModels (programOf (c .book) (c .layer) (c .off))) → recordAt c i ≡ recordOf (facts c) (getD (stableModels (programOf (c .book) (c .layer) (c .off))) i [])
+record-listed c k g e i h = let w : Told c k g = told c k g e in at c k g w i (omega (arith, w .count))

@@ -1,21 +1,20 @@
--- Document 01: one state. Its causes in order of test, its answer, and the buffer afterwards: which stable state is written stays
--- open, and everything else is an equation. Assumes nothing.
+-- Document 01: one state, which is the first of the listing (document 02, (f)). Its causes in order of test, its answer, and the buffer
+-- afterwards. Assumes nothing.
 use mathlib.Core.Path.{_≡_}
-use mathlib.Core.List.{List, [], _∷_, _++_}
+use mathlib.Core.List.{List, [], _∷_, _++_, map}
 use Prim.Native.Nat.{ℕ}
 use lib.Dec.{ltb}
-use lib.ListN.{length, drop}
+use lib.ListN.{length, take, drop}
+use Rattle.base.specs.Lists.{flat}
 use Rattle.models.specs.Program.{Program}
-use Rattle.models.specs.StableModels.{Interpretation}
 use Rattle.models.specs.Branching.{branchingCount}
-use Rattle.models.specs.Listing.{recordSize, recordOf}
+use Rattle.models.specs.Listing.{stableModels, recordSize, recordOf}
 use Rattle.table.specs.Table.{programOf}
 use Rattle.book.specs.Causes.{Test, firstOf}
 use Rattle.book.specs.declared.Cause.the-variants.{TooManyBranching, BufferTooShort, NoStableState}
 use Rattle.book.specs.declared.Verdict.{Verdict}
 use Rattle.book.specs.declared.Verdict.the-variants.{Accepted, Refused}
 use Rattle.accepted.specs.Driven.{layerTests}
-use Rattle.passes.specs.First.{Chosen}
 use Rattle.passes.specs.Limit.{hasTooManyBranching, hasNoStableState}
 use Rattle.one_call.specs.declared.OneReply.{OneReply}
 use Rattle.one_call.specs.declared.OneReply.the-variants as reply
@@ -38,24 +37,18 @@ unfoldable pub replyOf : Verdict → Program → OneReply
 replyOf (Refused c) P = reply.Refused c
 replyOf Accepted P = reply.Written (branchingCount P)
 
--- the record of a stable state stands in front, and the bytes past it are untouched
-pub record Holds (P : Program) (old new : List ℕ) : Type 0 where
-  pub state : Interpretation
-  pub stable : Chosen P state
-  pub bytes : new ≡ recordOf (P .atoms) state ++ drop (recordSize (P .atoms)) old
-
--- a refusal leaves every byte
-abbrev pub BufferOf : Verdict → Program → List ℕ → List ℕ → Type 0
-BufferOf (Refused c) P old new = new ≡ old
-BufferOf Accepted P old new = Holds P old new
+-- a refusal leaves every byte; else the first record of the listing stands in front, and the bytes past it are untouched
+unfoldable pub bufferOf : Verdict → Program → List ℕ → List ℕ
+bufferOf (Refused c) P old = old
+bufferOf Accepted P old = flat (map (recordOf (P .atoms)) (take 1 (stableModels P))) ++ drop (recordSize (P .atoms)) old
 
 unfoldable pub oneReply : List ℕ → ℕ → ℕ → List ℕ → OneReply
 oneReply book layer off old = replyOf (firstOf (oneTests book layer off (length old))) (programOf book layer off)
 
-abbrev pub OneBuffer : List ℕ → ℕ → ℕ → List ℕ → List ℕ → Type 0
-OneBuffer book layer off old new = BufferOf (firstOf (oneTests book layer off (length old))) (programOf book layer off) old new
+unfoldable pub oneBuffer : List ℕ → ℕ → ℕ → List ℕ → List ℕ
+oneBuffer book layer off old = bufferOf (firstOf (oneTests book layer off (length old))) (programOf book layer off) old
 
 -- the answer and the buffer that a verdict comes to
 pub record Answers (v : Verdict) (P : Program) (old : List ℕ) (r : OneReply) (new : List ℕ) : Type 0 where
   pub reply-is : r ≡ replyOf v P
-  pub buffer-is : BufferOf v P old new
+  pub buffer-is : new ≡ bufferOf v P old

@@ -1,4 +1,4 @@
-// The call that hands out one state, once its table and plan are made: cause 13 or 14, or a stable state's record, with g.
+// The call that hands out one state, once its table and plan are made: cause 13 or 14, or the first record of the listing, with g.
 ghost use lib.ListN.{length};
 ghost use Rattle.book.specs.Causes.{firstOf};
 ghost use Rattle.plan.specs.Plan.{plannedProgram};
@@ -15,7 +15,7 @@ pub enum OneReply {
     Refused(Cause),
 }
 
-// Room for a record comes first: a short buffer is 13 whether or not there is a state. The search stops at the first state.
+// Room for a record comes first: a short buffer is 13 whether or not there is a state.
 pub fn one_found(
     book: &[u8],
     rows: &[u16],
