@@ -493,17 +493,22 @@ impl<const W: usize> Search<W> {
         Ok(counts(self.branching.len(), states.len()))
     }
 
+    /// Sets compare as records do. Where the branching facts come before all others, the first state
+    /// that is met is the least.
     fn one(&mut self, buffer: &mut [u8]) -> Result<u64, u64> {
         let width = width(self.atoms);
         let place = buffer.get_mut(..width).ok_or(BUFFER_TOO_SHORT)?;
-        let mut answer = Err(NO_STABLE_STATE);
-        let granted = branching(self.branching.len());
+        let in_order = (0..).zip(&self.branching).all(|(at, &atom)| at == atom);
+        let mut least: Option<Set<W>> = None;
         self.each_stable(|state| {
-            place.copy_from_slice(&record(state)[..width]);
-            answer = Ok(granted);
-            ControlFlow::Break(())
+            least = Some(least.map_or(*state, |least| least.min(*state)));
+            match in_order {
+                true => ControlFlow::Break(()),
+                false => ControlFlow::Continue(()),
+            }
         });
-        answer
+        place.copy_from_slice(&record(&least.ok_or(NO_STABLE_STATE)?)[..width]);
+        Ok(branching(self.branching.len()))
     }
 
     fn place(&mut self, atom: u16) -> u64 {

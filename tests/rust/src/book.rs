@@ -123,6 +123,18 @@ impl Book {
         self.rule(layer, FALSITY, body)
     }
 
+    /// The same book with its facts under other numbers, each of which is taken once.
+    pub fn renumbered(&self, numbers: &[u16]) -> Book {
+        let mut book = self.clone();
+        for rule in &mut book.rules {
+            let head = (!rule.is_constraint()).then_some(&mut rule.head);
+            for literal in head.into_iter().chain(&mut rule.body) {
+                literal.atom = numbers[usize::from(literal.atom)];
+            }
+        }
+        book
+    }
+
     pub fn has_constraints(&self) -> bool {
         self.rules.iter().any(Rule::is_constraint)
     }

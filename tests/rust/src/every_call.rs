@@ -3,10 +3,10 @@
 
 use crate::book::{hex, width, Book, BYTE_ATOMS, MAX_ATOMS};
 use crate::drive::Drive;
-use crate::expected::{branching, counts, place_of, yes_or_no, Asked, NO_STABLE_STATE};
+use crate::expected::{counts, place_of, yes_or_no, Asked};
 use crate::ffi;
 use crate::known::{some_facts, Known};
-use crate::listed::{assert_outcome, outcome};
+use crate::listed::{assert_one, assert_outcome, one_outcome, outcome};
 use crate::misreadings::{Misread, Misreading};
 use crate::oracle;
 
@@ -44,15 +44,7 @@ pub fn assert_as_the_oracle(what: &str, book: &Book, drive: Drive) -> u64 {
     }
     for length in 0..3 {
         let buffer = vec![FILLER; length];
-        let (engine, after) = ffi::one(&bytes, drive, &buffer);
-        let right = match asked.one(length) {
-            Err(cause) => engine == cause && after == buffer,
-            Ok((granted, records)) => {
-                let written = |record: &Vec<u8>| after == [record, &buffer[1..]].concat();
-                engine == granted && records.iter().any(written)
-            }
-        };
-        assert!(right, "{}: {engine:#X}, {}", told("one"), hex(&after));
+        assert_one(what, &bytes, drive, &buffer, &asked.one(&buffer));
     }
     for fact in 0..=book.atoms.into() {
         let engine = ffi::place(&bytes, drive, fact);
@@ -77,12 +69,8 @@ pub fn assert_known(what: &str, book: &Book, drive: Drive, records: &[u8], g: us
     let buffer = [FILLER; ROOM];
     let expected = outcome(&listing, counts(g, records.len()), &buffer);
     assert_outcome(what, &bytes, drive, &buffer, &expected);
-    let (engine, after) = ffi::one(&bytes, drive, &[FILLER; 2]);
-    let right = match records {
-        [] => engine == NO_STABLE_STATE && after == [FILLER; 2],
-        _ => engine == branching(g) && records.contains(&after[0]) && after[1] == FILLER,
-    };
-    assert!(right, "{}: {engine:#X}, {}", told("one"), hex(&after));
+    let expected = one_outcome(listed.first().map(Vec::as_slice), 1, g, &[FILLER; 2]);
+    assert_one(what, &bytes, drive, &[FILLER; 2], &expected);
     for fact in 0..book.atoms {
         let stands = |record: &&u8| *record >> (7 - fact) & 1 == 1;
         let standing = records.iter().filter(stands).count();
@@ -138,17 +126,11 @@ pub fn assert_known_book(what: &str, known: &Known) {
     }
     let width = width(known.book.atoms);
     let records: Vec<&[u8]> = listing[11..].chunks(width).collect();
-    let (answer, one) = ffi::one(&bytes, drive, &vec![FILLER; width]);
-    match known.count {
-        0 => assert_eq!(
-            (answer, one),
-            (NO_STABLE_STATE, vec![FILLER; width]),
-            "{what}"
-        ),
-        _ => {
-            assert_eq!(answer, branching(known.branching), "{what}");
-            assert!(records.contains(&&one[..]), "{what}: {}", hex(&one));
-        }
+    let first = records.first().copied();
+    for length in [width + 3, width, width - 1] {
+        let buffer = vec![FILLER; length];
+        let expected = one_outcome(first, width, known.branching, &buffer);
+        assert_one(what, &bytes, drive, &buffer, &expected);
     }
     let places = known.places();
     for fact in some_facts(known.book.atoms) {

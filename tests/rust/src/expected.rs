@@ -114,17 +114,19 @@ impl Asked {
         (answer.unwrap_or_else(|cause| cause), after)
     }
 
-    /// The answer of `lesson_one` and the records of which it may write any, or the cause.
-    pub fn one(&self, buffer_len: usize) -> Result<(u64, Vec<Vec<u8>>), u64> {
-        let driven = self.driven()?;
-        let answer = branching(searched(driven)?);
-        if buffer_len < usize::from(driven.atoms()).div_ceil(8) {
-            return Err(BUFFER_TOO_SHORT);
-        }
-        match self.records(driven) {
-            none if none.is_empty() => Err(NO_STABLE_STATE),
-            records => Ok((answer, records)),
-        }
+    /// The answer of `lesson_one` and the buffer after it: the first record of the listing is handed
+    /// out (document 02, f).
+    pub fn one(&self, buffer: &[u8]) -> (u64, Vec<u8>) {
+        let mut after = buffer.to_vec();
+        let answer = self.driven().and_then(|driven| {
+            let answer = branching(searched(driven)?);
+            let width = usize::from(driven.atoms()).div_ceil(8);
+            let place = after.get_mut(..width).ok_or(BUFFER_TOO_SHORT)?;
+            let records = self.records(driven);
+            place.copy_from_slice(records.first().ok_or(NO_STABLE_STATE)?);
+            Ok(answer)
+        });
+        (answer.unwrap_or_else(|cause| cause), after)
     }
 
     /// The answer of `lesson_place`.
@@ -152,9 +154,9 @@ pub fn list(book: &[u8], drive: Drive, buffer: &[u8]) -> (u64, Vec<u8>) {
     Asked::new(book, drive).list(buffer)
 }
 
-/// The answer of `lesson_one` and the records of which it may write any, or the cause.
-pub fn one(book: &[u8], drive: Drive, buffer_len: usize) -> Result<(u64, Vec<Vec<u8>>), u64> {
-    Asked::new(book, drive).one(buffer_len)
+/// The answer of `lesson_one` and the buffer after it.
+pub fn one(book: &[u8], drive: Drive, buffer: &[u8]) -> (u64, Vec<u8>) {
+    Asked::new(book, drive).one(buffer)
 }
 
 /// The answer of `lesson_place`.

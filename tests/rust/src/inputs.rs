@@ -5,6 +5,7 @@ use crate::book::{hex, Book, BYTE_ATOMS, LONGEST_RECORD, MAX_ATOMS, WIDE};
 use crate::causes::fields;
 use crate::drive::Drive;
 use crate::expected::yes_or_no;
+use crate::ffi::Outcome;
 use crate::known::{self, EVERY_FOLLOWING};
 use crate::orders::{Order, Ordered};
 use crate::plain;
@@ -57,15 +58,18 @@ impl fmt::Display for Question {
 #[derive(Clone, Debug, PartialEq, Eq)]
 pub struct Wanted {
     pub answer: u64,
-    /// The buffer after the call: one of these, and only for `lesson_one` are there several. Empty
-    /// where the call has none.
-    pub buffers: Vec<Vec<u8>>,
+    /// The buffer after the call. Empty where the call has none.
+    pub buffer: Vec<u8>,
 }
 
 impl Wanted {
     fn answer(answer: u64) -> Wanted {
-        let buffers = vec![Vec::new()];
-        Wanted { answer, buffers }
+        let buffer = Vec::new();
+        Wanted { answer, buffer }
+    }
+
+    fn outcome((answer, buffer): Outcome) -> Wanted {
+        Wanted { answer, buffer }
     }
 }
 
@@ -268,13 +272,12 @@ fn questions(rng: &mut Rng, book: &[u8], drive: Drive) -> Vec<Asked> {
     let room_for_all = 11 + width * ((1 << branching.min(8)) - rng.below(2));
     for length in [length, length - 1, any_length, room_for_all] {
         let buffer = rng.bytes(length);
-        let (answer, after) = truth.list(&buffer);
-        let buffers = vec![after];
-        questions.push((Question::List { buffer }, Wanted { answer, buffers }));
+        let wanted = Wanted::outcome(truth.list(&buffer));
+        questions.push((Question::List { buffer }, wanted));
     }
     for length in [width, width.saturating_sub(1), rng.range(0, width + 9)] {
         let buffer = rng.bytes(length);
-        let wanted = one(&truth, &records, &buffer);
+        let wanted = Wanted::outcome(truth.one(&buffer));
         questions.push((Question::One { buffer }, wanted));
     }
     for fact in [
@@ -299,19 +302,6 @@ fn records(truth: &Truth, width: usize) -> Vec<Vec<u8>> {
         }
         _ => Vec::new(),
     }
-}
-
-/// What must come of `lesson_one`: the buffer as it was, or any of the records in its first bytes.
-fn one(truth: &Truth, records: &[Vec<u8>], buffer: &[u8]) -> Wanted {
-    let answer = truth.one(buffer);
-    let buffers = match answer & 0xFF {
-        0 => records
-            .iter()
-            .map(|record| [record, &buffer[record.len()..]].concat())
-            .collect(),
-        _ => vec![buffer.to_vec()],
-    };
-    Wanted { answer, buffers }
 }
 
 /// A stable state where there is one, any state, and what is no state.

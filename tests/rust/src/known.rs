@@ -21,9 +21,10 @@ pub struct Known {
 }
 
 impl Known {
-    /// Whether a state is among the stable ones.
-    pub fn has(&self, record: &[u8]) -> bool {
-        (0..self.count).any(|number| oracle::record(&(self.state)(number)) == record)
+    /// The first record of the listing, if there is one.
+    pub fn first(&self) -> Option<Vec<u8>> {
+        let records = (0..self.count).map(|number| oracle::record(&(self.state)(number)));
+        records.min()
     }
 
     pub fn listing(&self) -> Vec<u8> {
@@ -1020,6 +1021,105 @@ fn accompanied(known: Known) -> Known {
     }
 }
 
+/// The same book with its facts under other numbers, each of which is taken once.
+pub fn renumbered(known: Known, numbers: Vec<u16>) -> Known {
+    let state = known.state;
+    Known {
+        book: known.book.renumbered(&numbers),
+        state: Box::new(move |number| renumbered_state(&state(number), &numbers)),
+        ..known
+    }
+}
+
+/// A state of a book as it is where the facts have these numbers.
+pub fn renumbered_state(state: &[bool], numbers: &[u16]) -> Vec<bool> {
+    let mut renumbered = vec![false; state.len()];
+    for (&number, &stands) in numbers.iter().zip(state) {
+        renumbered[usize::from(number)] = stands;
+    }
+    renumbered
+}
+
+/// What facts do that come before all others of a book. None of them branches.
+#[derive(Clone, Copy, Debug, PartialEq, Eq)]
+pub enum Front {
+    /// They have no rule, and never stand.
+    Never,
+    /// They are given.
+    Given,
+    /// The last is given, and each other follows the next one.
+    Chain,
+    /// They stand where a branching fact does, and where it does not.
+    Either,
+    /// Each follows a branching fact, in turn.
+    Follow,
+    /// Each stands where a branching fact does not.
+    Oppose,
+}
+
+impl Front {
+    pub const ALL: [Front; 6] = [
+        Front::Never,
+        Front::Given,
+        Front::Chain,
+        Front::Either,
+        Front::Follow,
+        Front::Oppose,
+    ];
+
+    /// The bodies of a fact's rules; `end` is the fact past the last of its kind.
+    fn bodies(self, atom: u16, end: u16, branching: u16) -> Vec<Vec<Literal>> {
+        match self {
+            Front::Never => vec![],
+            Front::Chain if atom + 1 < end => vec![vec![plain(atom + 1)]],
+            Front::Given | Front::Chain => vec![vec![]],
+            Front::Either => vec![vec![plain(branching)], vec![not(branching)]],
+            Front::Follow => vec![vec![plain(branching)]],
+            Front::Oppose => vec![vec![not(branching)]],
+        }
+    }
+
+    fn stands(self, branching: bool) -> bool {
+        match self {
+            Front::Never => false,
+            Front::Given | Front::Chain | Front::Either => true,
+            Front::Follow => branching,
+            Front::Oppose => !branching,
+        }
+    }
+}
+
+/// The same book, which has a branching fact, behind so many facts of a kind.
+pub fn behind(known: Known, front: Front, count: u16) -> Known {
+    let branches = Driven::new(&known.book, known.layer.into()).branching();
+    let branching = (0..known.book.atoms).filter(|&atom| branches[usize::from(atom)]);
+    let branching: Vec<u16> = branching.cycle().take(count.into()).collect();
+    // All facts get their numbers at the end.
+    let Known {
+        mut book, state, ..
+    } = known;
+    let (first, end) = (book.atoms, book.atoms + count);
+    book.atoms = end;
+    for (atom, &branching) in (first..end).zip(&branching) {
+        for body in front.bodies(atom, end, branching) {
+            book = book.rule(known.layer, plain(atom), &body);
+        }
+    }
+    let state = move |number| {
+        let mut state: Vec<bool> = state(number);
+        for &atom in &branching {
+            state.push(front.stands(state[usize::from(atom)]));
+        }
+        state
+    };
+    let behind = Known {
+        book,
+        state: Box::new(state),
+        ..known
+    };
+    renumbered(behind, (count..end).chain(0..count).collect())
+}
+
 /// The same book with constraints in its driven layer: of its states those are left in which no body
 /// of them holds.
 pub fn constrained(known: Known, bodies: &[Vec<Literal>]) -> Known {
@@ -1270,6 +1370,22 @@ pub(crate) mod tests {
             }
             let random = randomly_constrained(&mut rng, 6, 120, atoms);
             assert_known(&format!("seed {seed}, random constraints"), &random);
+        }
+    }
+
+    #[test]
+    fn oracle_confirms_books_behind_facts_of_every_kind() {
+        let seed = seed();
+        let mut rng = Rng::named(seed, "known, front");
+        for front in Front::ALL {
+            for known in [pairs(2, 1), free(3, 0, 6), chosen(1, 3), single(3, true)] {
+                let mut known = behind(known, front, 4);
+                assert_known(&format!("behind {front:?}"), &known);
+                let mut numbers: Vec<u16> = (0..known.book.atoms).collect();
+                rng.shuffle(&mut numbers);
+                known = renumbered(known, numbers);
+                assert_known(&format!("seed {seed}, {front:?}, renumbered"), &known);
+            }
         }
     }
 

@@ -1,9 +1,11 @@
-//! What `lesson_list` is to do to a buffer, for every test of it.
+//! What `lesson_list` and `lesson_one` are to do to a buffer, for every test of them.
 
 use crate::book::hex;
+use crate::causes::fields;
 use crate::drive::Drive;
-use crate::expected::BUFFER_TOO_SHORT;
+use crate::expected::{branching, BUFFER_TOO_SHORT, NO_STABLE_STATE};
 use crate::ffi;
+use crate::known::Known;
 
 /// The outcome on `buffer` of a call that would write `listing` and give `answer`.
 pub fn outcome(listing: &[u8], answer: u64, buffer: &[u8]) -> ffi::Outcome {
@@ -17,7 +19,39 @@ pub fn outcome(listing: &[u8], answer: u64, buffer: &[u8]) -> ffi::Outcome {
     }
 }
 
-/// The engine's outcome on fenced copies is the one expected.
+/// The outcome on `buffer` of a call for one state of a book whose records have `width` bytes, of which
+/// `first` is the first where there is one; or 13 where it has no room.
+pub fn one_outcome(first: Option<&[u8]>, width: usize, g: usize, buffer: &[u8]) -> ffi::Outcome {
+    let mut after = buffer.to_vec();
+    let answer = match (after.get_mut(..width), first) {
+        (None, _) => BUFFER_TOO_SHORT,
+        (_, None) => NO_STABLE_STATE,
+        (Some(place), Some(first)) => {
+            place.copy_from_slice(first);
+            branching(g)
+        }
+    };
+    (answer, after)
+}
+
+/// The same for a book whose states are known.
+pub fn one_of_known(known: &Known, buffer: &[u8]) -> ffi::Outcome {
+    let width = usize::from(known.book.atoms).div_ceil(8);
+    one_outcome(known.first().as_deref(), width, known.branching, buffer)
+}
+
+/// The first record that `lesson_list` writes, with so many bytes of room. The book is lawful, and has a
+/// state.
+pub fn first_listed(book: &[u8], drive: Drive, room: usize) -> Vec<u8> {
+    let mut buffer = vec![0; room];
+    let answer = ffi::list_in_place(book, drive, &mut buffer);
+    let told = || format!("{drive}, list: {answer:#X}\n{}", hex(book));
+    assert!(answer & 0xFF == 0 && answer >> 16 != 0, "{}", told());
+    let (facts, _) = fields(book);
+    buffer[11..11 + facts.div_ceil(8)].to_vec()
+}
+
+/// The engine's outcome of `lesson_list` on fenced copies is the one expected.
 pub fn assert_outcome(
     what: &str,
     book: &[u8],
@@ -26,8 +60,24 @@ pub fn assert_outcome(
     expected: &ffi::Outcome,
 ) {
     let engine = ffi::list(book, drive, buffer);
+    assert_same(what, book, drive, buffer, [&engine, expected]);
+}
+
+/// The engine's outcome of `lesson_one` on fenced copies is the one expected.
+pub fn assert_one(what: &str, book: &[u8], drive: Drive, buffer: &[u8], expected: &ffi::Outcome) {
+    let engine = ffi::one(book, drive, buffer);
+    assert_same(what, book, drive, buffer, [&engine, expected]);
+}
+
+fn assert_same(
+    what: &str,
+    book: &[u8],
+    drive: Drive,
+    buffer: &[u8],
+    [engine, expected]: [&ffi::Outcome; 2],
+) {
     assert!(
-        engine == *expected,
+        engine == expected,
         "{what}, {drive}, buffer of {} bytes: engine {:#X}, expected {:#X}\nbook {}\n\
          engine's buffer   {}\nexpected          {}\nbefore            {}",
         buffer.len(),

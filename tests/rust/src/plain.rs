@@ -285,17 +285,22 @@ impl<const N: usize> Calls for Program<N> {
         Ok(counts(branching.len(), count))
     }
 
+    /// A whole pass that keeps the least record.
     fn one(&self, buffer: &mut [u8]) -> Result<u64, u64> {
         let atoms = self.branching()?;
         let width = self.atoms.div_ceil(8);
         let place = buffer.get_mut(..width).ok_or(BUFFER_TOO_SHORT)?;
-        let mut answer = Err(NO_STABLE_STATE);
+        let mut least = None;
         self.each_stable(&atoms, |state| {
-            place.copy_from_slice(&Program::record(state)[..width]);
-            answer = Ok(branching(atoms.len()));
-            ControlFlow::Break(())
+            let record = Program::record(state);
+            least = Some(match least {
+                Some(least) => record.min(least),
+                None => record,
+            });
+            ControlFlow::Continue(())
         });
-        answer
+        place.copy_from_slice(&least.ok_or(NO_STABLE_STATE)?[..width]);
+        Ok(branching(atoms.len()))
     }
 
     /// The search ends once both a state with the fact and one without it were seen.
@@ -509,6 +514,15 @@ mod tests {
                     hex(&bytes)
                 );
                 several += usize::from(plain >> 16 > 1);
+                let mut buffer = vec![0xA5; rng.below(4)];
+                let oracle = expected::one(&bytes, drive, &buffer);
+                let plain = one(&bytes, drive, &mut buffer);
+                assert!(
+                    (plain, &buffer) == (oracle.0, &oracle.1),
+                    "seed {seed}, {drive}, one: plain {plain:#X}, oracle {:#X}\n{}",
+                    oracle.0,
+                    hex(&bytes)
+                );
             }
         }
         assert!(several > 500, "only {several} listings of several states");

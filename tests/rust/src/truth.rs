@@ -42,14 +42,14 @@ impl<'a> Truth<'a> {
         }
     }
 
-    /// The answer of `lesson_one` in a buffer that is long enough or not.
-    pub fn one(&self, buffer: &[u8]) -> u64 {
+    /// The answer of `lesson_one` and the buffer after it.
+    pub fn one(&self, buffer: &[u8]) -> (u64, Vec<u8>) {
         match self {
-            Truth::Oracle(asked) => match asked.one(buffer.len()) {
-                Ok((answer, _)) => answer,
-                Err(cause) => cause,
-            },
-            Truth::Plain { book, drive } => plain::one(book, *drive, &mut buffer.to_vec()),
+            Truth::Oracle(asked) => asked.one(buffer),
+            Truth::Plain { book, drive } => {
+                let mut after = buffer.to_vec();
+                (plain::one(book, *drive, &mut after), after)
+            }
         }
     }
 

@@ -5,9 +5,10 @@ use lesson_tests::bitset;
 use lesson_tests::book::{hex, width, Book, BYTE_ATOMS, MAX_ATOMS, WIDE};
 use lesson_tests::causes::{fields, ANSWERS};
 use lesson_tests::drive::Drive;
-use lesson_tests::expected::{self, branching, counts, place_of, yes_or_no, NO_STABLE_STATE};
+use lesson_tests::expected::{self, counts, place_of, yes_or_no};
 use lesson_tests::ffi;
 use lesson_tests::known::{self, Known, Left, EVERY_FOLLOWING};
+use lesson_tests::listed::{one_of_known, one_outcome};
 use lesson_tests::oracle::{self, Driven};
 use lesson_tests::orders::{Order, Ordered};
 use lesson_tests::rng::{seed, Rng};
@@ -57,24 +58,17 @@ impl Case<'_> {
         }
     }
 
-    /// Each writes some record of `records`, which may be another, or nothing.
-    fn one(&self, length: usize, expected: u64, records: &[Vec<u8>]) {
+    /// Each writes the first record in front of the untouched rest, or nothing.
+    fn one(&self, length: usize, expected: &ffi::Outcome) {
         let mut buffers = [vec![FILLER; length], vec![FILLER; length]];
         let [bits, engine] = &mut buffers;
         let answers = [
             bitset::one(self.book, self.drive, bits),
             ffi::one_in_place(self.book, self.drive, engine),
         ];
-        self.assert_answers("one", answers, expected);
+        self.assert_answers("one", answers, expected.0);
         for buffer in &buffers {
-            let written = |record: &Vec<u8>| {
-                let (state, rest) = buffer.split_at(record.len());
-                state == record && rest.iter().all(|&byte| byte == FILLER)
-            };
-            let right = match expected & 0xFF {
-                0 => records.iter().any(written),
-                _ => buffer.iter().all(|&byte| byte == FILLER),
-            };
+            let right = *buffer == expected.1;
             assert!(right, "{}: {}\n{}", self.what, hex(buffer), hex(self.book));
         }
     }
@@ -104,13 +98,12 @@ fn assert_layer(case: &Case, driven: &Driven) -> usize {
     case.list(listed.len(), (counts(g, models.len()), &listed));
     let short = vec![FILLER; listing.len() - 1];
     case.list(short.len(), (expected::BUFFER_TOO_SHORT, &short));
-    let records: Vec<Vec<u8>> = models.iter().map(|model| oracle::record(model)).collect();
-    let answer = match models.is_empty() {
-        true => NO_STABLE_STATE,
-        false => branching(g),
-    };
-    case.one(width(atoms) + 2, answer, &records);
-    case.one(0, expected::BUFFER_TOO_SHORT, &records);
+    let width = width(atoms);
+    let first = models.first().map(|model| oracle::record(model));
+    for length in [0, width, width + 2] {
+        let buffer = vec![FILLER; length];
+        case.one(length, &one_outcome(first.as_deref(), width, g, &buffer));
+    }
     for fact in 0..atoms {
         let standing = models.iter().filter(|model| model[usize::from(fact)]);
         let place = place_of(g, standing.count(), models.len());
@@ -196,11 +189,7 @@ fn assert_known(what: &str, known: &Known) {
     let width = width(known.book.atoms);
     let records: Vec<Vec<u8>> = listing[11..].chunks(width).map(<[u8]>::to_vec).collect();
     case.list(listing.len(), (known.answer(), &listing));
-    let answer = match known.count {
-        0 => NO_STABLE_STATE,
-        _ => branching(known.branching),
-    };
-    case.one(width, answer, &records);
+    case.one(width, &one_of_known(known, &vec![FILLER; width]));
     let places = known.places();
     for fact in known::some_facts(known.book.atoms) {
         case.place(fact.into(), places[usize::from(fact)]);

@@ -17,7 +17,7 @@ use lesson_tests::expected::{
 };
 use lesson_tests::ffi;
 use lesson_tests::known::{self, Left};
-use lesson_tests::listed::{assert_outcome, outcome};
+use lesson_tests::listed::{assert_one, assert_outcome, one_of_known, outcome};
 use lesson_tests::misreadings::{Misread, Misreading::*, OF_CONSTRAINTS};
 use lesson_tests::oracle::{self, body_holds, Driven};
 use lesson_tests::plain as plain_rust;
@@ -661,9 +661,8 @@ fn few_of_2_to_the_20_settings_are_left() {
         let answer = ffi::list_in_place(&bytes, drive, &mut buffer);
         assert_eq!(answer, known.answer(), "{over_helpers}");
         assert_eq!(buffer, [&listing[..], &[FILLER]].concat(), "{over_helpers}");
-        let one = ffi::one(&bytes, drive, &[FILLER; 5]);
-        assert_eq!(one.0, branching(20));
-        assert!(known.has(&one.1), "{}", hex(&one.1));
+        let expected = one_of_known(&known, &[FILLER; 6]);
+        assert_one("few left", &bytes, drive, &[FILLER; 6], &expected);
     }
 }
 

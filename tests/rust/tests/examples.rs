@@ -171,14 +171,15 @@ fn what_the_host_prints_follows_from_the_states() {
             driven.branching_count()
         ));
         lines.extend(states.iter().map(|state| digits(state)));
-        // Which state is handed out is the engine's choice, so this has to hold for each.
-        for state in &states {
-            let mut changed = state.clone();
-            changed[0] = !changed[0];
-            assert!(!driven.stable(&changed), "{name}: {}", digits(state));
+        let mut first = states[0].clone();
+        for handed_out in ["the first state", "fact 0 the other way"] {
+            let stable = match driven.stable(&first) {
+                true => "stable",
+                false => "not stable",
+            };
+            lines.push(format!("{handed_out}: {stable}"));
+            first[0] = !first[0];
         }
-        lines.push("a state handed out: stable".to_string());
-        lines.push("fact 0 the other way: not stable".to_string());
         for atom in 0..usize::from(book.atoms) {
             let place = match states.iter().filter(|state| state[atom]).count() {
                 0 => "none",

@@ -494,6 +494,10 @@ fn assert_alike(what: &str, rng: &mut Rng, drives: [(&[u8], Drive); 2], atoms: u
             (ffi::test(book, drive, &candidate), Vec::new())
         });
     }
+    if listed.0 & 0xFF == 0 && listed.0 >> 16 != 0 {
+        let handed_out = [&listed.1[11..11 + width], &buffer[width..]].concat();
+        assert!(one.1 == handed_out, "{}", told("one, the first listed"));
+    }
     listed.0 & 0xFF == 0
 }
 

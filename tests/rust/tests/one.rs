@@ -1,62 +1,48 @@
-//! `lesson_one` of the compiled archive: the state that it hands out is stable by the oracle, and
-//! everything else is as document 01 says.
+//! `lesson_one` of the compiled archive: the state that it hands out is the first of the listing, by the
+//! oracle and by `lesson_list`, and everything else is as document 01 says. Which books have their first
+//! state where a search does not look first is tried in `first`.
 
 use lesson_tests::book::{
     hex, not, plain, width, Book, BYTE_ATOMS, LONGEST_RECORD, MAX_ATOMS, WIDE,
 };
 use lesson_tests::causes::{every_set, AnyBytes, ANSWERS};
 use lesson_tests::drive::{at, Drive};
-use lesson_tests::expected::{self, branching, BUFFER_TOO_SHORT, NO_STABLE_STATE};
-use lesson_tests::ffi;
+use lesson_tests::expected::branching;
+use lesson_tests::ffi::{self, Outcome};
 use lesson_tests::known::{self, Known};
-use lesson_tests::oracle::{self, Driven};
-use lesson_tests::reader;
+use lesson_tests::listed::{assert_one, first_listed, one_of_known, one_outcome};
+use lesson_tests::oracle;
 use lesson_tests::rng::{seed, Rng};
 use lesson_tests::shapes::{self, Layering, B, NO_LAYERS};
 use lesson_tests::sweep;
 use lesson_tests::truth::Truth;
 use std::thread;
 
-/// The engine's outcome on fenced copies is the refusal, with every byte as it was; or the answer,
-/// with a record of which `stable` is true, and later bytes as they were.
-fn assert_outcome(
-    what: &str,
-    book: &[u8],
-    drive: Drive,
-    buffer: &[u8],
-    expected: Result<u64, u64>,
-    stable: impl Fn(&[u8]) -> bool,
-) {
-    let (answer, after) = ffi::one(book, drive, buffer);
-    let right = match expected {
-        Err(cause) => answer == cause && after == buffer,
-        Ok(granted) => {
-            let width = reader::read(book).map_or(0, |book| width(book.atoms));
-            answer == granted && stable(&after[..width]) && after[width..] == buffer[width..]
-        }
-    };
-    assert!(
-        right,
-        "{what}, {drive}, buffer of {} bytes: engine {answer:#X}, expected {expected:X?}\n\
-         book {}\nafter  {}\nbefore {}",
-        buffer.len(),
-        hex(book),
-        hex(&after),
-        hex(buffer)
-    );
+/// More bytes than any listing has with which a state is compared.
+const ROOM: usize = 1 << 18;
+
+/// The engine's outcome on fenced copies is the one expected; and where a state is handed out, it is the
+/// first that `lesson_list` has for the same book, layer and set.
+fn assert_outcome(what: &str, book: &[u8], drive: Drive, buffer: &[u8], expected: &Outcome) {
+    assert_one(what, book, drive, buffer, expected);
+    if expected.0 & 0xFF == 0 {
+        let first = first_listed(book, drive, ROOM);
+        let handed_out = &expected.1[..first.len()];
+        assert_eq!(hex(&first), hex(handed_out), "{what}\n{}", hex(book));
+    }
 }
 
-/// Engine and oracle agree; of a book that is too large for the oracle, plain Rust says whether
-/// there is a state, and the oracle whether the one handed out is stable. The cause is returned,
-/// or 0.
+/// The engine refuses with this cause, and every byte is as it was.
+fn assert_refused(what: &str, book: &[u8], drive: Drive, buffer: &[u8], cause: u64) {
+    assert_one(what, book, drive, buffer, &(cause, buffer.to_vec()));
+}
+
+/// Engine and oracle agree, or engine and plain Rust on a book that is too large for the oracle. The
+/// cause is returned, or 0.
 fn agree(what: &str, book: &[u8], drive: Drive, buffer: &[u8]) -> u64 {
-    let answer = Truth::new(book, drive).one(buffer);
-    let cause = answer & 0xFF;
-    let expected = if cause == 0 { Ok(answer) } else { Err(cause) };
-    assert_outcome(what, book, drive, buffer, expected, |record| {
-        expected::test(book, drive, record) == expected::yes_or_no(true)
-    });
-    cause
+    let expected = Truth::new(book, drive).one(buffer);
+    assert_outcome(what, book, drive, buffer, &expected);
+    expected.0 & 0xFF
 }
 
 /// Compares engine and oracle at every layer of `number` books, with buffers from none to a record
@@ -65,22 +51,13 @@ fn sweep(shape: &str, number: usize, generate: impl Fn(&mut Rng) -> Book) {
     let mut tally = [0; ANSWERS];
     let tried = sweep::layers(shape, number, generate, |swept, rng| {
         let models = swept.driven.stable_models();
+        let first = models.first().map(|model| oracle::record(model));
+        let g = swept.driven.branching_count();
         for length in 0..4 {
-            let expected = match models.is_empty() {
-                _ if length == 0 => Err(BUFFER_TOO_SHORT),
-                true => Err(NO_STABLE_STATE),
-                false => Ok(branching(swept.driven.branching_count())),
-            };
             let buffer = rng.bytes(length);
-            assert_outcome(
-                swept.what,
-                swept.bytes,
-                swept.drive,
-                &buffer,
-                expected,
-                |record| models.iter().any(|model| oracle::record(model) == record),
-            );
-            tally[expected.err().unwrap_or(0) as usize] += 1;
+            let expected = one_outcome(first.as_deref(), 1, g, &buffer);
+            assert_outcome(swept.what, swept.bytes, swept.drive, &buffer, &expected);
+            tally[(expected.0 & 0xFF) as usize] += 1;
         }
     });
     println!("{tried}, answers 0 to 19: {tally:?}");
@@ -90,35 +67,35 @@ fn sweep(shape: &str, number: usize, generate: impl Fn(&mut Rng) -> Book) {
 }
 
 #[test]
-fn states_handed_out_for_books_in_chains_are_stable() {
+fn states_handed_out_for_books_in_chains_are_the_first_listed() {
     sweep("one, chains", 2_000, |rng| {
         shapes::layered(rng, Layering::Chain)
     });
 }
 
 #[test]
-fn states_handed_out_for_books_in_diamonds_are_stable() {
+fn states_handed_out_for_books_in_diamonds_are_the_first_listed() {
     sweep("one, diamonds", 2_000, |rng| {
         shapes::layered(rng, Layering::Diamond)
     });
 }
 
 #[test]
-fn states_handed_out_for_books_in_unrelated_branches_are_stable() {
+fn states_handed_out_for_books_in_unrelated_branches_are_the_first_listed() {
     sweep("one, branches", 2_000, |rng| {
         shapes::layered(rng, Layering::Branches)
     });
 }
 
 #[test]
-fn states_handed_out_for_books_with_any_arrows_are_stable() {
+fn states_handed_out_for_books_with_any_arrows_are_the_first_listed() {
     sweep("one, any arrows", 2_000, |rng| {
         shapes::layered(rng, Layering::Any)
     });
 }
 
 #[test]
-fn states_handed_out_for_books_with_many_states_are_stable() {
+fn states_handed_out_for_books_with_many_states_are_the_first_listed() {
     sweep("one, many states", 1_000, |rng| {
         shapes::crowded(rng, Layering::Diamond)
     });
@@ -128,25 +105,11 @@ fn states_handed_out_for_books_with_many_states_are_stable() {
 fn assert_known(what: &str, known: &Known) {
     let bytes = known.book.bytes();
     let width = width(known.book.atoms);
-    let driven = Driven::new(&known.book, known.layer.into());
+    let first = known.first();
     for length in 0..width + 4 {
         let buffer = Rng::new(length as u64).bytes(length);
-        let expected = match known.count {
-            _ if length < width => Err(BUFFER_TOO_SHORT),
-            0 => Err(NO_STABLE_STATE),
-            _ => Ok(branching(known.branching)),
-        };
-        assert_outcome(
-            what,
-            &bytes,
-            known.layer.into(),
-            &buffer,
-            expected,
-            |record| {
-                let state = oracle::state(record, known.book.atoms);
-                state.is_some_and(|state| driven.stable(&state))
-            },
-        );
+        let expected = one_outcome(first.as_deref(), width, known.branching, &buffer);
+        assert_outcome(what, &bytes, known.layer.into(), &buffer, &expected);
     }
 }
 
@@ -198,15 +161,13 @@ fn assert_known_once(what: &str, known: &Known) {
     let bytes = known.book.bytes();
     let width = width(known.book.atoms);
     let mut buffer = vec![0xA5; width + 2];
+    let expected = one_of_known(known, &buffer);
     let answer = ffi::one_in_place(&bytes, known.layer.into(), &mut buffer);
-    if known.count == 0 {
-        assert_eq!(answer, NO_STABLE_STATE, "{what}");
-        assert_eq!(buffer, vec![0xA5; width + 2], "{what}");
-    } else {
-        assert_eq!(answer, branching(known.branching), "{what}");
-        assert!(known.has(&buffer[..width]), "{what}: {}", hex(&buffer));
-        assert_eq!(buffer[width..], [0xA5; 2], "{what}");
-    }
+    assert_eq!(
+        (answer, hex(&buffer)),
+        (expected.0, hex(&expected.1)),
+        "{what}"
+    );
 }
 
 #[test]
@@ -226,9 +187,7 @@ fn more_than_twenty_branching_facts_are_refused_12() {
             let what = format!("g = {}", known.branching);
             let buffer = vec![7; length];
             let bytes = known.book.bytes();
-            assert_outcome(&what, &bytes, known.layer.into(), &buffer, Err(12), |_| {
-                false
-            });
+            assert_refused(&what, &bytes, known.layer.into(), &buffer, 12);
         }
     }
 }
@@ -238,15 +197,11 @@ fn a_book_without_states_is_refused_14_and_only_then() {
     let book = Book::new(1, 1).rule(0, plain(0), &[not(0)]);
     for length in 1..4 {
         let buffer = vec![7; length];
-        assert_outcome("p if not p", &book.bytes(), at(0), &buffer, Err(14), |_| {
-            false
-        });
+        assert_refused("p if not p", &book.bytes(), at(0), &buffer, 14);
     }
     let book = book.rule(0, plain(0), &[]);
-    let granted = Ok(branching(1));
-    assert_outcome("and p", &book.bytes(), at(0), &[7; 3], granted, |record| {
-        record == [0x80]
-    });
+    let expected = (branching(1), vec![0x80, 7, 7]);
+    assert_outcome("and p", &book.bytes(), at(0), &[7; 3], &expected);
 }
 
 /// 13 whether or not there is a state.
@@ -259,7 +214,7 @@ fn a_short_buffer_is_refused_13_before_14() {
         for length in 0..3 {
             let buffer = vec![7; length];
             let bytes = known.book.bytes();
-            assert_outcome("short", &bytes, at(1), &buffer, Err(13), |_| false);
+            assert_refused("short", &bytes, at(1), &buffer, 13);
         }
     }
 }
@@ -267,11 +222,12 @@ fn a_short_buffer_is_refused_13_before_14() {
 #[test]
 fn book_b_at_its_layers() {
     for (layer, record, g) in [(1, 0xA0, 1), (2, 0x80, 2), (3, 0x20, 2)] {
-        let granted = Ok(branching(g));
-        let stable = |given: &[u8]| given == [record];
-        assert_outcome("B", &B, at(layer), &[7; 1], granted, stable);
-        assert_outcome("B", &B, at(layer), &[7; 5], granted, stable);
-        assert_outcome("B", &B, at(layer), &[], Err(13), stable);
+        for length in [1, 5] {
+            let buffer = vec![7; length];
+            let expected = one_outcome(Some(&[record]), 1, g, &buffer);
+            assert_outcome("B", &B, at(layer), &buffer, &expected);
+        }
+        assert_refused("B", &B, at(layer), &[], 13);
     }
 }
 
@@ -312,27 +268,13 @@ fn layers_of_the_book_are_driven_and_all_others_are_refused_9() {
     for layers in [1, 2, 31, 32] {
         let bytes = shapes::state_in_each_layer(6, layers).bytes();
         for layer in 0..layers {
-            let state = shapes::state_of_layer(6, layer);
-            let granted = Ok(branching(0));
-            assert_outcome(
-                "a layer",
-                &bytes,
-                layer.into(),
-                &[7; 3],
-                granted,
-                |record| record == oracle::record(&state),
-            );
+            let record = oracle::record(&shapes::state_of_layer(6, layer));
+            let expected = one_outcome(Some(&record), 1, 0, &[7; 3]);
+            assert_outcome("a layer", &bytes, layer.into(), &[7; 3], &expected);
         }
         for layer in NO_LAYERS.into_iter().chain([layers.into()]) {
             for length in [0, 1, 3] {
-                assert_outcome(
-                    "no layer",
-                    &bytes,
-                    at(layer),
-                    &vec![7; length],
-                    Err(9),
-                    |_| false,
-                );
+                assert_refused("no layer", &bytes, at(layer), &vec![7; length], 9);
             }
         }
     }
@@ -374,12 +316,17 @@ fn of_several_causes_the_first_tested_is_given() {
             false => rng.range(3, 9),
         };
         let buffer = rng.bytes(length);
-        let expected = causes.first().map_or(Ok(branching(4)), Err);
         let what = format!("seed {seed}, {causes}");
-        assert_outcome(&what, &bytes, drive, &buffer, expected, |record| {
-            let driven = Driven::new(&known.book, known.layer.into());
-            oracle::state(record, 22).is_some_and(|state| driven.stable(&state))
-        });
+        match causes.first() {
+            Some(cause) => assert_refused(&what, &bytes, drive, &buffer, cause),
+            None => {
+                // The facts that were added do not stand.
+                let mut first = known.first().expect("there are states");
+                first.resize(3, 0);
+                let expected = one_outcome(Some(&first), 3, 4, &buffer);
+                assert_outcome(&what, &bytes, drive, &buffer, &expected);
+            }
+        }
     }
 }
 
@@ -392,22 +339,19 @@ fn buffer_of_more_than_4_gib_is_long_enough() {
 }
 
 #[test]
-fn four_threads_on_one_book_get_a_state_each() {
+fn four_threads_on_one_book_get_the_same_state() {
     let seed = seed();
     let known = known::busy(&mut Rng::named(seed, "one, threads"), 8, MAX_ATOMS);
-    let bytes = known.book.bytes();
+    let (bytes, drive) = (known.book.bytes(), known.layer.into());
+    let buffer = vec![7; LONGEST_RECORD + 1];
+    let expected = one_of_known(&known, &buffer);
     thread::scope(|scope| {
         for _ in 0..4 {
             scope.spawn(|| {
                 for _ in 0..5 {
-                    let mut buffer = [7; LONGEST_RECORD + 1];
-                    let answer = ffi::one_in_place(&bytes, known.layer.into(), &mut buffer);
-                    assert_eq!(answer, branching(8), "seed {seed}");
-                    let (record, rest) = buffer.split_at(LONGEST_RECORD);
-                    let state = oracle::state(record, MAX_ATOMS).expect("a record");
-                    let driven = Driven::new(&known.book, known.layer.into());
-                    assert!(driven.stable(&state), "seed {seed}: {}", hex(&buffer));
-                    assert_eq!(rest, [7]);
+                    let mut after = buffer.clone();
+                    let answer = ffi::one_in_place(&bytes, drive, &mut after);
+                    assert!((answer, after) == expected, "seed {seed}\n{}", hex(&bytes));
                 }
             });
         }

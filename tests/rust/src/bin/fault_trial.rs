@@ -59,7 +59,6 @@ fn placements(input: &Input, question: usize) -> [Placement; 4] {
 /// The input, the call, where its slices lie, and what must come of it, for messages.
 fn told(seed: u64, input: &Input, question: usize, placement: usize) -> String {
     let (asked, wanted) = &input.questions[question];
-    let buffers: Vec<String> = wanted.buffers.iter().map(|buffer| hex(buffer)).collect();
     format!(
         "seed {seed}, input {}, {}, {asked}, slices {:?}\nbook {}\n\
          expected {:#X}, buffer {}\nagain: bash tests/trial only {} {seed}",
@@ -68,7 +67,7 @@ fn told(seed: u64, input: &Input, question: usize, placement: usize) -> String {
         placements(input, question)[placement],
         hex(&input.book),
         wanted.answer,
-        buffers.join(" or "),
+        hex(&wanted.buffer),
         input.number
     )
 }
@@ -103,7 +102,7 @@ impl Worker {
             _ => None,
         };
         let after = after.unwrap_or_default();
-        let as_wanted = answer == wanted.answer && wanted.buffers.iter().any(|one| one == after);
+        let as_wanted = answer == wanted.answer && wanted.buffer == after;
         assert!(
             as_wanted && self.lender.marks_stand(),
             "{}\nengine   {answer:#X}, buffer {}, bytes around it untouched: {}",
@@ -316,7 +315,7 @@ fn faults_on_purpose(seed: u64, notes: Notes, valgrind: bool) -> usize {
     let fine = End::Exited(0);
     let wrong_answer = mistaken(seed, notes, |wanted| wanted.answer ^= 0x100);
     assert_ne!(wrong_answer, fine, "wrong answer");
-    let wrong_buffer = mistaken(seed, notes, |wanted| wanted.buffers[0].push(0));
+    let wrong_buffer = mistaken(seed, notes, |wanted| wanted.buffer.push(0));
     assert_ne!(wrong_buffer, fine, "wrong buffer");
     let lengths = [1, 100, 4096, 30_000];
     for length in lengths {
