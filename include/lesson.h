@@ -205,8 +205,9 @@ uint64_t lesson_list(const uint8_t *book, size_t book_len, uint32_t layer, uint3
                      uint8_t *buffer, size_t buffer_len);
 
 /*
- * Hands out one stable state of a book at the driven layer. Which one is the
- * engine's choice.
+ * Hands out one stable state of a book at the driven layer: the first that
+ * lesson_list lists for the same book, layer and set. So every cabinet that is
+ * given these starts from the same state.
  *
  * book, book_len: the book, any bytes.
  * layer: the driven layer, counted from 0, any number.
@@ -218,7 +219,9 @@ uint64_t lesson_list(const uint8_t *book, size_t book_len, uint32_t layer, uint3
  * Answers g in bits 8 to 15 (lesson_branching_count), or the first of
  * LESSON_TOO_SHORT to LESSON_NO_SUCH_LAYER, LESSON_NO_SUCH_LAYER_OFF and
  * LESSON_TOO_MANY_BRANCHING to LESSON_NO_STABLE_STATE that applies. The time
- * grows with 2 to the power g.
+ * grows with 2 to the power g. It is shortest where the branching facts have the
+ * lowest numbers, or where only facts come before them that stand whatever the
+ * branching ones do.
  */
 uint64_t lesson_one(const uint8_t *book, size_t book_len, uint32_t layer, uint32_t off,
                     uint8_t *buffer, size_t buffer_len);

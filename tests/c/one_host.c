@@ -1,5 +1,5 @@
-/* Checks lesson_one from C, through the header: B's states, that of a book with a constraint, what a
- * refusal leaves, and NULL. */
+/* Checks lesson_one from C, through the header: B's states, that of a book with a constraint, the
+ * first of several as lesson_list has them, what a refusal leaves, and NULL. */
 #include "host.h"
 
 #define NOISE 0xA5
@@ -20,6 +20,17 @@ static const uint8_t never[24] = {
     0x03, 0x00, 0x7F, 0xFF                          /* at 20 */
 };
 
+/* "p if not q" and "q if not p", and in front of them a fact that follows q. A search that first
+ * takes p as not standing comes to q and the fact in front, whose record is the last. */
+static const uint8_t follower[38] = {
+    1, 0, 0, 0, 38, 0, 3, 1, /* head: 3 facts, 1 layer */
+    0, 0, 0, 0, 0, 0,        /* at 8: no arrows */
+    0, 0, 0, 18, 0, 3,       /* at 14: rule section */
+    5, 0, 0, 1, 0x80, 2,     /* at 20: p if not q */
+    5, 0, 0, 2, 0x80, 1,     /* at 26: q if not p */
+    5, 0, 0, 0, 0, 2         /* at 32: the fact in front if q */
+};
+
 static uint8_t buffer[8];
 
 /* Asks for a state in the first bytes of the buffer, all of it noise before. */
@@ -37,7 +48,7 @@ static void expect(const char *what, const uint8_t *book, size_t length, uint32_
     expect_true("  and the buffer", as_expected);
 }
 
-/* A state of the widest book is one of two, and needs every byte of its record. */
+/* The first state of the widest book, which needs every byte of its record. */
 static void expect_widest(void)
 {
     uint8_t record[LESSON_LONGEST_RECORD + 1];
@@ -49,9 +60,20 @@ static void expect_widest(void)
     expect_true("  and the buffer is as it was", record[0] == NOISE);
     expect_answer("the widest book", lesson_one(widest, sizeof widest, 0, 0, record, sizeof record),
                   2 << 8);
-    expect_true("  and its state",
-                is_state_of(record, LAST_FACT) || is_state_of(record, FACT_LIKE_IT));
+    expect_true("  and its first state", is_state_of(record, LAST_FACT));
     expect_true("  and the byte past it", record[LESSON_LONGEST_RECORD] == NOISE);
+}
+
+/* The state handed out is the first of the listing. All records have one byte. */
+static void expect_first(const char *what, const uint8_t *book, size_t length, uint32_t layer,
+                         uint32_t off)
+{
+    uint8_t listing[11 + 8], record = NOISE;
+    uint64_t answer = lesson_list(book, length, layer, off, listing, sizeof listing);
+    bool listed = lesson_granted(answer) && lesson_state_count(answer) > 0;
+
+    answer = lesson_one(book, length, layer, off, &record, 1);
+    expect_true(what, listed && lesson_granted(answer) && record == listing[11]);
 }
 
 int main(void)
@@ -66,6 +88,16 @@ int main(void)
     expect("no state but for a set", without, sizeof without, 0, 1, 8, 0, 0x00);
     expect("p or q, but never p", never_p, sizeof never_p, 0, 0, 8, 2 << 8, 0x40);
     expect("the same, its layer being off", never_p, sizeof never_p, 0, 1, 8, 0, 0x00);
+    expect("p or q, and a fact in front that follows q", follower, sizeof follower, 0, 0, 8, 2 << 8,
+           0x40);
+    expect("the same in one byte", follower, sizeof follower, 0, 0, 1, 2 << 8, 0x40);
+    expect("the same in no bytes", follower, sizeof follower, 0, 0, 0, LESSON_BUFFER_TOO_SHORT,
+           NOISE);
+    expect("the same, its layer being off", follower, sizeof follower, 0, 1, 8, 0, 0x00);
+    expect_first("the first of two listed", follower, sizeof follower, 0, 0);
+    expect_first("the only one listed", B, sizeof B, 3, 0);
+    expect_first("the only one listed, a layer being off", B, sizeof B, 3, 2);
+    expect_first("the only one that no constraint rules out", never_p, sizeof never_p, 0, 0);
     expect("never anything", never, sizeof never, 0, 0, 8, LESSON_NO_STABLE_STATE, NOISE);
     expect("the same, its layer being off", never, sizeof never, 0, 1, 8, 0, 0x00);
     expect_widest();
