@@ -68,7 +68,7 @@ static bool list(unsigned facts)
     return true;
 }
 
-/* Has the engine hand out a state, and tests it; then once more with fact 0 the other way. */
+/* Has the engine hand out the first state, and tests it; then again with fact 0 the other way. */
 static bool test(unsigned facts)
 {
     uint8_t record[LESSON_LONGEST_RECORD];
@@ -80,7 +80,7 @@ static bool test(unsigned facts)
 
         if (!granted("test", answer))
             return false;
-        printf("%s: %s\n", flipped ? "fact 0 the other way" : "a state handed out",
+        printf("%s: %s\n", flipped ? "fact 0 the other way" : "the first state",
                lesson_is_stable(answer) ? "stable" : "not stable");
         record[0] ^= 0x80;
     }
