@@ -1,9 +1,10 @@
 //! The calls of the second archive. Its calls may take other arguments than the engine's: they are
 //! declared and made here alone.
 //!
-//! It is expected to be one from after document 02, (i), which answers as the engine does wherever it takes
-//! a book, and whose calls take a set of layers that are switched off behind the layer. For one whose calls
-//! take none, the last line of this file becomes `second_archive!();`.
+//! It is expected to be one from after document 02, (i), whose calls take a set of layers that are switched
+//! off behind the layer, and which answers as the engine does wherever it takes a book, but for which one
+//! state it hands out. For one whose calls take no set, the last line of this file becomes
+//! `second_archive!();`.
 
 use lesson_tests::drive::Drive;
 use lesson_tests::ffi::Call;

@@ -1,6 +1,6 @@
 //! The searches by clingo, a solver of the field, where it is installed. It gets a book at a driven
 //! layer as a program of its own, and knows no g. A call's time takes in writing that program,
-//! starting clingo, and reading what it prints.
+//! starting clingo, and reading what it prints. Asked for one state, it hands out any.
 
 use lesson_tests::book::{Book, Literal, Rule};
 use lesson_tests::expected::{counts, place_of, NO_STABLE_STATE};

@@ -5,16 +5,18 @@
 //!
 //! Run it with `cargo run --release`; with `-- --full` the books that take long come too, with
 //! `-- --only WORD` only the rows that have the word in their name, and with `-- --constraints` the
-//! second table alone. Three others come alone: with `-- --opening` the one of how long books open, with
-//! `-- --junctions` the one of books with many facts, and with `-- --orders` the one of listings whose
-//! records come in every order, where `--limit SECONDS` leaves out an archive that would take longer. Where
-//! LESSON_BEFORE_DIR names a folder with another liblesson.a, every row times that one too, but for the
-//! books that it refuses; `before` says which arguments its calls take.
+//! second table alone. Four others come alone: with `-- --opening` the one of how long books open, with
+//! `-- --junctions` the one of books with many facts, with `-- --one` the one of one state wherever the
+//! branching facts are, and with `-- --orders` the one of listings whose records come in every order, where
+//! `--limit SECONDS` leaves out an archive that would take longer. Where LESSON_BEFORE_DIR names a folder
+//! with another liblesson.a, every row times that one too, but for the books that it refuses; `before` says
+//! which arguments its calls take.
 
 mod before;
 mod clingo;
 mod constraints;
 mod junctions;
+mod one;
 mod opening;
 mod orders;
 
@@ -279,8 +281,8 @@ impl Table {
         assert!(same, "{name}: the listings differ");
     }
 
-    /// A row for one state of the book, or for the search that finds none. How soon a state is found
-    /// is up to the order of each search.
+    /// A row for the first state of the book, or for the search that finds none. An older archive and
+    /// clingo hand out the first that they meet.
     fn one(&self, name: &str, known: &Known) {
         let asked = Asked {
             name: format!("one, {name}, g = {}, k = {}", known.branching, known.count),
@@ -293,7 +295,11 @@ impl Table {
             buffer: LONGEST_RECORD,
             ..Asked::default()
         };
-        self.row(asked, |_, buffer| Call::One(Some(buffer)));
+        let states = self.row(asked, |_, buffer| Call::One(Some(buffer)));
+        if let Some(first) = states.first().and_then(|_| known.first()) {
+            let handed_out = &states[0][..first.len()];
+            assert_eq!(handed_out, first, "{name}: not the first state");
+        }
     }
 
     /// A row for the place of a fact.
@@ -512,6 +518,7 @@ fn standing(word: String, full: bool) {
 fn main() {
     let (mut full, mut orders, mut limit) = (false, false, orders::LIMIT);
     let (mut word, mut constraints_only, mut junctions) = (String::new(), false, false);
+    let mut one_only = false;
     let mut options = env::args().skip(1);
     while let Some(option) = options.next() {
         let mut value = || {
@@ -525,13 +532,17 @@ fn main() {
             "--constraints" => constraints_only = true,
             "--junctions" => junctions = true,
             "--opening" => return opening::table(),
+            "--one" => one_only = true,
             "--orders" => orders = true,
             "--limit" => limit = value().parse().expect("--limit takes seconds"),
             other => panic!(
-                "{other}: the options are --full, --only WORD, --constraints, --junctions, --opening, --orders \
-                 and --limit SECONDS"
+                "{other}: the options are --full, --only WORD, --constraints, --junctions, --opening, --one, \
+                 --orders and --limit SECONDS"
             ),
         }
+    }
+    if one_only {
+        return one::table(word, full);
     }
     if orders {
         return orders::table(word, limit);
