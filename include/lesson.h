@@ -94,10 +94,10 @@ enum lesson_bound {
  * linker that binds memcpy or memset at its first call. */
 enum lesson_stack_bytes {
     LESSON_CHECK_STACK = 1024,
-    LESSON_TEST_STACK = 55296,
-    LESSON_LIST_STACK = 117760,
-    LESSON_ONE_STACK = 117760,
-    LESSON_PLACE_STACK = 117760
+    LESSON_TEST_STACK = 58368,
+    LESSON_LIST_STACK = 116736,
+    LESSON_ONE_STACK = 114688,
+    LESSON_PLACE_STACK = 116736
 };
 
 /* The cause that an answer names; LESSON_GRANTED where there is none. */
