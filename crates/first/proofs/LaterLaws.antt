@@ -15,21 +15,22 @@ use Rattle.base.proofs.Members.{_∈_}
 use Rattle.layers.specs.Masks.{bitOf}
 use Rattle.layers.proofs.BitLaws.{without, and-first, and-second, and-both, some-bit, zero-bit}
 use Rattle.insertion.specs.Sorted.{insertPast, insertBy, insertAll}
+use Rattle.insertion.proofs.ByteOrder.{before-by-first, before-by-rest}
 use Rattle.models.specs.Program.{Program}
 use Rattle.models.specs.StableModels.{Interpretation, atomHolds, StableModel}
 use Rattle.models.specs.Branching.{branchingAtoms}
+use Rattle.models.specs.Listing.{recordOf}
 use Rattle.models.proofs.InterpretationLaws.{_⊏_}
-use Rattle.records.specs.Written.{before}
 use Rattle.records.proofs.OrderLaws.{record-rises}
 use Rattle.insertion.proofs.SortedLaws.{getD-member}
 use Rattle.bans.specs.Bans.{barred}
 use Rattle.leaf.specs.Found.{atSetting, foundBy}
 use Rattle.leaf.specs.Searchable.{Searchable}
 use Rattle.leaf.proofs.FoundLaws.{found-decided}
-use Rattle.search.specs.Decided.{Decided}
+use Rattle.search.specs.Decided.{DecidedAt, Decided}
 use Rattle.search.proofs.AllowedLaws.{barred-formed, barred-listed, barred-size}
 use Rattle.first.specs.declared.Held.{Held}
-use Rattle.first.specs.InHand.{firstAmong, Sure, Known, Outlined, InHand, Takes, SameBefore, Later, at-a-fact, at-the-end}
+use Rattle.first.specs.InHand.{far, closer, firstAmong, Sure, Known, Outlined, InHand, Takes, Apart, SameBefore, Later, at-a-fact, at-the-end, Behind, farther, as-far}
 use Rattle.first.proofs.LowestLaws.{Lowest, lowest, xor-same, xor-first}
 use Rattle.first.proofs.InHandLaws.{insertAll-first}
 
@@ -140,27 +141,43 @@ in-order (false ∷ k) (false ∷ m) e = go (in-order k m (omega arith))
     go (inr (inl p)) = inr (inl (ap (λ (l : Interpretation). false ∷ l) p))
     go (inr (inr p)) = inr (inr p)
 
-module _ (n : ℕ) (b : Interpretation) (size : length b ≡ n) where
-  -- inserted in front of it or behind it, a model that does not come before it leaves it the first
-  stays-first : (m : Interpretation) → length m ≡ n → (m ⊏ b → ⊥) → take 1 (insertBy (before n) m (b ∷ [])) ≡ b ∷ []
-  unfolding insertBy insertPast
-  stays-first m l f = go (before n b m) refl (in-order b m (size ∙ sym l))
-    where
-      go : (c : Bool) → before n b m ≡ c → (b ⊏ m) ⊎ ((b ≡ m) ⊎ (m ⊏ b)) → take 1 (insertPast c m b (m ∷ []) []) ≡ b ∷ []
-      go true e o = refl
-      go false e (inl p) = absurd (false≢true (sym e ∙ record-rises n b m size l p))
-      go false e (inr (inl p)) = ap (λ (x : Interpretation). x ∷ []) (sym p)
-      go false e (inr (inr p)) = absurd (f p)
+-- the one in hand comes first, or is the same
+abbrev NotAfter : Interpretation → ℕ → Interpretation → Interpretation → Type 0
+NotAfter wanted n b m = (closer wanted n b m ≡ true) ⊎ (b ≡ m)
 
-  none-first : (ms : List Interpretation) → ((m : Interpretation) → m ∈ ms → (length m ≡ n) × (m ⊏ b → ⊥)) → firstAmong n ms (b ∷ []) ≡ b ∷ []
+module _ (wanted : Interpretation) (n : ℕ) (b : Interpretation) where
+  -- inserted in front of it or behind it, a model that does not come before it leaves it the first
+  stays-first : (m : Interpretation) → NotAfter wanted n b m → take 1 (insertBy (closer wanted n) m (b ∷ [])) ≡ b ∷ []
+  unfolding insertBy insertPast
+  stays-first m (inl e) = ap (λ (c : Bool). take 1 (insertPast c m b (m ∷ []) [])) e
+  stays-first m (inr e) = go (closer wanted n b m)
+    where
+      go : (c : Bool) → take 1 (insertPast c m b (m ∷ []) []) ≡ b ∷ []
+      go true = refl
+      go false = ap (λ (x : Interpretation). x ∷ []) (sym e)
+
+  none-first : (ms : List Interpretation) → ((m : Interpretation) → m ∈ ms → NotAfter wanted n b m) → firstAmong wanted n ms (b ∷ []) ≡ b ∷ []
   unfolding firstAmong insertAll
   none-first [] f = refl
   none-first (m ∷ ms) f =
-      let v = f m (List·Memᴰ·head refl) in
-      insertAll-first (before n) ms (insertBy (before n) m (b ∷ [])) (b ∷ []) (stays-first m (v .0) (v .1)) ∙ none-first ms (λ x k. f x (List·Memᴰ·tail k))
+      insertAll-first (closer wanted n) ms (insertBy (closer wanted n) m (b ∷ [])) (b ∷ []) (stays-first m (f m (List·Memᴰ·head refl))) ∙ none-first ms (λ x k. f x (List·Memᴰ·tail k))
 
-module _ {book rows atoms : List ℕ} {n : ℕ} (w : Searchable book rows atoms n) (bans : List ℕ) {sure : List Bool} (certain : Sure (barred book rows bans n) sure)
-    {undecided : List ℕ} (o : Interpretation) {standing denied : ℕ} (s : Decided atoms undecided o standing denied) where
+  module _ (size : length b ≡ n) (m : Interpretation) (size′ : length m ≡ n) where
+    closer-by-distance : far wanted b < far wanted m → closer wanted n b m ≡ true
+    closer-by-distance h = before-by-first (far wanted b) (far wanted m) (recordOf n b) (recordOf n m) h
+
+    -- as close, and not later
+    not-later : far wanted b ≤ far wanted m → (m ⊏ b → ⊥) → NotAfter wanted n b m
+    not-later h f = go (decLt (far wanted b) (far wanted m)) (in-order b m (size ∙ sym size′))
+      where
+        go : Dec (far wanted b < far wanted m) → (b ⊏ m) ⊎ ((b ≡ m) ⊎ (m ⊏ b)) → NotAfter wanted n b m
+        go (yes l) o = inl (closer-by-distance l)
+        go (no l) (inl p) = inl (before-by-rest (far wanted b) (far wanted m) (recordOf n b) (recordOf n m) (omega arith) ∙ record-rises n b m size size′ p)
+        go (no l) (inr (inl e)) = inr e
+        go (no l) (inr (inr p)) = absurd (f p)
+
+-- ---- the models of a group
+module _ {book rows atoms : List ℕ} {n : ℕ} (w : Searchable book rows atoms n) (bans : List ℕ) {undecided : List ℕ} (o : Interpretation) {standing denied : ℕ} (s : Decided atoms undecided o standing denied) where
   abbrev B : Program
   B = barred book rows bans n
 
@@ -170,21 +187,36 @@ module _ {book rows atoms : List ℕ} {n : ℕ} (w : Searchable book rows atoms 
   decided-model : (m : Interpretation) → m ∈ group → StableModel B m × ((f : ℕ) → f ∈ branchingAtoms B → (f ∈ undecided → ⊥) → atomHolds m f ≡ atomHolds o f)
   decided-model m k = found-decided B (barred-formed w bans) undecided o m (subst (λ (l : List ℕ). m ∈ foundBy (atSetting B l) undecided o) (barred-listed w bans) k)
 
-  group-has : (m : Interpretation) → m ∈ group → (i : ℕ) → bitOf standing i ≡ 1 → T (atomHolds m (getD atoms i 0))
-  group-has m k i e =
-      let d = s .standing-in i e in
-      let j : getD atoms i 0 ∈ branchingAtoms B = subst (λ (l : List ℕ). getD atoms i 0 ∈ l) (barred-listed w bans) (getD-member atoms i 0 (d .0 .0)) in
-      subst T (sym (decided-model m k .1 (getD atoms i 0) j (d .0 .1))) (d .1)
+  -- what is decided is so in each
+  decided-at : (m : Interpretation) → m ∈ group → (i : ℕ) → DecidedAt atoms undecided i → atomHolds m (getD atoms i 0) ≡ atomHolds o (getD atoms i 0)
+  decided-at m k i d = decided-model m k .1 (getD atoms i 0) (subst (λ (l : List ℕ). getD atoms i 0 ∈ l) (barred-listed w bans) (getD-member atoms i 0 (d .0))) (d .1)
+
+  pub group-has : (m : Interpretation) → m ∈ group → (i : ℕ) → bitOf standing i ≡ 1 → T (atomHolds m (getD atoms i 0))
+  group-has m k i e = let d = s .standing-in i e in subst T (sym (decided-at m k i (d .0))) (d .1)
+
+  pub group-lacks : (m : Interpretation) → m ∈ group → (i : ℕ) → bitOf denied i ≡ 1 → T (not (atomHolds m (getD atoms i 0)))
+  group-lacks m k i e = let d = s .denied-in i e in subst (λ (b : Bool). T (not b)) (sym (decided-at m k i (d .0))) (d .1)
 
   -- the group is left out
-  pub takes-skipped : (held : Held) → held .found ≡ true → Later held standing → (part : List ℕ) → Takes atoms sure n group held part held part
-  takes-skipped held f later part old hand h = go hand h
-    where
-      go : (hand : List Interpretation) → InHand atoms sure n old hand held part → InHand atoms sure n old (firstAmong n group hand) held part
-      go [] h = absurd (false≢true (sym (h .found-is) ∙ f))
-      go (b ∷ []) h =
-          let v = h .known b (List·Memᴰ·head refl) in
-          let same : firstAmong n group (b ∷ []) ≡ b ∷ [] =
-          none-first n b (v .0) group (λ m k. let d = decided-model m k in (d .0 .size ∙ sym (barred-size w bans), never-before (v .1) standing m (group-has m k) (certain .stands m (d .0)) later)) in
-          subst (λ (l : List Interpretation). InHand atoms sure n old l held part) (sym same) h
-      go (b ∷ c ∷ hand) h = absurd (omega (arith, h .few))
+  module _ {sure : List Bool} (certain : Sure B sure) (wanted : Interpretation) {left apart : ℕ} (away : Apart wanted undecided group left apart) where
+    not-after : {b : Interpretation} {held : Held} → (length b ≡ n) × (held .distance ≡ far wanted b) × Outlined atoms sure b held → Behind held standing apart → (m : Interpretation) → m ∈ group → NotAfter wanted n b m
+    not-after {b} {held} v behind m k = go behind
+      where
+        size′ : length m ≡ n
+        size′ = decided-model m k .0 .size ∙ sym (barred-size w bans)
+
+        at-least : apart ≤ far wanted m
+        at-least = omega (arith, away .at-least m k)
+
+        go : Behind held standing apart → NotAfter wanted n b m
+        go (farther h) = inl (closer-by-distance wanted n b (v .0) m size′ (omega (arith, v .1, at-least)))
+        go (as-far h later) = not-later wanted n b (v .0) m size′ (omega (arith, v .1, at-least)) (never-before (v .2) standing m (group-has m k) (certain .stands m (decided-model m k .0)) later)
+
+    pub takes-skipped : (held : Held) → held .found ≡ true → Behind held standing apart → (part : List ℕ) → Takes atoms sure wanted n group held part held part
+    takes-skipped held f behind part old hand h = go hand h
+      where
+        go : (hand : List Interpretation) → InHand atoms sure wanted n old hand held part → InHand atoms sure wanted n old (firstAmong wanted n group hand) held part
+        go [] h = absurd (false≢true (sym (h .found-is) ∙ f))
+        go (b ∷ []) h =
+            subst (λ (l : List Interpretation). InHand atoms sure wanted n old l held part) (sym (none-first wanted n b group (not-after (h .known b (List·Memᴰ·head refl)) behind))) h
+        go (b ∷ c ∷ hand) h = absurd (omega (arith, h .few))

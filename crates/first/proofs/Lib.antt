@@ -4,3 +4,4 @@ pub mod LowestLaws
 pub mod LaterLaws
 pub mod OutlineLaws
 pub mod SureLaws
+pub mod ApartLaws

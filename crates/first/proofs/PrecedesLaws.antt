@@ -1,12 +1,17 @@
--- A record compared with a state's, byte by byte: each turn takes the first bytes away or ends on them. Used by precedes. Assumes nothing.
+-- A record compared with a state's, byte by byte: each turn takes the first bytes away or ends on them. And with a distance in front of each.
+-- Used by precedes and stays. Assumes nothing.
 use mathlib.Core.Path.{_≡_, sym, ap, subst, _∙_}
-use mathlib.Core.Bool.{true, false}
-use mathlib.Core.List.{List}
+use mathlib.Core.Bool.{Bool, true, false, not, _&&_}
+use mathlib.Core.List.{List, _∷_}
 use Prim.Native.Nat.{ℕ, zero, suc, _+_, _*_, _<_, _≤_}
+use native.Mathlib.Decide.{decLt}
 use native.Mathlib.Omega.{arith}
+use borrow.Author.Tests.{lt-ltb, le-ltb, not-true, not-false}
+use lib.Dec.{ltb}
 use lib.ListN.{length, getD, take, drop}
 use lib.Seq.{take-all, drop-drop}
 use Rattle.insertion.specs.Runs.{bytesBefore}
+use Rattle.insertion.proofs.ByteOrder.{before-by-first, before-by-rest, bytes-asym}
 use Rattle.insertion.proofs.ByteLaws.{before-here, not-before-here, before-later, not-before-at-end}
 use Rattle.models.specs.StableModels.{Interpretation}
 use Rattle.models.specs.Listing.{bitsValue, packed, recordSize, recordOf}
@@ -61,3 +66,21 @@ module _ (n : ℕ) (m : Interpretation) (part : List ℕ) (size : length part �
     goes-on l k =
         f ∙ subst (λ (a : List ℕ). bytesBefore (drop j a) (drop j rec) ≡ bytesBefore (drop (j + 1) a) (drop (j + 1) rec)) whole
         (before-later part rec 0 j low (omega (arith, wide)) (omega (arith, part-at, byte-at)) (omega (arith, part-at, byte-at)))
+
+-- ---- with the distances in front
+module _ (found : Bool) (d e : ℕ) (part rec : List ℕ) where
+  pub none-stays : not found ≡ true → false ≡ (found && bytesBefore (d ∷ part) (e ∷ rec))
+  none-stays h = sym (ap (λ (c : Bool). c && bytesBefore (d ∷ part) (e ∷ rec)) (not-true found h))
+
+  held : not found ≡ false → (found && bytesBefore (d ∷ part) (e ∷ rec)) ≡ bytesBefore (d ∷ part) (e ∷ rec)
+  held h = ap (λ (c : Bool). c && bytesBefore (d ∷ part) (e ∷ rec)) (not-false found h)
+
+  pub stays-as-far : not found ≡ false → d ≡ e → (r : Bool) → r ≡ bytesBefore part rec → r ≡ (found && bytesBefore (d ∷ part) (e ∷ rec))
+  stays-as-far h k r q = q ∙ sym (held h ∙ before-by-rest d e part rec k)
+
+  pub stays-by-distance : not found ≡ false → (d ≡ e → ⊥) → ltb d e ≡ (found && bytesBefore (d ∷ part) (e ∷ rec))
+  stays-by-distance h k = go (decLt d e) ∙ sym (held h)
+    where
+      go : Dec (d < e) → ltb d e ≡ bytesBefore (d ∷ part) (e ∷ rec)
+      go (yes l) = lt-ltb d e l ∙ sym (before-by-first d e part rec l)
+      go (no l) = le-ltb d e (omega arith) ∙ sym (bytes-asym (e ∷ rec) (d ∷ part) (before-by-first e d rec part (omega arith)))

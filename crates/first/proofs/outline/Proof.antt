@@ -12,10 +12,10 @@ use Rattle.first.proofs.outline.Statement.{statement}
 use Rattle.first.proofs.outline.Tie as tie
 
 abbrev Inv-loop : tie.InvT-loop
-Inv-loop atoms sure m standing ahead₀ i₀ f₀ ahead i f = (length m ≤ maxAtoms) × (length atoms ≤ maxBranching) × (length sure ≡ length m) × (f ≤ length m) × OutlinedTo atoms sure m ahead i f
+Inv-loop atoms sure m standing distance ahead₀ i₀ f₀ ahead i f = (length m ≤ maxAtoms) × (length atoms ≤ maxBranching) × (length sure ≡ length m) × (f ≤ length m) × OutlinedTo atoms sure m ahead i f
 
 abbrev μ-loop : tie.MeasureT-loop
-μ-loop atoms sure m standing ahead₀ i₀ f₀ ahead i f = length m - f
+μ-loop atoms sure m standing distance ahead₀ i₀ f₀ ahead i f = length m - f
 
 loop-holds : tie.Need-loop-holds Inv-loop μ-loop
 loop-holds c = (c .before .before .before .pre .0 .0, c .before .before .before .pre .0 .1, c .before .before .before .pre .0 .2, omega arith, outlined-start (c .before .before .before .args .atoms .now) (c .before .before .before .args .sure .now) (c .before .before .before .args .m .now))
@@ -36,7 +36,7 @@ unsure-requires : tie.Need-unsure-requires Inv-loop μ-loop
 unsure-requires c κs = search needs
 
 returns : tie.Need-returns Inv-loop μ-loop
-returns c = (refl, outlined-part (c .before .before .before .before .before .before .before .before .before .args .atoms .now) (c .before .before .before .before .before .before .before .before .before .args .sure .now) (c .before .before .before .before .before .before .before .before .before .args .m .now) (c .before .before .before .before .before .loop .ahead) (c .before .before .before .before .before .loop .i) (c .before .before .before .before .before .loop .f) (c .before .before .before .before .before .loop .inv .4) _ (c .before .before .before .before .before .before .before .before .before .pre .1) refl refl)
+returns c = (refl, refl, outlined-part (c .before .before .before .before .before .before .before .before .before .args .atoms .now) (c .before .before .before .before .before .before .before .before .before .args .sure .now) (c .before .before .before .before .before .before .before .before .before .args .m .now) (c .before .before .before .before .before .loop .ahead) (c .before .before .before .before .before .loop .i) (c .before .before .before .before .before .loop .f) (c .before .before .before .before .before .loop .inv .4) _ (c .before .before .before .before .before .before .before .before .before .pre .1) refl refl)
 
 add-f : tie.Need-add-f Inv-loop μ-loop
 add-f c = search needs
@@ -48,7 +48,7 @@ loop-again : tie.Need-loop-again Inv-loop μ-loop
 loop-again c = (c .before .before .before .loop .inv .0, c .before .before .before .loop .inv .1, c .before .before .before .loop .inv .2, omega arith, ⊎-elim (λ w. rw (w .1, w .2) (outlined-branching (c .before .before .before .before .before .before .before .args .atoms .now) (c .before .before .before .before .before .before .before .args .sure .now) (c .before .before .before .before .before .before .before .args .m .now) (c .before .before .before .loop .ahead) (c .before .before .before .loop .i) (c .before .before .before .loop .f) (c .before .before .before .loop .inv .4) (c .before .branches-next .ensures (w .0 .taken) .0) (c .before .before .before .loop .inv .1) (c .before .branches-next .ensures (w .0 .taken) .1))) (λ w. rw (w .3, w .4) (outlined-other (c .before .before .before .before .before .before .before .args .atoms .now) (c .before .before .before .before .before .before .before .args .sure .now) (c .before .before .before .before .before .before .before .args .m .now) (c .before .before .before .loop .ahead) (c .before .before .before .loop .i) (c .before .before .before .loop .f) (c .before .before .before .loop .inv .4) (w .1 .ensures (w .2 .left)))) (c .if1 .came))
 
 returns-2 : tie.Need-returns-2 Inv-loop μ-loop
-returns-2 c = (refl, outlined-whole (c .before .before .before .before .before .args .atoms .now) (c .before .before .before .before .before .args .sure .now) (c .before .before .before .before .before .args .m .now) (c .before .loop .ahead) (c .before .loop .i) (c .before .loop .f) (c .before .loop .inv .4) _ (c .before .before .before .before .before .pre .1) refl (omega (arith, c .loop-test .left)))
+returns-2 c = (refl, refl, outlined-whole (c .before .before .before .before .before .args .atoms .now) (c .before .before .before .before .before .args .sure .now) (c .before .before .before .before .before .args .m .now) (c .before .loop .ahead) (c .before .loop .i) (c .before .loop .f) (c .before .loop .inv .4) _ (c .before .before .before .before .before .pre .1) refl (omega (arith, c .loop-test .left)))
 
 pub outline-spec : {M : Type 1} → statement M
 outline-spec =

@@ -10,7 +10,7 @@ use Rattle.first.proofs.visit_first.Statement.{statement}
 use Rattle.first.proofs.visit_first.Tie as tie
 
 find-model-requires : tie.Need-find-model-requires
-find-model-requires c κs = let h = c .before .before .before .before .before .before .before .before .before .before .before .before .before .before .before .pre in (h .0, (h .1 .0, h .1 .1 .1 .0))
+find-model-requires c κs = let h = c .before .before .before .before .before .before .before .before .before .before .before .before .before .before .before .before .pre in (h .0, (h .1 .0, h .1 .1 .1 .0))
 
 sub-take-first : tie.Need-sub-take-first
 sub-take-first c = search needs
@@ -23,10 +23,10 @@ part-take-first-end c = search needs
 
 take-first-requires : tie.Need-take-first-requires
 take-first-requires c κs =
-    let a = c .before .before .before .before .before .before .before .before .before .before .before .before .before .before .before .before .before .before .before .before .before .before .before .before .before .before .before .before .before .before .args in
-    let h = c .before .before .before .before .before .before .before .before .before .before .before .before .before .before .before .before .before .before .before .before .before .before .before .before .before .before .before .before .before .before .pre in
+    let a = c .before .before .before .before .before .before .before .before .before .before .before .before .before .before .before .before .before .before .before .before .before .before .before .before .before .before .before .before .before .before .before .args in
+    let h = c .before .before .before .before .before .before .before .before .before .before .before .before .before .before .before .before .before .before .before .before .before .before .before .before .before .before .before .before .before .before .before .pre in
     let l = found-size (h .0) (planBans (a .plan .now) (a .sizes .bans)) (a .standing) (c .before .before .before .before .before .before .before .before .before .before .before .before .before .before .find-model .result) _ (c .before .before .before .before .before .before .before .before .before .before .before .before .before .before .find-model .ensures .0) (c .before .before .before .if1 .taken) in
-    ((omega (arith, l, h .0 .few), h .0 .atoms-few, h .1 .1 .0 ∙ sym l), (found-has (h .0) (planBans (a .plan .now) (a .sizes .bans)) (a .standing) (c .before .before .before .before .before .before .before .before .before .before .before .before .before .before .find-model .result) _ (c .before .before .before .before .before .before .before .before .before .before .before .before .before .before .find-model .ensures .0) (c .before .before .before .if1 .taken), h .1 .1 .1 .1 ∙ sym (ap recordSize l)))
+    ((omega (arith, l, h .0 .few), h .0 .atoms-few, h .1 .1 .0 .0 ∙ sym l, omega (arith, l, h .1 .1 .0 .1)), (found-has (h .0) (planBans (a .plan .now) (a .sizes .bans)) (a .standing) (c .before .before .before .before .before .before .before .before .before .before .before .before .before .before .find-model .result) _ (c .before .before .before .before .before .before .before .before .before .before .before .before .before .before .find-model .ensures .0) (c .before .before .before .if1 .taken), h .1 .1 .1 .1 ∙ sym (ap recordSize l)))
 
 same-length : tie.Need-same-length
 same-length c = search needs
@@ -48,8 +48,8 @@ same-length-6 c = search needs
 
 returns : tie.Need-returns
 returns c =
-    let a = c .before .before .before .before .before .before .before .before .before .before .before .before .before .before .before .before .before .before .before .before .before .before .before .before .before .before .before .before .before .before .before .before .before .args in
-    (takes-found (planAtoms (a .plan .now) (a .sizes .branching)) (a .sure .now) (a .sizes .n) _ (c .before .before .before .before .before .before .before .before .before .before .before .before .before .before .before .before .before .find-model .result) _ (c .before .before .before .before .before .before .before .before .before .before .before .before .before .before .before .before .before .find-model .ensures .0) (c .before .before .before .before .before .before .if1 .taken) _ (found-size (c .before .before .before .before .before .before .before .before .before .before .before .before .before .before .before .before .before .before .before .before .before .before .before .before .before .before .before .before .before .before .before .before .before .pre .0) (planBans (a .plan .now) (a .sizes .bans)) (a .standing) (c .before .before .before .before .before .before .before .before .before .before .before .before .before .before .before .before .before .find-model .result) _ (c .before .before .before .before .before .before .before .before .before .before .before .before .before .before .before .before .before .find-model .ensures .0) (c .before .before .before .before .before .before .if1 .taken)) (c .before .before .take-first .ensures), c .before .before .before .before .before .before .before .before .before .before .before .before .before .before .before .before .before .find-model .ensures .1)
+    let a = c .before .before .before .before .before .before .before .before .before .before .before .before .before .before .before .before .before .before .before .before .before .before .before .before .before .before .before .before .before .before .before .before .before .before .args in
+    (takes-found (planAtoms (a .plan .now) (a .sizes .branching)) (a .sure .now) (a .wanted .now) (a .sizes .n) _ (c .before .before .before .before .before .before .before .before .before .before .before .before .before .before .before .before .before .find-model .result) _ (c .before .before .before .before .before .before .before .before .before .before .before .before .before .before .before .before .before .find-model .ensures .0) (c .before .before .before .before .before .before .if1 .taken) _ (found-size (c .before .before .before .before .before .before .before .before .before .before .before .before .before .before .before .before .before .before .before .before .before .before .before .before .before .before .before .before .before .before .before .before .before .before .pre .0) (planBans (a .plan .now) (a .sizes .bans)) (a .standing) (c .before .before .before .before .before .before .before .before .before .before .before .before .before .before .before .before .before .find-model .result) _ (c .before .before .before .before .before .before .before .before .before .before .before .before .before .before .before .before .before .find-model .ensures .0) (c .before .before .before .before .before .before .if1 .taken)) (c .before .before .take-first .ensures), c .before .before .before .before .before .before .before .before .before .before .before .before .before .before .before .before .before .find-model .ensures .1)
 
 same-length-7 : tie.Need-same-length-7
 same-length-7 c = search needs
@@ -68,8 +68,8 @@ same-length-11 c = search needs
 
 returns-2 : tie.Need-returns-2
 returns-2 c =
-    let a = c .before .before .before .before .before .before .before .before .before .before .before .before .before .before .before .before .before .before .before .before .before .before .before .before .before .before .before .args in
-    (takes-missed (planAtoms (a .plan .now) (a .sizes .branching)) (a .sure .now) (a .sizes .n) _ (c .before .before .before .before .before .before .before .before .before .before .before .find-model .result) _ (c .before .before .before .before .before .before .before .before .before .before .before .find-model .ensures .0) (c .if1 .left) (a .held) (a .part .now), c .before .before .before .before .before .before .before .before .before .before .before .find-model .ensures .1)
+    let a = c .before .before .before .before .before .before .before .before .before .before .before .before .before .before .before .before .before .before .before .before .before .before .before .before .before .before .before .before .args in
+    (takes-missed (planAtoms (a .plan .now) (a .sizes .branching)) (a .sure .now) (a .wanted .now) (a .sizes .n) _ (c .before .before .before .before .before .before .before .before .before .before .before .find-model .result) _ (c .before .before .before .before .before .before .before .before .before .before .before .find-model .ensures .0) (c .if1 .left) (a .held) (a .part .now), c .before .before .before .before .before .before .before .before .before .before .before .find-model .ensures .1)
 
 pub visit-first-spec : {M : Type 1} → statement M
 visit-first-spec =
