@@ -1,6 +1,6 @@
-// What a call works out before it searches, and passes of the search: two that count, one that writes every record and one that writes
-// the first of them. Document 01: "a listing may take one such pass to count and one to write"; where there is room for a record of every setting
-// it takes one.
+// What a call works out before it searches, and passes of the search: two that count, one that writes every record and two that write one
+// of them: the closest to a wanted state, and the first. Document 01: "a listing may take one such pass to count and one to write"; where
+// there is room for a record of every setting it takes one.
 ghost use mathlib.Core.Path.{_≡_};
 ghost use mathlib.Core.Bool.{not};
 ghost use mathlib.Core.List.{[], map, _++_};
@@ -20,6 +20,7 @@ ghost use Rattle.search.specs.Visits.{Asks, RoomFor};
 ghost use Rattle.first.specs.InHand.{recordHeld};
 ghost use Rattle.passes.specs.Limit.{hasNoStableState};
 ghost use Rattle.passes.specs.SetUp.{Ready, BansListed, SetUp};
+ghost use Rattle.passes.specs.Nearest.{Nearest};
 ghost use Rattle.passes.specs.Tallied.{Passed, Tallied, Bounds};
 use accepted::atom_count;
 use accepted::prepare;
@@ -230,9 +231,9 @@ pub fn write_all(book: &[u8], rows: &[u16], plan: &[u32], sizes: Sizes, part: &m
     end.count
 }
 
-// The pass for the first record: no fact is decided at first, and nothing is in hand. The last array of marks is lent for the facts that
+// The pass for the closest record: no fact is decided at first, and nothing is in hand. The last array of marks is lent for the facts that
 // are sure.
-fn first_pass(
+fn nearest_pass(
     book: &[u8],
     rows: &[u16],
     plan: &[u32],
@@ -243,13 +244,14 @@ fn first_pass(
     early: &mut [bool],
     hints: &mut [u16],
     sure: &mut [bool],
+    wanted: &[bool],
     part: &mut [u8],
-) -> bool
+) -> Held
     requires { ⌜ Ready (now book) (now rows) (now plan) sizes ⌝ }
     requires { ⌜ Lent (sizes .n) (now rejects) (now positive) (now negative) (now early) (now hints) ⌝ }
-    requires { ⌜ length (now sure) ≡ sizes .n ⌝ }
+    requires { ⌜ (length (now sure) ≡ sizes .n) × (length (now wanted) ≤ sizes .n) ⌝ }
     requires { ⌜ length (now part) ≡ recordSize (sizes .n) ⌝ }
-    ensures { λ r. ⌜ (r ≡ not (hasNoStableState (plannedProgram (now (book .entry)) (now (rows .entry)) (now (plan .entry)) sizes))) × (now (part .exit) ≡ recordHeld (sizes .n) (take 1 (stableModels (plannedProgram (now (book .entry)) (now (rows .entry)) (now (plan .entry)) sizes))) (now (part .entry))) ⌝ }
+    ensures { λ r. ⌜ Nearest (plannedProgram (now (book .entry)) (now (rows .entry)) (now (plan .entry)) sizes) (now (wanted .entry)) (sizes .n) (now (part .entry)) (r .found) (r .distance) (now (part .exit)) ⌝ }
 {
     let turn = Turn {
         left: sizes.branching,
@@ -258,12 +260,13 @@ fn first_pass(
     };
     let none = Held {
         found: false,
+        distance: 0,
         standing: 0,
         ahead: 0,
         alone: false,
     };
     sure_facts(book, rows, sure, negative, hints);
-    let end = search_first(
+    search_first(
         book,
         rows,
         plan,
@@ -275,17 +278,27 @@ fn first_pass(
         early,
         hints,
         sure,
+        wanted,
+        0,
         part,
         none,
-    );
-    end.found
+    )
 }
 
-// Writes the first record of all stable models into a part of a record's size, and says whether there is one.
-pub fn write_first(book: &[u8], rows: &[u16], plan: &[u32], sizes: Sizes, part: &mut [u8]) -> bool
+// Writes the record of the stable model that is closest to a wanted state, and of equals the first, into a part of a record's size. Says
+// whether there is one, and how far it is from what the wanted state has.
+pub fn write_nearest(
+    book: &[u8],
+    rows: &[u16],
+    plan: &[u32],
+    sizes: Sizes,
+    wanted: &[bool],
+    part: &mut [u8],
+) -> Held
     requires { ⌜ Ready (now book) (now rows) (now plan) sizes ⌝ }
+    requires { ⌜ length (now wanted) ≤ sizes .n ⌝ }
     requires { ⌜ length (now part) ≡ recordSize (sizes .n) ⌝ }
-    ensures { λ r. ⌜ (r ≡ not (hasNoStableState (plannedProgram (now (book .entry)) (now (rows .entry)) (now (plan .entry)) sizes))) × (now (part .exit) ≡ recordHeld (sizes .n) (take 1 (stableModels (plannedProgram (now (book .entry)) (now (rows .entry)) (now (plan .entry)) sizes))) (now (part .entry))) ⌝ }
+    ensures { λ r. ⌜ Nearest (plannedProgram (now (book .entry)) (now (rows .entry)) (now (plan .entry)) sizes) (now (wanted .entry)) (sizes .n) (now (part .entry)) (r .found) (r .distance) (now (part .exit)) ⌝ }
 {
     let mut rejects: [u32; MAX_NAMES] = [0; MAX_NAMES];
     let mut positive = [false; MAX_ATOMS];
@@ -294,7 +307,7 @@ pub fn write_first(book: &[u8], rows: &[u16], plan: &[u32], sizes: Sizes, part: 
     let mut hints: [u16; HINTS] = [0; HINTS];
     let mut sure = [false; MAX_ATOMS];
     let n = sizes.n;
-    first_pass(
+    nearest_pass(
         book,
         rows,
         plan,
@@ -305,6 +318,19 @@ pub fn write_first(book: &[u8], rows: &[u16], plan: &[u32], sizes: Sizes, part: 
         &mut early[0..n],
         &mut hints,
         &mut sure[0..n],
+        wanted,
         part,
     )
+}
+
+// Writes the first record of all stable models into a part of a record's size, and says whether there is one: where nothing is wanted, all
+// are equally close.
+pub fn write_first(book: &[u8], rows: &[u16], plan: &[u32], sizes: Sizes, part: &mut [u8]) -> bool
+    requires { ⌜ Ready (now book) (now rows) (now plan) sizes ⌝ }
+    requires { ⌜ length (now part) ≡ recordSize (sizes .n) ⌝ }
+    ensures { λ r. ⌜ (r ≡ not (hasNoStableState (plannedProgram (now (book .entry)) (now (rows .entry)) (now (plan .entry)) sizes))) × (now (part .exit) ≡ recordHeld (sizes .n) (take 1 (stableModels (plannedProgram (now (book .entry)) (now (rows .entry)) (now (plan .entry)) sizes))) (now (part .entry))) ⌝ }
+{
+    let nothing: [bool; 0] = [];
+    let end = write_nearest(book, rows, plan, sizes, &nothing, part);
+    end.found
 }
