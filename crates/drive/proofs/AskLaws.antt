@@ -1,8 +1,8 @@
 -- The calls that search, for any question: each refusal in its turn, the answer over programs that are alike, and what a promise of
 -- `ask` says to each call. Assumes nothing.
-use mathlib.Core.Path.{_≡_, refl, sym, ap, _∙_}
+use mathlib.Core.Path.{_≡_, refl, sym, ap, subst, _∙_}
 use mathlib.Core.Bool.{Bool, true, false, not, false≢true}
-use mathlib.Core.List.{List}
+use mathlib.Core.List.{List, []}
 use Prim.Native.Nat.{ℕ, _<_, _≤_}
 use native.Mathlib.Decide.{decLt}
 use native.Mathlib.Omega.{arith}
@@ -10,75 +10,96 @@ use borrow.Author.Tests.{le-ltb}
 use lib.Dec.{ltb}
 use lib.ListN.{length}
 use Rattle.base.specs.Bounds.{maxAtoms}
-use Rattle.models.specs.Program.{Program}
+use Rattle.format.specs.Book.{bookOf}
+use Rattle.models.specs.Program.{Program, programAt}
+use Rattle.models.specs.StableModels.{Interpretation}
+use Rattle.models.specs.Listing.{interpretationOf}
 use Rattle.models.specs.Alike.{Alike}
 use Rattle.table.specs.Table.{programOf}
 use Rattle.plan.specs.Plan.{planBans, plannedProgram}
 use Rattle.search.proofs.AllowedLaws.{barred-size}
 use Rattle.book.specs.Causes.{verdictIf, firstOf}
 use Rattle.book.specs.declared.Cause.{Cause}
-use Rattle.book.specs.declared.Cause.the-variants.{NoSuchFact, TooManyBranching}
+use Rattle.book.specs.declared.Cause.the-variants.{BadCandidate, NoSuchFact, TooManyBranching}
 use Rattle.book.specs.declared.Verdict.{Verdict}
 use Rattle.book.specs.declared.Verdict.the-variants.{Accepted, Refused}
 use Rattle.accepted.specs.Driven.{layerTests}
+use Rattle.candidate.specs.Candidate.{isBadCandidate}
 use Rattle.accepted.proofs.FirstLaws.{first-append, first-refused}
 use Rattle.plan.specs.declared.Sizes.{Sizes}
 use Rattle.passes.specs.Limit.{hasTooManyBranching}
 use Rattle.passes.specs.SetUp.{lentRows, SetUp}
 use Rattle.list_call.specs.Reply as list
 use Rattle.one_call.specs.Reply as one
+use Rattle.near_call.specs.Reply as near
 use Rattle.place_call.specs.Reply as place
 use Rattle.list_call.specs.declared.ListReply.{ListReply}
 use Rattle.one_call.specs.declared.OneReply.{OneReply}
+use Rattle.near_call.specs.declared.NearReply.{NearReply}
 use Rattle.place_call.specs.declared.PlaceReply.{PlaceReply}
 use Rattle.list_call.proofs.ListLaws as list-laws
 use Rattle.one_call.proofs.OneLaws as one-laws
+use Rattle.near_call.proofs.NearLaws as near-laws
 use Rattle.place_call.proofs.PlaceLaws as place-laws
 use Rattle.drive.specs.declared.Question.{Question}
 use Rattle.drive.specs.declared.Question.the-variants as question
 use Rattle.drive.specs.declared.Answer.{Answer}
-use Rattle.drive.specs.declared.Answer.the-variants.{Listing, State, Standing}
-use Rattle.drive.specs.Asked.{ownTests, askedTests, asksNoFact, replyBy, refusalOf, Answers, Asked}
+use Rattle.drive.specs.declared.Answer.the-variants.{Listing, State, Standing, Closest}
+use Rattle.drive.specs.Asked.{ownTests, askedTests, asksNoFact, AskedWith, Alone, replyBy, refusalOf, Answers, Asked, NearAt}
 
 -- ---- a refusal: the buffer is as it was
-refused-by : (q : Question) (c : Cause) (P : Program) (old : List ℕ) → Answers q (Refused c) P old (refusalOf q c) old
-unfolding refusalOf replyBy list.replyOf list.bufferOf one.replyOf one.bufferOf place.replyOf
-refused-by question.List c P old = record { reply-is = refl; buffer-is = refl }
-refused-by question.One c P old = record { reply-is = refl; buffer-is = refl }
-refused-by (question.Place fact) c P old = record { reply-is = refl; buffer-is = refl }
+refused-by : (q : Question) (asked : List ℕ) (c : Cause) (P : Program) (old : List ℕ) → Answers q asked (Refused c) P old (refusalOf q c) old
+unfolding refusalOf replyBy list.replyOf list.bufferOf one.replyOf one.bufferOf place.replyOf near.replyOf near.bufferOf
+refused-by question.List asked c P old = record { reply-is = refl; buffer-is = refl }
+refused-by question.One asked c P old = record { reply-is = refl; buffer-is = refl }
+refused-by (question.Place fact) asked c P old = record { reply-is = refl; buffer-is = refl }
+refused-by question.Nearest asked c P old = record { reply-is = refl; buffer-is = refl }
 
-pub refused-as : (q : Question) (c : Cause) (P : Program) (old : List ℕ) {r : Answer} {v : Verdict} → r ≡ refusalOf q c → v ≡ Refused c → Answers q v P old r old
-refused-as q c P old e h = rw (e, h) (refused-by q c P old)
+pub refused-as : (q : Question) (asked : List ℕ) (c : Cause) (P : Program) (old : List ℕ) {r : Answer} {v : Verdict} → r ≡ refusalOf q c → v ≡ Refused c → Answers q asked v P old r old
+refused-as q asked c P old e h = rw (e, h) (refused-by q asked c P old)
 
 -- ---- the question's own answer
-module _ {q : Question} {P : Program} {old new : List ℕ} where
+module _ {q : Question} {asked : List ℕ} {P : Program} {old new : List ℕ} where
   pub listed : q ≡ question.List → {r : ListReply} → list.Answers (firstOf (list.roomTests P (length old))) P old r new
-      → Answers q (firstOf (ownTests q P (length old))) P old (Listing r) new
+      → Answers q asked (firstOf (ownTests q P (length old))) P old (Listing r) new
   unfolding ownTests replyBy
   listed e a = rw e (record { reply-is = ap Listing (a .reply-is); buffer-is = a .buffer-is })
 
   pub written : q ≡ question.One → {r : OneReply} → one.Answers (firstOf (one.roomTests P (length old))) P old r new
-      → Answers q (firstOf (ownTests q P (length old))) P old (State r) new
+      → Answers q asked (firstOf (ownTests q P (length old))) P old (State r) new
   unfolding ownTests replyBy
   written e a = rw e (record { reply-is = ap State (a .reply-is); buffer-is = a .buffer-is })
 
-pub placed : {q : Question} {fact : ℕ} {P : Program} {old : List ℕ} → q ≡ question.Place fact → {r : PlaceReply}
-    → r ≡ place.replyOf (firstOf (place.stateTests P)) P fact → Answers q (firstOf (ownTests q P (length old))) P old (Standing r) old
+  pub neared : q ≡ question.Nearest → (n : ℕ) → n ≡ P .atoms → {r : NearReply} → near.Answers (firstOf (one.roomTests P (length old))) P (interpretationOf n asked) old r new
+      → Answers q asked (firstOf (ownTests q P (length old))) P old (Closest r) new
+  unfolding ownTests replyBy
+  neared e n size {r} a =
+      let b : near.Answers (firstOf (one.roomTests P (length old))) P (interpretationOf (P .atoms) asked) old r new = subst (λ (k : ℕ). near.Answers (firstOf (one.roomTests P (length old))) P (interpretationOf k asked) old r new) size a in
+      rw e (record { reply-is = ap Closest (b .reply-is); buffer-is = b .buffer-is })
+
+pub placed : {q : Question} {fact : ℕ} {asked : List ℕ} {P : Program} {old : List ℕ} → q ≡ question.Place fact → {r : PlaceReply}
+    → r ≡ place.replyOf (firstOf (place.stateTests P)) P fact → Answers q asked (firstOf (ownTests q P (length old))) P old (Standing r) old
 unfolding ownTests replyBy
 placed e a = rw e (record { reply-is = ap Standing a; buffer-is = refl })
 
 -- ---- the program that the table stands for, and the driven layer's
-pub answers-over : (q : Question) {P Q : Program} → Alike P Q → {old new : List ℕ} {r : Answer} → Answers q (firstOf (ownTests q Q (length old))) Q old r new
-    → Answers q (firstOf (ownTests q P (length old))) P old r new
+pub answers-over : (q : Question) (asked : List ℕ) {P Q : Program} → Alike P Q → {old new : List ℕ} {r : Answer} → Answers q asked (firstOf (ownTests q Q (length old))) Q old r new
+    → Answers q asked (firstOf (ownTests q P (length old))) P old r new
 unfolding ownTests replyBy
-answers-over question.List {P} {Q} a {old} {new} x =
+answers-over question.List asked {P} {Q} a {old} {new} x =
     let y : list.Answers (firstOf (list.roomTests P (length old))) P old (list.replyOf (firstOf (list.roomTests Q (length old))) Q) new = list-laws.answers-over a (record { reply-is = refl; buffer-is = x .buffer-is }) in
     record { reply-is = x .reply-is ∙ ap Listing (y .reply-is); buffer-is = y .buffer-is }
-answers-over question.One {P} {Q} a {old} {new} x =
+answers-over question.One asked {P} {Q} a {old} {new} x =
     let y : one.Answers (firstOf (one.roomTests P (length old))) P old (one.replyOf (firstOf (one.roomTests Q (length old))) Q) new = one-laws.answers-over a (record { reply-is = refl; buffer-is = x .buffer-is }) in
     record { reply-is = x .reply-is ∙ ap State (y .reply-is); buffer-is = y .buffer-is }
-answers-over (question.Place fact) {P} {Q} a {old} {new} x =
+answers-over (question.Place fact) asked {P} {Q} a {old} {new} x =
     record { reply-is = x .reply-is ∙ ap Standing (place-laws.reply-over a fact (place.replyOf (firstOf (place.stateTests Q)) Q fact) refl); buffer-is = x .buffer-is }
+answers-over question.Nearest asked {P} {Q} a {old} {new} x =
+    let e : interpretationOf (Q .atoms) asked ≡ interpretationOf (P .atoms) asked = ap (λ (k : ℕ). interpretationOf k asked) (sym (a .atoms-same)) in
+    let z : near.Answers (firstOf (one.roomTests Q (length old))) Q (interpretationOf (P .atoms) asked) old (near.replyOf (firstOf (one.roomTests Q (length old))) Q (interpretationOf (P .atoms) asked)) new =
+    record { reply-is = refl; buffer-is = x .buffer-is ∙ ap (λ (c : Interpretation). near.bufferOf (firstOf (one.roomTests Q (length old))) Q c old) e } in
+    let y = near-laws.answers-over a (interpretationOf (P .atoms) asked) z in
+    record { reply-is = x .reply-is ∙ ap (λ (c : Interpretation). Closest (near.replyOf (firstOf (one.roomTests Q (length old))) Q c)) e ∙ ap Closest (y .reply-is); buffer-is = y .buffer-is }
 
 -- ---- causes 11 and 12
 module _ (P : Program) (n : ℕ) (e : n ≡ P .atoms) (room : ℕ) where
@@ -86,18 +107,21 @@ module _ (P : Program) (n : ℕ) (e : n ≡ P .atoms) (room : ℕ) where
   unfolding asksNoFact askedTests place.factTests place.isNoSuchFact firstOf verdictIf
   fact-refused question.List h = absurd (false≢true h)
   fact-refused question.One h = absurd (false≢true h)
+  fact-refused question.Nearest h = absurd (false≢true h)
   fact-refused (question.Place fact) h = rw (ap (λ (k : ℕ). not (ltb fact k)) (sym e) ∙ h) refl
 
   pub branching-refused : (q : Question) → asksNoFact q n ≡ false → hasTooManyBranching P ≡ true → firstOf (askedTests q P room) ≡ Refused TooManyBranching
   unfolding asksNoFact askedTests list.searchTests one.searchTests place.searchTests place.factTests place.isNoSuchFact firstOf verdictIf
   branching-refused question.List f h = rw h refl
   branching-refused question.One f h = rw h refl
+  branching-refused question.Nearest f h = rw h refl
   branching-refused (question.Place fact) f h = rw (ap (λ (k : ℕ). not (ltb fact k)) (sym e) ∙ f, h) refl
 
   own-left : (q : Question) → asksNoFact q n ≡ false → hasTooManyBranching P ≡ false → firstOf (askedTests q P room) ≡ firstOf (ownTests q P room)
   unfolding asksNoFact askedTests ownTests list.searchTests one.searchTests place.searchTests place.factTests place.isNoSuchFact firstOf verdictIf
   own-left question.List f h = rw h refl
   own-left question.One f h = rw h refl
+  own-left question.Nearest f h = rw h refl
   own-left (question.Place fact) f h = rw (ap (λ (k : ℕ). not (ltb fact k)) (sym e) ∙ f, h) refl
 
 pub fact-low : (fact n : ℕ) → n ≤ maxAtoms → asksNoFact (question.Place fact) n ≡ false → fact < maxAtoms
@@ -113,17 +137,17 @@ module _ {P : Program} {book rows plan : List ℕ} {rules : ℕ} {few : Bool} {s
   pub same-count : few ≡ true → s .n ≡ n
   same-count h = barred-size (up .ready h .table) (planBans plan (s .bans)) ∙ sym (up .alike h .atoms-same) ∙ sym e
 
-  pub answered : (q : Question) → asksNoFact q n ≡ false → few ≡ true → {old new : List ℕ} {r : Answer}
-      → Answers q (firstOf (ownTests q (plannedProgram book (lentRows rows rules) plan s) (length old))) (plannedProgram book (lentRows rows rules) plan s) old r new
-      → Answers q (firstOf (askedTests q P (length old))) P old r new
-  answered q f h {old} x = rw (own-left P n e (length old) q f (up .not-too-many h)) (answers-over q (up .alike h) x)
+  pub answered : (q : Question) (asked : List ℕ) → asksNoFact q n ≡ false → few ≡ true → {old new : List ℕ} {r : Answer}
+      → Answers q asked (firstOf (ownTests q (plannedProgram book (lentRows rows rules) plan s) (length old))) (plannedProgram book (lentRows rows rules) plan s) old r new
+      → Answers q asked (firstOf (askedTests q P (length old))) P old r new
+  answered q asked f h {old} x = rw (own-left P n e (length old) q f (up .not-too-many h)) (answers-over q asked (up .alike h) x)
 
 -- ---- the call
 module _ (q : Question) (book : List ℕ) (layer off : ℕ) (old : List ℕ) (v : Verdict) (e : v ≡ firstOf (layerTests book layer off)) where
   pub call-refused : (c : Cause) → v ≡ Refused c → {r : Answer} → r ≡ refusalOf q c → Asked q book layer off old r old
-  call-refused c h z = refused-as q c (programOf book layer off) old z (first-refused (layerTests book layer off) (askedTests q (programOf book layer off) (length old)) c (sym e ∙ h))
+  call-refused c h z = refused-as q [] c (programOf book layer off) old z (first-refused (layerTests book layer off) (askedTests q (programOf book layer off) (length old)) c (sym e ∙ h))
 
-  pub call-answered : v ≡ Accepted → {r : Answer} {new : List ℕ} → Answers q (firstOf (askedTests q (programOf book layer off) (length old))) (programOf book layer off) old r new
+  pub call-answered : v ≡ Accepted → {r : Answer} {new : List ℕ} → Answers q [] (firstOf (askedTests q (programOf book layer off) (length old))) (programOf book layer off) old r new
       → Asked q book layer off old r new
   call-answered h a = rw (first-append (layerTests book layer off) (askedTests q (programOf book layer off) (length old)) (sym e ∙ h)) a
 
@@ -140,3 +164,46 @@ module _ (book : List ℕ) (layer off : ℕ) (old new : List ℕ) (r : Answer) w
   pub place-told : (fact : ℕ) → Asked (question.Place fact) book layer off old r new → r ≡ Standing (place.placeReply book layer off fact)
   unfolding askedTests replyBy place.placeReply place.placeTests
   place-told fact a = a .reply-is
+
+-- ---- what is handed over with a question
+pub with-nothing : (q : Question) (n : ℕ) → Alone q → AskedWith q n []
+unfolding AskedWith
+with-nothing question.List n a = tt
+with-nothing question.One n a = tt
+with-nothing (question.Place fact) n a = tt
+with-nothing question.Nearest n a = absurd a
+
+pub with-candidate : (n : ℕ) (candidate : List ℕ) → isBadCandidate n candidate ≡ false → AskedWith question.Nearest n candidate
+unfolding AskedWith
+with-candidate n candidate e = e
+
+pub candidate-with : {q : Question} (n : ℕ) (asked : List ℕ) → q ≡ question.Nearest → AskedWith q n asked → isBadCandidate n asked ≡ false
+unfolding AskedWith
+candidate-with n asked e h = subst (λ (q : Question). AskedWith q n asked) e h
+
+-- ---- the state closest to a candidate
+module _ (P : Program) (n : ℕ) (size : n ≡ P .atoms) (candidate old : List ℕ) where
+  pub candidate-refused : isBadCandidate n candidate ≡ true → {r : Answer} → r ≡ refusalOf question.Nearest BadCandidate → NearAt P candidate old r old
+  unfolding near.candidateTests firstOf verdictIf
+  candidate-refused h e = refused-as question.Nearest candidate BadCandidate P old e (rw (ap (λ (k : ℕ). isBadCandidate k candidate) (sym size) ∙ h) refl)
+
+  pub candidate-read : isBadCandidate n candidate ≡ false → {r : Answer} {new : List ℕ} → Answers question.Nearest candidate (firstOf (askedTests question.Nearest P (length old))) P old r new → NearAt P candidate old r new
+  unfolding askedTests near.candidateTests firstOf verdictIf
+  candidate-read h a = rw (ap (λ (k : ℕ). isBadCandidate k candidate) (sym size) ∙ h) a
+
+module _ (book : List ℕ) (layer off : ℕ) (candidate old : List ℕ) (v : Verdict) (e : v ≡ firstOf (layerTests book layer off)) where
+  pub near-refused : (c : Cause) → v ≡ Refused c → {r : Answer} → r ≡ refusalOf question.Nearest c → (r ≡ Closest (near.nearReply book layer off candidate old)) × (old ≡ near.nearBuffer book layer off candidate old)
+  unfolding refusalOf near.replyOf near.bufferOf near.nearReply near.nearBuffer near.nearTests
+  near-refused c h z =
+      let q = first-refused (layerTests book layer off) (near.candidateTests (programOf book layer off) candidate (length old)) c (sym e ∙ h) in (
+        z ∙ sym (ap (λ (v : Verdict). Closest (near.replyOf v (programOf book layer off) (interpretationOf (bookOf book .atoms) candidate))) q),
+        sym (ap (λ (v : Verdict). near.bufferOf v (programOf book layer off) (interpretationOf (bookOf book .atoms) candidate) old) q),
+      )
+
+  pub near-answered : v ≡ Accepted → {r : Answer} {new : List ℕ} → NearAt (programOf book layer off) candidate old r new → (r ≡ Closest (near.nearReply book layer off candidate old)) × (new ≡ near.nearBuffer book layer off candidate old)
+  unfolding replyBy near.nearReply near.nearBuffer near.nearTests programAt
+  near-answered h a =
+      let q = sym (first-append (layerTests book layer off) (near.candidateTests (programOf book layer off) candidate (length old)) (sym e ∙ h)) in (
+        a .reply-is ∙ ap (λ (v : Verdict). Closest (near.replyOf v (programOf book layer off) (interpretationOf (bookOf book .atoms) candidate))) q,
+        a .buffer-is ∙ ap (λ (v : Verdict). near.bufferOf v (programOf book layer off) (interpretationOf (bookOf book .atoms) candidate) old) q,
+      )

@@ -8,18 +8,23 @@ ghost use Rattle.layers.specs.Masks.{LowerMasks};
 ghost use Rattle.format.specs.Book.{arrowsOf, bookOf};
 ghost use Rattle.book.specs.Causes.{firstOf};
 ghost use Rattle.table.specs.Table.{programOf};
+ghost use Rattle.near_call.specs.Reply.{nearReply, nearBuffer};
 ghost use Rattle.accepted.specs.Accepted.{IsAccepted};
 ghost use Rattle.plan.specs.Plan.{plannedProgram};
 ghost use Rattle.passes.specs.SetUp.{Ready};
-ghost use Rattle.drive.specs.Asked.{ownTests, askedTests, asksNoFact, refusalOf, Answers, Asked};
+ghost use Rattle.drive.specs.Asked.{ownTests, askedTests, asksNoFact, AskedWith, Alone, refusalOf, Answers, Asked, NearAt};
+ghost use Rattle.drive.specs.declared.Answer.the-variants.{Closest};
 use accepted::atom_count;
 use accepted::check_layer;
 use base::MAX_LAYERS;
 use base::MAX_RULES;
 use book::Cause;
 use book::Verdict;
+use candidate::bad_candidate;
 use list_call::ListReply;
 use list_call::list_models;
+use near_call::NearReply;
+use near_call::near_found;
 use one_call::OneReply;
 use one_call::one_found;
 use passes::set_up;
@@ -36,12 +41,15 @@ pub enum Question {
     One,
     // the place of a fact
     Place(usize),
+    // the state closest to the candidate that is handed over beside the question
+    Nearest,
 }
 
 pub enum Answer {
     Listing(ListReply),
     State(OneReply),
     Standing(PlaceReply),
+    Closest(NearReply),
 }
 
 // Whether the question is for a fact that the book does not have.
@@ -52,6 +60,7 @@ fn asks_no_fact(question: Question, n: usize) -> bool
         Question::List => false,
         Question::One => false,
         Question::Place(fact) => !(fact < n),
+        Question::Nearest => false,
     }
 }
 
@@ -62,6 +71,7 @@ fn refusal(question: Question, cause: Cause) -> Answer
         Question::List => Answer::Listing(ListReply::Refused(cause)),
         Question::One => Answer::State(OneReply::Refused(cause)),
         Question::Place(fact) => Answer::Standing(PlaceReply::Refused(cause)),
+        Question::Nearest => Answer::Closest(NearReply::Refused(cause)),
     }
 }
 
@@ -72,16 +82,19 @@ fn find_answer(
     plan: &[u32],
     sizes: Sizes,
     question: Question,
+    asked: &[u8],
     buffer: &mut [u8],
 ) -> Answer
     requires { ⌜ Ready (now book) (now rows) (now plan) sizes ⌝ }
     requires { ⌜ asksNoFact question (sizes .n) ≡ false ⌝ }
-    ensures { λ r. ⌜ Answers question (firstOf (ownTests question (plannedProgram (now (book .entry)) (now (rows .entry)) (now (plan .entry)) sizes) (length (now (buffer .entry))))) (plannedProgram (now (book .entry)) (now (rows .entry)) (now (plan .entry)) sizes) (now (buffer .entry)) r (now (buffer .exit)) ⌝ }
+    requires { ⌜ AskedWith question (sizes .n) (now asked) ⌝ }
+    ensures { λ r. ⌜ Answers question (now (asked .entry)) (firstOf (ownTests question (plannedProgram (now (book .entry)) (now (rows .entry)) (now (plan .entry)) sizes) (length (now (buffer .entry))))) (plannedProgram (now (book .entry)) (now (rows .entry)) (now (plan .entry)) sizes) (now (buffer .entry)) r (now (buffer .exit)) ⌝ }
 {
     match question {
         Question::List => Answer::Listing(list_models(book, rows, plan, sizes, buffer)),
         Question::One => Answer::State(one_found(book, rows, plan, sizes, buffer)),
         Question::Place(fact) => Answer::Standing(place_found(book, rows, plan, sizes, fact)),
+        Question::Nearest => Answer::Closest(near_found(book, rows, plan, sizes, asked, buffer)),
     }
 }
 
@@ -95,12 +108,14 @@ fn drive(
     off: u32,
     lower: [u32; MAX_LAYERS],
     question: Question,
+    asked: &[u8],
     buffer: &mut [u8],
 ) -> Answer
     requires { ⌜ IsAccepted (now book) ⌝ }
     requires { ⌜ layer < bookOf (now book) .layers ⌝ }
     requires { ⌜ LowerMasks (arrowsOf (now book)) lower ⌝ }
-    ensures { λ r. ⌜ Answers question (firstOf (askedTests question (programOf (now (book .entry)) layer off) (length (now (buffer .entry))))) (programOf (now (book .entry)) layer off) (now (buffer .entry)) r (now (buffer .exit)) ⌝ }
+    requires { ⌜ AskedWith question (bookOf (now book) .atoms) (now asked) ⌝ }
+    ensures { λ r. ⌜ Answers question (now (asked .entry)) (firstOf (askedTests question (programOf (now (book .entry)) layer off) (length (now (buffer .entry))))) (programOf (now (book .entry)) layer off) (now (buffer .entry)) r (now (buffer .exit)) ⌝ }
 {
     let n = atom_count(book);
     if asks_no_fact(question, n) {
@@ -118,22 +133,69 @@ fn drive(
             &plan,
             sizes,
             question,
+            asked,
             buffer,
         );
     }
     refusal(question, Cause::TooManyBranching)
 }
 
-// Answers a question about the book at the driven layer, with the layers of a set switched off. A refusal leaves every byte of the
-// buffer.
+// Answers a question that nothing is handed over with about the book at the driven layer, with the layers of a set switched off. A refusal
+// leaves every byte of the buffer.
 pub fn ask(book: &[u8], layer: u32, off: u32, question: Question, buffer: &mut [u8]) -> Answer
+    requires { ⌜ Alone question ⌝ }
     ensures { λ r. ⌜ Asked question (now (book .entry)) layer off (now (buffer .entry)) r (now (buffer .exit)) ⌝ }
 {
+    let nothing: [u8; 0] = [];
     let checked = check_layer(book, layer, off);
     let lower = checked.lower;
     let v = checked.verdict;
     match v {
         Verdict::Refused(c) => refusal(question, c),
-        Verdict::Accepted => drive(book, layer as usize, off, lower, question, buffer),
+        Verdict::Accepted => drive(book, layer as usize, off, lower, question, &nothing, buffer),
+    }
+}
+
+// The state closest to a candidate at a layer, once causes 1 to 9 and 19 are ruled out: 10, then what every question comes to.
+fn near_at(
+    book: &[u8],
+    layer: usize,
+    off: u32,
+    lower: [u32; MAX_LAYERS],
+    candidate: &[u8],
+    buffer: &mut [u8],
+) -> Answer
+    requires { ⌜ IsAccepted (now book) ⌝ }
+    requires { ⌜ layer < bookOf (now book) .layers ⌝ }
+    requires { ⌜ LowerMasks (arrowsOf (now book)) lower ⌝ }
+    ensures { λ r. ⌜ NearAt (programOf (now (book .entry)) layer off) (now (candidate .entry)) (now (buffer .entry)) r (now (buffer .exit)) ⌝ }
+{
+    let n = atom_count(book);
+    if bad_candidate(candidate, n) {
+        return refusal(Question::Nearest, Cause::BadCandidate);
+    }
+    drive(
+        book,
+        layer,
+        off,
+        lower,
+        Question::Nearest,
+        candidate,
+        buffer,
+    )
+}
+
+// Writes the state of the book at the driven layer that is closest to a candidate, with the layers of a set switched off. A refusal leaves
+// every byte of the buffer.
+pub fn near(book: &[u8], layer: u32, off: u32, candidate: &[u8], buffer: &mut [u8]) -> Answer
+    ensures answer { λ r. ⌜ r ≡ Closest (nearReply (now (book .entry)) layer off (now (candidate .entry)) (now (buffer .entry))) ⌝ }
+    ensures bytes { λ _. ⌜ now (buffer .exit) ≡ nearBuffer (now (book .entry)) layer off (now (candidate .entry)) (now (buffer .entry)) ⌝ }
+{
+    let checked = check_layer(book, layer, off);
+    let lower = checked.lower;
+    let v = checked.verdict;
+    match v {
+        Verdict::Refused(c) => refusal(Question::Nearest, c),
+        Verdict::Accepted => near_at(book, layer as usize, off, lower, candidate, buffer),
     }
 }

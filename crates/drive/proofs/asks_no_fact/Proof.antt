@@ -15,6 +15,9 @@ enum-told-2 c = search needs
 enum-known-question : tie.Need-enum-known-question
 enum-known-question c = search needs
 
+enum-told-3 : tie.Need-enum-told-3
+enum-told-3 c = search needs
+
 returns : tie.Need-returns
 unfolding asksNoFact
 returns c = sym (ap (λ (q : Question). asksNoFact q (c .before .before .args .n)) (c .enum-told .given .1))
@@ -27,6 +30,19 @@ returns-3 : tie.Need-returns-3
 unfolding asksNoFact
 returns-3 c = sym (ap (λ (q : Question). asksNoFact q (c .before .before .before .args .n)) (c .before .question .given .1))
 
+returns-4 : tie.Need-returns-4
+unfolding asksNoFact
+returns-4 c = sym (ap (λ (q : Question). asksNoFact q (c .before .before .args .n)) (c .enum-told3 .given .1))
+
 pub asks-no-fact-spec : {M : Type 1} → statement M
 asks-no-fact-spec =
-    tie.close (tie.spec enum-told enum-told-2 enum-known-question returns returns-2 returns-3)
+    tie.close
+    (tie.spec
+    enum-told
+    enum-told-2
+    enum-known-question
+    enum-told-3
+    returns
+    returns-2
+    returns-3
+    returns-4)

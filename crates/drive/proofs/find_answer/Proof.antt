@@ -2,7 +2,9 @@
 use mathlib.Core.Path.{sym, ap, _∙_}
 use Rattle.drive.specs.declared.Question.{Question}
 use Rattle.drive.specs.Asked.{asksNoFact}
-use Rattle.drive.proofs.AskLaws.{listed, written, placed, fact-low}
+use Rattle.drive.proofs.AskLaws.{listed, written, neared, placed, fact-low, candidate-with}
+use Rattle.plan.specs.Plan.{planBans}
+use Rattle.search.proofs.AllowedLaws.{barred-size}
 use borrow.Author.Needs.{needs}
 use Rattle.drive.proofs.find_answer.Statement.{statement}
 use Rattle.drive.proofs.find_answer.Tie as tie
@@ -11,19 +13,25 @@ enum-told : tie.Need-enum-told
 enum-told c = search needs
 
 list-models-requires : tie.Need-list-models-requires
-list-models-requires c κs = search needs
+list-models-requires c κs = c .before .before .before .before .before .before .before .before .pre .0
 
 enum-told-2 : tie.Need-enum-told-2
 enum-told-2 c = search needs
 
 one-found-requires : tie.Need-one-found-requires
-one-found-requires c κs = search needs
+one-found-requires c κs = c .before .before .before .before .before .before .before .before .pre .0
 
 enum-known-question : tie.Need-enum-known-question
 enum-known-question c = search needs
 
 place-found-requires : tie.Need-place-found-requires
-place-found-requires c κs = (c .before .before .before .before .before .before .before .pre .0, fact-low _ (c .before .before .before .before .before .before .before .args .sizes .n) (c .before .before .before .before .before .before .before .pre .0 .table .few) (sym (ap (λ (q : Question). asksNoFact q (c .before .before .before .before .before .before .before .args .sizes .n)) (c .before .question .given .1)) ∙ c .before .before .before .before .before .before .before .pre .1))
+place-found-requires c κs = (c .before .before .before .before .before .before .before .before .pre .0, fact-low _ (c .before .before .before .before .before .before .before .before .args .sizes .n) (c .before .before .before .before .before .before .before .before .pre .0 .table .few) (sym (ap (λ (q : Question). asksNoFact q (c .before .before .before .before .before .before .before .before .args .sizes .n)) (c .before .question .given .1)) ∙ c .before .before .before .before .before .before .before .before .pre .1 .0))
+
+enum-told-3 : tie.Need-enum-told-3
+enum-told-3 c = search needs
+
+near-found-requires : tie.Need-near-found-requires
+near-found-requires c κs = (c .before .before .before .before .before .before .before .before .pre .0, candidate-with (c .before .before .before .before .before .before .before .before .args .sizes .n) (c .before .before .before .before .before .before .before .before .args .asked .now) (c .before .enum-told3 .given .1) (c .before .before .before .before .before .before .before .before .pre .1 .1))
 
 same-length : tie.Need-same-length
 same-length c = search needs
@@ -40,6 +48,12 @@ returns-2 c = written (c .before .before .before .before .enum-told2 .given .1) 
 returns-3 : tie.Need-returns-3
 returns-3 c = placed (c .before .before .question .given .1) (c .place-found .ensures)
 
+same-length-3 : tie.Need-same-length-3
+same-length-3 c = search needs
+
+returns-4 : tie.Need-returns-4
+returns-4 c = neared (c .before .before .before .before .enum-told3 .given .1) (c .before .before .before .before .before .before .before .before .before .before .before .args .sizes .n) (barred-size (c .before .before .before .before .before .before .before .before .before .before .before .pre .0 .table) (planBans (c .before .before .before .before .before .before .before .before .before .before .before .args .plan .now) (c .before .before .before .before .before .before .before .before .before .before .before .args .sizes .bans))) (c .before .before .near-found .ensures)
+
 pub find-answer-spec : {M : Type 1} → statement M
 find-answer-spec =
     tie.close
@@ -50,8 +64,12 @@ find-answer-spec =
     one-found-requires
     enum-known-question
     place-found-requires
+    enum-told-3
+    near-found-requires
     same-length
     returns
     same-length-2
     returns-2
-    returns-3)
+    returns-3
+    same-length-3
+    returns-4)
