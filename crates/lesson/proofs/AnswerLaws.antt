@@ -1,9 +1,9 @@
--- The numbers that an answer carries fit the 64 bits: g is at most `maxBranching` and k at most 2 to its power, since the call was
--- granted. Used by lesson_list, lesson_one and lesson_place. Assumes nothing.
+-- The numbers that an answer carries fit the 64 bits: g is at most `maxBranching`, k at most 2 to its power, and no more facts differ than a
+-- book has, since the call was granted. Used by lesson_list, lesson_one, lesson_place and lesson_nearest. Assumes nothing.
 use mathlib.Core.Path.{_≡_, refl, sym, ap, _∙_}
 use mathlib.Core.List.{List}
 use Prim.Native.Nat.{ℕ, _+_, _*_, _^_, _≤_}
-use Rattle.base.specs.Bounds.{maxBranching}
+use Rattle.base.specs.Bounds.{maxAtoms, maxBranching}
 use Rattle.list_call.specs.declared.ListReply.{ListReply}
 use Rattle.list_call.specs.declared.ListReply.the-variants.{Listed}
 use Rattle.list_call.specs.Reply.{listReply}
@@ -12,13 +12,17 @@ use Rattle.one_call.specs.declared.OneReply.{OneReply}
 use Rattle.one_call.specs.declared.OneReply.the-variants.{Written}
 use Rattle.one_call.specs.Reply.{oneReply}
 use Rattle.one_call.proofs.OneLaws as one-laws
+use Rattle.near_call.specs.declared.NearReply.{NearReply}
+use Rattle.near_call.specs.declared.NearReply.the-variants as near
+use Rattle.near_call.specs.Reply.{nearReply}
+use Rattle.near_call.proofs.NearLaws as near-laws
 use Rattle.place_call.specs.declared.Place.{Place}
 use Rattle.place_call.specs.declared.PlaceReply.{PlaceReply}
 use Rattle.place_call.specs.declared.PlaceReply.the-variants.{Placed}
 use Rattle.place_call.specs.Reply.{placeReply}
 use Rattle.place_call.proofs.PlaceLaws as place-laws
 use Rattle.drive.specs.declared.Answer.{Answer}
-use Rattle.drive.specs.declared.Answer.the-variants.{Listing, State, Standing}
+use Rattle.drive.specs.declared.Answer.the-variants.{Listing, State, Standing, Closest}
 use Rattle.lesson.specs.Answers.{placeBits, placeAnswer, Fits}
 
 pub list-small : (book : List ℕ) (layer off : ℕ) (buffer : List ℕ) (r : ListReply) (k g : ℕ) → r ≡ listReply book layer off buffer → r ≡ Listed k g → (k ≤ 2 ^ maxBranching) × (g ≤ maxBranching)
@@ -29,6 +33,9 @@ one-small book layer off buffer r g e q = one-laws.granted-small book layer off 
 
 pub place-small : (book : List ℕ) (layer off fact : ℕ) (r : PlaceReply) (p : Place) (g : ℕ) → r ≡ placeReply book layer off fact → r ≡ Placed p g → g ≤ maxBranching
 place-small book layer off fact r p g e q = place-laws.granted-small book layer off fact p g (sym e ∙ q)
+
+pub near-small : (book : List ℕ) (layer off : ℕ) (candidate buffer : List ℕ) (r : NearReply) (d g : ℕ) → r ≡ nearReply book layer off candidate buffer → r ≡ near.Written d g → (d ≤ maxAtoms) × (g ≤ maxBranching)
+near-small book layer off candidate buffer r d g e q = near-laws.granted-small book layer off candidate buffer d g (sym e ∙ q)
 
 pub placed-number : (r : PlaceReply) (p : Place) (g bits : ℕ) → r ≡ Placed p g → bits ≡ placeBits p → bits + g * 256 ≡ placeAnswer r
 placed-number r p g bits q b = ap (λ (x : ℕ). x + g * 256) b ∙ sym (ap placeAnswer q)
@@ -42,3 +49,6 @@ one-fits book layer off buffer e = rw e (λ g q. one-small book layer off buffer
 
 pub place-fits : (book : List ℕ) (layer off fact : ℕ) {a : Answer} → a ≡ Standing (placeReply book layer off fact) → Fits a
 place-fits book layer off fact e = rw e (λ p g q. place-small book layer off fact (placeReply book layer off fact) p g refl q)
+
+pub near-fits : (book : List ℕ) (layer off : ℕ) (candidate buffer : List ℕ) {a : Answer} → a ≡ Closest (nearReply book layer off candidate buffer) → Fits a
+near-fits book layer off candidate buffer e = rw e (λ d g q. near-small book layer off candidate buffer (nearReply book layer off candidate buffer) d g refl q)

@@ -8,7 +8,7 @@ use native.Mathlib.Omega.{arith}
 use borrow.Author.Tests.{ne-eqb}
 use lib.Dec.{T, eqb, ltb, ltb→lt}
 use lib.ListN.{getD}
-use Rattle.base.specs.Bounds.{maxBranching}
+use Rattle.base.specs.Bounds.{maxAtoms, maxBranching}
 use Rattle.book.specs.Causes.{verdict}
 use Rattle.book.specs.Numbers.{numberOf}
 use Rattle.book.specs.declared.Cause.{Cause}
@@ -23,6 +23,9 @@ use Rattle.list_call.proofs.Condition3Laws.{lists-exactly, equal-exactly}
 use Rattle.one_call.specs.Reply.{oneReply}
 use Rattle.one_call.specs.declared.OneReply.{OneReply}
 use Rattle.one_call.specs.declared.OneReply.the-variants as one
+use Rattle.near_call.specs.Reply.{nearReply}
+use Rattle.near_call.specs.declared.NearReply.{NearReply}
+use Rattle.near_call.specs.declared.NearReply.the-variants as near
 use Rattle.place_call.specs.Reply.{placeReply}
 use Rattle.place_call.specs.declared.Place.{Place}
 use Rattle.place_call.specs.declared.Place.the-variants.{Every, InSome, Nowhere}
@@ -31,9 +34,9 @@ use Rattle.place_call.specs.declared.PlaceReply.the-variants as place
 use Rattle.test_call.specs.Reply.{testReply}
 use Rattle.test_call.specs.declared.TestReply.{TestReply}
 use Rattle.test_call.specs.declared.TestReply.the-variants as reply
-use Rattle.lesson.specs.Answers.{checkAnswer, testAnswer, listAnswer, oneAnswer, placeAnswer}
-use Rattle.lesson.specs.Host.{lessonGranted, lessonIsStable, lessonBranchingCount, lessonStateCount, lessonPlaceOf, placeNumber, Reading, readBy, grantedWith, refusedFor, checkTold, testTold, listTold, oneTold, placeTold, Given, HostReads, AnswersRead, NumbersDiffer, listNumber, statesRead, branchingRead, Condition3Read}
-use Rattle.lesson.proofs.AnswerLaws.{list-small, one-small, place-small}
+use Rattle.lesson.specs.Answers.{checkAnswer, testAnswer, listAnswer, oneAnswer, placeAnswer, nearAnswer}
+use Rattle.lesson.specs.Host.{lessonGranted, lessonIsStable, lessonBranchingCount, lessonStateCount, lessonDistance, lessonPlaceOf, placeNumber, Reading, readBy, grantedWith, refusedFor, checkTold, testTold, listTold, oneTold, placeTold, nearTold, Given, HostReads, AnswersRead, NumbersDiffer, listNumber, statesRead, branchingRead, Condition3Read}
+use Rattle.lesson.proofs.AnswerLaws.{list-small, one-small, place-small, near-small}
 
 -- ---- the numbers of the causes
 -- those of 1 to 14
@@ -193,6 +196,20 @@ unfolding placed-with
 place-meant (place.Placed p g) = meant-granted placed-with place.Refused g (placeNumber p) ∙ ap (λ (x : Place). place.Placed x g) (place-back p)
 place-meant (place.Refused c) = meant-refused placed-with place.Refused c 0
 
+-- ---- lesson_nearest
+near-read : (r : NearReply) → ((d g : ℕ) → r ≡ near.Written d g → (d ≤ maxAtoms) × (g ≤ maxBranching)) → readBy lessonDistance (nearAnswer r) ≡ nearTold r
+near-read (near.Written d g) small =
+    let s : (d ≤ maxAtoms) × (g ≤ maxBranching) = small d g refl in granted-read lessonDistance g d (nearAnswer (near.Written d g)) d (omega arith) (s .1) (omega (arith, s .0, s .1))
+near-read (near.Refused c) small = states-refused c
+
+written-with : ℕ → ℕ → NearReply
+written-with g d = near.Written d g
+
+near-meant : (r : NearReply) → meant written-with near.Refused (nearTold r) ≡ r
+unfolding written-with
+near-meant (near.Written d g) = meant-granted written-with near.Refused g d
+near-meant (near.Refused c) = meant-refused written-with near.Refused c 0
+
 -- What a host reads from the number of each call is what the reply has to tell, and no two replies share a number.
 pub answers-read : AnswersRead
 answers-read = record {
@@ -207,6 +224,9 @@ answers-read = record {
   lesson-place =
       host-reads placed-with place.Refused _ placeAnswer lessonPlaceOf placeTold
       (λ x. place-read (placeReply (x .book) (x .layer) (x .off) (x .fact)) (λ p g e. place-small (x .book) (x .layer) (x .off) (x .fact) (placeReply (x .book) (x .layer) (x .off) (x .fact)) p g refl e)) place-meant;
+  lesson-nearest =
+      host-reads written-with near.Refused _ nearAnswer lessonDistance nearTold
+      (λ x. near-read (nearReply (x .book) (x .layer) (x .off) (x .candidate) (x .buffer)) (λ d g e. near-small (x .book) (x .layer) (x .off) (x .candidate) (x .buffer) (nearReply (x .book) (x .layer) (x .off) (x .candidate) (x .buffer)) d g refl e)) near-meant;
 }
 
 -- ---- condition 3, of the number

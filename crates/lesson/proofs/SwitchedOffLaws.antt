@@ -15,13 +15,15 @@ use Rattle.list_call.specs.Reply as list
 use Rattle.list_call.specs.declared.ListReply.{ListReply}
 use Rattle.one_call.specs.Reply as one
 use Rattle.one_call.specs.declared.OneReply.{OneReply}
+use Rattle.near_call.specs.Reply as near
+use Rattle.near_call.specs.declared.NearReply.{NearReply}
 use Rattle.place_call.specs.Reply as place
 use Rattle.place_call.specs.declared.PlaceReply.{PlaceReply}
 use Rattle.lesson.specs.SwitchedOff.{NothingOff}
 
 module _ (book : List ℕ) (layer : ℕ) where
   pub nothing-off : NothingOff book layer
-  unfolding test.testReply test.testTests list.listReply list.listBuffer list.listTests one.oneReply one.oneBuffer one.oneTests place.placeReply place.placeTests
+  unfolding test.testReply test.testTests list.listReply list.listBuffer list.listTests one.oneReply one.oneBuffer one.oneTests place.placeReply place.placeTests near.nearReply near.nearBuffer near.nearTests
   nothing-off = record {
     test-reply = λ candidate.
         answers-none TestReply (λ P. record { cause = BadCandidate; applies = isBadCandidate (bookOf book .atoms) candidate } ∷ [])
@@ -31,4 +33,8 @@ module _ (book : List ℕ) (layer : ℕ) where
     one-reply = λ old. answers-none OneReply (λ P. one.searchTests P (length old)) one.replyOf book layer;
     one-bytes = λ old. answers-none (List ℕ) (λ P. one.searchTests P (length old)) (λ v P. one.bufferOf v P old) book layer;
     place-reply = λ fact. answers-none PlaceReply (λ P. place.factTests P fact) (λ v P. place.replyOf v P fact) book layer;
+    near-reply = λ candidate old.
+        answers-none NearReply (λ P. near.candidateTests P candidate (length old)) (λ v P. near.replyOf v P (interpretationOf (bookOf book .atoms) candidate)) book layer;
+    near-bytes = λ candidate old.
+        answers-none (List ℕ) (λ P. near.candidateTests P candidate (length old)) (λ v P. near.bufferOf v P (interpretationOf (bookOf book .atoms) candidate) old) book layer;
   }

@@ -2,7 +2,7 @@
 -- else the cause's number with every other bit 0; the bits above the low byte carry what the answer carries. Assumes nothing.
 use mathlib.Core.Path.{_≡_}
 use Prim.Native.Nat.{ℕ, _+_, _*_, _^_, _≤_}
-use Rattle.base.specs.Bounds.{maxBranching}
+use Rattle.base.specs.Bounds.{maxAtoms, maxBranching}
 use Rattle.book.specs.declared.Verdict.{Verdict}
 use Rattle.book.specs.declared.Verdict.the-variants.{Accepted, Refused}
 use Rattle.book.specs.Numbers.{numberOf}
@@ -10,12 +10,14 @@ use Rattle.list_call.specs.declared.ListReply.{ListReply}
 use Rattle.list_call.specs.declared.ListReply.the-variants as list
 use Rattle.one_call.specs.declared.OneReply.{OneReply}
 use Rattle.one_call.specs.declared.OneReply.the-variants as one
+use Rattle.near_call.specs.declared.NearReply.{NearReply}
+use Rattle.near_call.specs.declared.NearReply.the-variants as near
 use Rattle.place_call.specs.declared.Place.{Place}
 use Rattle.place_call.specs.declared.Place.the-variants.{Every, InSome, Nowhere}
 use Rattle.place_call.specs.declared.PlaceReply.{PlaceReply}
 use Rattle.place_call.specs.declared.PlaceReply.the-variants as place
 use Rattle.drive.specs.declared.Answer.{Answer}
-use Rattle.drive.specs.declared.Answer.the-variants.{Listing, State, Standing}
+use Rattle.drive.specs.declared.Answer.the-variants.{Listing, State, Standing, Closest}
 use Rattle.test_call.specs.declared.TestReply.{TestReply}
 use Rattle.test_call.specs.declared.TestReply.the-variants as reply
 
@@ -50,11 +52,17 @@ abbrev pub placeAnswer : PlaceReply → ℕ
 placeAnswer (place.Placed p g) = placeBits p + g * 256
 placeAnswer (place.Refused c) = numberOf c
 
+-- lesson_nearest: g in bits 8 to 15, the number of facts that differ from bit 16 on
+abbrev pub nearAnswer : NearReply → ℕ
+nearAnswer (near.Written d g) = d * 65536 + g * 256
+nearAnswer (near.Refused c) = numberOf c
+
 -- a call that searches
 abbrev pub answerOf : Answer → ℕ
 answerOf (Listing r) = listAnswer r
 answerOf (State r) = oneAnswer r
 answerOf (Standing r) = placeAnswer r
+answerOf (Closest r) = nearAnswer r
 
 -- k and g keep to their bits; proofs/AnswerLaws.antt proves it of every reply that a call gives
 abbrev pub ListFits : ListReply → Type 0
@@ -66,7 +74,11 @@ OneFits r = (g : ℕ) → r ≡ one.Written g → g ≤ maxBranching
 abbrev pub PlaceFits : PlaceReply → Type 0
 PlaceFits r = (p : Place) (g : ℕ) → r ≡ place.Placed p g → g ≤ maxBranching
 
+abbrev pub NearFits : NearReply → Type 0
+NearFits r = (d g : ℕ) → r ≡ near.Written d g → (d ≤ maxAtoms) × (g ≤ maxBranching)
+
 abbrev pub Fits : Answer → Type 0
 Fits (Listing r) = ListFits r
 Fits (State r) = OneFits r
 Fits (Standing r) = PlaceFits r
+Fits (Closest r) = NearFits r

@@ -18,6 +18,9 @@ use Rattle.list_call.specs.declared.ListReply.the-variants as list
 use Rattle.one_call.specs.Reply.{oneReply}
 use Rattle.one_call.specs.declared.OneReply.{OneReply}
 use Rattle.one_call.specs.declared.OneReply.the-variants as one
+use Rattle.near_call.specs.Reply.{nearReply}
+use Rattle.near_call.specs.declared.NearReply.{NearReply}
+use Rattle.near_call.specs.declared.NearReply.the-variants as near
 use Rattle.place_call.specs.Reply.{placeReply}
 use Rattle.place_call.specs.declared.Place.{Place}
 use Rattle.place_call.specs.declared.Place.the-variants.{Every, InSome, Nowhere}
@@ -26,7 +29,7 @@ use Rattle.place_call.specs.declared.PlaceReply.the-variants as place
 use Rattle.test_call.specs.Reply.{testReply}
 use Rattle.test_call.specs.declared.TestReply.{TestReply}
 use Rattle.test_call.specs.declared.TestReply.the-variants as reply
-use Rattle.lesson.specs.Answers.{checkAnswer, testAnswer, listAnswer, oneAnswer, placeAnswer}
+use Rattle.lesson.specs.Answers.{checkAnswer, testAnswer, listAnswer, oneAnswer, placeAnswer, nearAnswer}
 
 -- ---- the functions of include/lesson.h, each behind its C. Of a number below 2^64, x >> 8 is x / 256, x & 0xFF is x % 256, and
 -- (uint32_t)x is x % 4294967296.
@@ -51,6 +54,10 @@ lessonBranchingCount answer = answer / 256 % 256 % 4294967296
 abbrev pub lessonStateCount : ℕ → ℕ
 lessonStateCount answer = answer / 65536 % 4294967296
 
+-- (uint32_t)(answer >> 16)
+abbrev pub lessonDistance : ℕ → ℕ
+lessonDistance answer = answer / 65536 % 4294967296
+
 -- answer >> 16 & 3
 abbrev pub lessonPlaceOf : ℕ → ℕ
 lessonPlaceOf answer = answer / 65536 % 4
@@ -68,7 +75,7 @@ pub record Reading (A : Type 0) : Type 0 where
   pub cause : ℕ
   -- g
   pub branching : ℕ
-  -- what the call tells besides: k, yes or no, or a place
+  -- what the call tells besides: k, yes or no, a place, or how many facts differ
   pub own : A
 
 -- by the functions above, and the one that is the call's own
@@ -110,6 +117,11 @@ abbrev pub placeTold : PlaceReply → Reading ℕ
 placeTold (place.Placed p g) = grantedWith g (placeNumber p)
 placeTold (place.Refused c) = refusedFor c 0
 
+-- lesson_nearest, by lessonDistance: how many facts differ
+abbrev pub nearTold : NearReply → Reading ℕ
+nearTold (near.Written d g) = grantedWith g d
+nearTold (near.Refused c) = refusedFor c 0
+
 -- ---- what is promised
 -- what a host hands to a call; each call takes its part of it
 pub record Given : Type 0 where
@@ -126,13 +138,14 @@ pub record HostReads {Reply A : Type 0} (reply : Given → Reply) (answer : Repl
   pub reads : (x : Given) → readBy own (answer (reply x)) ≡ told (reply x)
   pub differ : (x y : Given) → answer (reply x) ≡ answer (reply y) → reply x ≡ reply y
 
--- The five calls. So lesson_list's number gives back k and g where the reply is `Listed k g`, and the cause where it is `Refused c`.
+-- The six calls. So lesson_list's number gives back k and g where the reply is `Listed k g`, and the cause where it is `Refused c`.
 pub record AnswersRead : Type 0 where
   pub lesson-check : HostReads (λ x. verdict (x .book)) checkAnswer lessonStateCount checkTold
   pub lesson-test : HostReads (λ x. testReply (x .book) (x .layer) (x .off) (x .candidate)) testAnswer lessonIsStable testTold
   pub lesson-list : HostReads (λ x. listReply (x .book) (x .layer) (x .off) (x .buffer)) listAnswer lessonStateCount listTold
   pub lesson-one : HostReads (λ x. oneReply (x .book) (x .layer) (x .off) (x .buffer)) oneAnswer lessonStateCount oneTold
   pub lesson-place : HostReads (λ x. placeReply (x .book) (x .layer) (x .off) (x .fact)) placeAnswer lessonPlaceOf placeTold
+  pub lesson-nearest : HostReads (λ x. nearReply (x .book) (x .layer) (x .off) (x .candidate) (x .buffer)) nearAnswer lessonDistance nearTold
 
 -- Each cause has a number of its own, and none has 0.
 pub record NumbersDiffer : Type 0 where

@@ -18,6 +18,7 @@ use Rattle.candidate.specs.Candidate.{isBadCandidate}
 use Rattle.test_call.specs.Reply as test
 use Rattle.list_call.specs.Reply as list
 use Rattle.one_call.specs.Reply as one
+use Rattle.near_call.specs.Reply as near
 use Rattle.place_call.specs.Reply as place
 
 module _ (book : List ℕ) (layer : ℕ) where
@@ -38,6 +39,9 @@ module _ (book : List ℕ) (layer : ℕ) where
   abbrev pub placeVerdict : ℕ → Verdict
   placeVerdict fact = firstOf (wholeTests book layer ++ place.factTests whole fact)
 
+  abbrev pub nearVerdict : List ℕ → List ℕ → Verdict
+  nearVerdict candidate old = firstOf (wholeTests book layer ++ near.candidateTests whole candidate (length old))
+
   pub record NothingOff : Type 0 where
     pub test-reply : (candidate : List ℕ)
         → test.testReply book layer 0 candidate ≡ test.replyOf (testVerdict candidate) (stable whole (interpretationOf (bookOf book .atoms) candidate))
@@ -46,3 +50,7 @@ module _ (book : List ℕ) (layer : ℕ) where
     pub one-reply : (old : List ℕ) → one.oneReply book layer 0 old ≡ one.replyOf (oneVerdict old) whole
     pub one-bytes : (old : List ℕ) → one.oneBuffer book layer 0 old ≡ one.bufferOf (oneVerdict old) whole old
     pub place-reply : (fact : ℕ) → place.placeReply book layer 0 fact ≡ place.replyOf (placeVerdict fact) whole fact
+    pub near-reply : (candidate old : List ℕ)
+        → near.nearReply book layer 0 candidate old ≡ near.replyOf (nearVerdict candidate old) whole (interpretationOf (bookOf book .atoms) candidate)
+    pub near-bytes : (candidate old : List ℕ)
+        → near.nearBuffer book layer 0 candidate old ≡ near.bufferOf (nearVerdict candidate old) whole (interpretationOf (bookOf book .atoms) candidate) old

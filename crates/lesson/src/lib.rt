@@ -6,15 +6,18 @@ ghost use Rattle.book.specs.Causes.{verdict};
 ghost use Rattle.test_call.specs.Reply.{testReply};
 ghost use Rattle.list_call.specs.Reply.{listReply, listBuffer};
 ghost use Rattle.one_call.specs.Reply.{oneReply, oneBuffer};
+ghost use Rattle.near_call.specs.Reply.{nearReply, nearBuffer};
 ghost use Rattle.place_call.specs.Reply.{placeReply};
-ghost use Rattle.lesson.specs.Answers.{checkAnswer, testAnswer, listAnswer, oneAnswer, placeBits, placeAnswer, answerOf, ListFits, OneFits, PlaceFits, Fits};
+ghost use Rattle.lesson.specs.Answers.{checkAnswer, testAnswer, listAnswer, oneAnswer, placeBits, placeAnswer, nearAnswer, answerOf, ListFits, OneFits, PlaceFits, NearFits, Fits};
 use book::Verdict;
 use book::cause_number;
 use book::check;
 use drive::Answer;
 use drive::Question;
 use drive::ask;
+use drive::near;
 use list_call::ListReply;
+use near_call::NearReply;
 use one_call::OneReply;
 use place_call::Place;
 use place_call::PlaceReply;
@@ -103,6 +106,17 @@ fn place_number(r: PlaceReply) -> u64
     }
 }
 
+// How the reply for the state closest to a candidate is answered: the number of facts that differ from bit 16 on, g in bits 8 to 15.
+fn near_number(r: NearReply) -> u64
+    requires { ⌜ NearFits r ⌝ }
+    ensures { λ n. ⌜ n ≡ nearAnswer r ⌝ }
+{
+    match r {
+        NearReply::Written(d, g) => (d as u64) * 65536 + (g as u64) * 256,
+        NearReply::Refused(c) => cause_number(c),
+    }
+}
+
 // How the answer of a call that searches is told.
 fn answer_number(a: Answer) -> u64
     requires { ⌜ Fits a ⌝ }
@@ -112,6 +126,7 @@ fn answer_number(a: Answer) -> u64
         Answer::Listing(r) => list_number(r),
         Answer::State(r) => one_number(r),
         Answer::Standing(r) => place_number(r),
+        Answer::Closest(r) => near_number(r),
     }
 }
 
@@ -143,4 +158,21 @@ pub extern "C" fn lesson_place(book: &[u8], layer: u32, off: u32, fact: u32) -> 
 {
     let mut none: [u8; 0] = [];
     answer_number(ask(book, layer, off, Question::Place(fact as usize), &mut none))
+}
+
+// Writes the record of the stable state of a book at a layer that differs from a candidate in the fewest facts, with the layers of a set
+// switched off, into the buffer's first bytes, and among equals the first of the listing; or names the first of causes 1 to 9, 19, 10, 12,
+// 13 and 14 that applies and leaves every byte. The answer carries the number of facts that differ and g.
+#[no_mangle]
+pub extern "C" fn lesson_nearest(
+    book: &[u8],
+    layer: u32,
+    off: u32,
+    candidate: &[u8],
+    buffer: &mut [u8],
+) -> u64
+    ensures answer { λ r. ⌜ r ≡ nearAnswer (nearReply (now (book .entry)) layer off (now (candidate .entry)) (now (buffer .entry))) ⌝ }
+    ensures bytes { λ _. ⌜ now (buffer .exit) ≡ nearBuffer (now (book .entry)) layer off (now (candidate .entry)) (now (buffer .entry)) ⌝ }
+{
+    answer_number(near(book, layer, off, candidate, buffer))
 }

@@ -23,6 +23,12 @@ enum-known-a-3 c = search needs
 place-number-requires : tie.Need-place-number-requires
 place-number-requires c κs = subst Fits (c .before .a3 .given .1) (c .before .before .before .pre)
 
+enum-known-a-4 : tie.Need-enum-known-a-4
+enum-known-a-4 c = search needs
+
+near-number-requires : tie.Need-near-number-requires
+near-number-requires c κs = subst Fits (c .before .a4 .given .1) (c .before .before .before .pre)
+
 returns : tie.Need-returns
 returns c = c .list-number .ensures ∙ sym (ap answerOf (c .before .before .a .given .1))
 
@@ -31,6 +37,9 @@ returns-2 c = c .one-number .ensures ∙ sym (ap answerOf (c .before .before .a2
 
 returns-3 : tie.Need-returns-3
 returns-3 c = c .place-number .ensures ∙ sym (ap answerOf (c .before .before .a3 .given .1))
+
+returns-4 : tie.Need-returns-4
+returns-4 c = c .near-number .ensures ∙ sym (ap answerOf (c .before .before .a4 .given .1))
 
 pub answer-number-spec : {M : Type 1} → statement M
 answer-number-spec =
@@ -42,6 +51,9 @@ answer-number-spec =
     one-number-requires
     enum-known-a-3
     place-number-requires
+    enum-known-a-4
+    near-number-requires
     returns
     returns-2
-    returns-3)
+    returns-3
+    returns-4)
