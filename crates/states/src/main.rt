@@ -114,6 +114,7 @@ fn show(book: &[u8]) {
         Answer::Listing(reply) => print_listing(reply, &buffer),
         Answer::State(reply) => {}
         Answer::Standing(reply) => {}
+        Answer::Closest(reply) => {}
     }
 }
 
