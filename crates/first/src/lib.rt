@@ -273,15 +273,7 @@ fn visit_first(
         hints,
     ) {
         let g = sizes.branching;
-        return take_first(
-            &plan[0..g],
-            sure,
-            wanted,
-            positive,
-            standing,
-            part,
-            held,
-        );
+        return take_first(&plan[0..g], sure, wanted, positive, standing, part, held);
     }
     held
 }
