@@ -97,7 +97,8 @@ enum lesson_stack_bytes {
     LESSON_TEST_STACK = 58368,
     LESSON_LIST_STACK = 116736,
     LESSON_ONE_STACK = 114688,
-    LESSON_PLACE_STACK = 116736
+    LESSON_PLACE_STACK = 116736,
+    LESSON_NEAREST_STACK = 116736
 };
 
 /* The cause that an answer names; LESSON_GRANTED where there is none. */
@@ -127,6 +128,13 @@ static inline uint32_t lesson_branching_count(uint64_t answer)
 
 /* lesson_list: the number k of stable states; 0 after a refusal. */
 static inline uint32_t lesson_state_count(uint64_t answer)
+{
+    return (uint32_t)(answer >> 16);
+}
+
+/* lesson_nearest: in how many facts the state that was written differs from the
+ * candidate; 0 after a refusal. */
+static inline uint32_t lesson_distance(uint64_t answer)
 {
     return (uint32_t)(answer >> 16);
 }
@@ -243,6 +251,31 @@ uint64_t lesson_one(const uint8_t *book, size_t book_len, uint32_t layer, uint32
  */
 uint64_t lesson_place(const uint8_t *book, size_t book_len, uint32_t layer, uint32_t off,
                       uint32_t fact);
+
+/*
+ * Hands out the stable state of a book at the driven layer that is closest to a
+ * candidate: no other differs from it in fewer facts, and of those that differ in
+ * as few it is the first that lesson_list lists. Where the candidate is stable,
+ * and only there, no fact differs and the bytes are the candidate's.
+ *
+ * book, book_len: the book, any bytes.
+ * layer: the driven layer, counted from 0, any number.
+ * off: the set of layers that are switched off, any number.
+ * candidate, candidate_len: the candidate as one record, any bytes.
+ * buffer, buffer_len: where the state goes, of any length. Where the call is
+ * granted, its first bytes are the state's record and the bytes past it are as
+ * they were. A buffer of LESSON_LONGEST_RECORD bytes holds every state.
+ *
+ * Answers g in bits 8 to 15 (lesson_branching_count) and the number of facts that
+ * differ from bit 16 on (lesson_distance), or the first of LESSON_TOO_SHORT to
+ * LESSON_NO_SUCH_LAYER, LESSON_NO_SUCH_LAYER_OFF, LESSON_BAD_CANDIDATE and
+ * LESSON_TOO_MANY_BRANCHING to LESSON_NO_STABLE_STATE that applies. More than 20
+ * branching facts are refused here even where lesson_test finds the candidate
+ * stable. The time grows with 2 to the power g.
+ */
+uint64_t lesson_nearest(const uint8_t *book, size_t book_len, uint32_t layer, uint32_t off,
+                        const uint8_t *candidate, size_t candidate_len, uint8_t *buffer,
+                        size_t buffer_len);
 
 #ifdef __cplusplus
 }
