@@ -42,6 +42,11 @@ pub const fn place_of(branching: usize, standing: usize, states: usize) -> u64 {
     (branching as u64) << 8 | place << 16
 }
 
+/// What `lesson_nearest` answers where it is granted: so many facts differ.
+pub const fn differing(branching: usize, facts: usize) -> u64 {
+    (branching as u64) << 8 | (facts as u64) << 16
+}
+
 /// The number of branching facts, or cause 12.
 fn searched(driven: &Driven) -> Result<usize, u64> {
     match driven.branching_count() {
@@ -114,17 +119,41 @@ impl Asked {
         (answer.unwrap_or_else(|cause| cause), after)
     }
 
+    /// Writes the record of a stable state, which is taken of those listed: g and what is told of it,
+    /// or the first of causes 12, 13 and 14 that applies.
+    fn write<T>(
+        &self,
+        driven: &Driven,
+        buffer: &mut [u8],
+        take: impl FnOnce(&[Vec<bool>]) -> Option<(T, &[bool])>,
+    ) -> Result<(usize, T), u64> {
+        let branching = searched(driven)?;
+        let width = usize::from(driven.atoms()).div_ceil(8);
+        let place = buffer.get_mut(..width).ok_or(BUFFER_TOO_SHORT)?;
+        let (told, state) = take(self.models(driven)).ok_or(NO_STABLE_STATE)?;
+        place.copy_from_slice(&oracle::record(state));
+        Ok((branching, told))
+    }
+
     /// The answer of `lesson_one` and the buffer after it: the first record of the listing is handed
     /// out (document 02, f).
     pub fn one(&self, buffer: &[u8]) -> (u64, Vec<u8>) {
         let mut after = buffer.to_vec();
         let answer = self.driven().and_then(|driven| {
-            let answer = branching(searched(driven)?);
-            let width = usize::from(driven.atoms()).div_ceil(8);
-            let place = after.get_mut(..width).ok_or(BUFFER_TOO_SHORT)?;
-            let records = self.records(driven);
-            place.copy_from_slice(records.first().ok_or(NO_STABLE_STATE)?);
-            Ok(answer)
+            let (g, ()) = self.write(driven, &mut after, |models| Some(((), models.first()?)))?;
+            Ok(branching(g))
+        });
+        (answer.unwrap_or_else(|cause| cause), after)
+    }
+
+    /// The answer of `lesson_nearest` and the buffer after it (document 02, j).
+    pub fn nearest(&self, candidate: &[u8], buffer: &[u8]) -> (u64, Vec<u8>) {
+        let mut after = buffer.to_vec();
+        let answer = self.driven().and_then(|driven| {
+            let state = oracle::state(candidate, driven.atoms()).ok_or(BAD_CANDIDATE)?;
+            let (g, facts) =
+                self.write(driven, &mut after, |models| oracle::nearest(models, &state))?;
+            Ok(differing(g, facts))
         });
         (answer.unwrap_or_else(|cause| cause), after)
     }
@@ -162,4 +191,9 @@ pub fn one(book: &[u8], drive: Drive, buffer: &[u8]) -> (u64, Vec<u8>) {
 /// The answer of `lesson_place`.
 pub fn place(book: &[u8], drive: Drive, fact: u32) -> u64 {
     Asked::new(book, drive).place(fact)
+}
+
+/// The answer of `lesson_nearest` and the buffer after it.
+pub fn nearest(book: &[u8], drive: Drive, candidate: &[u8], buffer: &[u8]) -> (u64, Vec<u8>) {
+    Asked::new(book, drive).nearest(candidate, buffer)
 }

@@ -34,6 +34,16 @@ extern "C" {
         buffer_len: usize,
     ) -> u64;
     fn lesson_place(book: *const u8, book_len: usize, layer: u32, off: u32, fact: u32) -> u64;
+    fn lesson_nearest(
+        book: *const u8,
+        book_len: usize,
+        layer: u32,
+        off: u32,
+        candidate: *const u8,
+        candidate_len: usize,
+        buffer: *mut u8,
+        buffer_len: usize,
+    ) -> u64;
 }
 
 /// A call, with what it is lent beside the book and the drive. `None` is NULL with length 0,
@@ -44,6 +54,8 @@ pub enum Call<'a> {
     List(Option<&'a mut [u8]>),
     One(Option<&'a mut [u8]>),
     Place(u32),
+    /// The candidate, and the buffer.
+    Nearest(Option<&'a [u8]>, Option<&'a mut [u8]>),
 }
 
 fn pointer(slice: Option<&[u8]>) -> (*const u8, usize) {
@@ -78,6 +90,13 @@ pub fn answer(book: Option<&[u8]>, drive: Drive, call: Call) -> u64 {
                 lesson_one(book, book_len, layer, off, buffer, buffer_len)
             }
             Call::Place(fact) => lesson_place(book, book_len, layer, off, fact),
+            Call::Nearest(candidate, buffer) => {
+                let (near, near_len) = pointer(candidate);
+                let (buffer, buffer_len) = pointer_mut(buffer);
+                lesson_nearest(
+                    book, book_len, layer, off, near, near_len, buffer, buffer_len,
+                )
+            }
         }
     }
 }
@@ -220,4 +239,18 @@ pub fn place(book: &[u8], drive: Drive, fact: u32) -> u64 {
 /// `lesson_place` on `book` itself.
 pub fn place_in_place(book: &[u8], drive: Drive, fact: u32) -> u64 {
     answer(Some(book), drive, Call::Place(fact))
+}
+
+/// `lesson_nearest` on fenced copies.
+pub fn nearest(book: &[u8], drive: Drive, candidate: &[u8], buffer: &[u8]) -> Outcome {
+    fenced([book, candidate], buffer, |[book, candidate], buffer| {
+        let call = Call::Nearest(candidate.slice(), buffer.buffer());
+        answer(book.slice(), drive, call)
+    })
+}
+
+/// `lesson_nearest` on the slices themselves.
+pub fn nearest_in_place(book: &[u8], drive: Drive, candidate: &[u8], buffer: &mut [u8]) -> u64 {
+    let call = Call::Nearest(Some(candidate), Some(buffer));
+    answer(Some(book), drive, call)
 }

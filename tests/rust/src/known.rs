@@ -27,6 +27,15 @@ impl Known {
         records.min()
     }
 
+    /// The record of the state closest to a candidate, if there is one, and in how many facts it differs:
+    /// among equals the first of the listing.
+    pub fn nearest(&self, candidate: &[bool]) -> Option<(usize, Vec<u8>)> {
+        let states = (0..self.count).map(|number| (self.state)(number));
+        let measured =
+            |state: Vec<bool>| (oracle::distance(&state, candidate), oracle::record(&state));
+        states.map(measured).min()
+    }
+
     pub fn listing(&self) -> Vec<u8> {
         let mut records: Vec<Vec<u8>> = (0..self.count)
             .map(|number| oracle::record(&(self.state)(number)))

@@ -1,9 +1,9 @@
-//! What `lesson_list` and `lesson_one` are to do to a buffer, for every test of them.
+//! What `lesson_list`, `lesson_one` and `lesson_nearest` are to do to a buffer, for every test of them.
 
 use crate::book::hex;
 use crate::causes::fields;
 use crate::drive::Drive;
-use crate::expected::{branching, BUFFER_TOO_SHORT, NO_STABLE_STATE};
+use crate::expected::{branching, differing, BUFFER_TOO_SHORT, NO_STABLE_STATE};
 use crate::ffi;
 use crate::known::Known;
 
@@ -19,19 +19,49 @@ pub fn outcome(listing: &[u8], answer: u64, buffer: &[u8]) -> ffi::Outcome {
     }
 }
 
-/// The outcome on `buffer` of a call for one state of a book whose records have `width` bytes, of which
-/// `first` is the first where there is one; or 13 where it has no room.
-pub fn one_outcome(first: Option<&[u8]>, width: usize, g: usize, buffer: &[u8]) -> ffi::Outcome {
+/// The outcome on `buffer` of a call that would write a record of `width` bytes and give this answer, or
+/// 14 where there is none; or 13 where it has no room.
+fn record_outcome(written: Option<(u64, &[u8])>, width: usize, buffer: &[u8]) -> ffi::Outcome {
     let mut after = buffer.to_vec();
-    let answer = match (after.get_mut(..width), first) {
+    let answer = match (after.get_mut(..width), written) {
         (None, _) => BUFFER_TOO_SHORT,
         (_, None) => NO_STABLE_STATE,
-        (Some(place), Some(first)) => {
-            place.copy_from_slice(first);
-            branching(g)
+        (Some(place), Some((answer, record))) => {
+            place.copy_from_slice(record);
+            answer
         }
     };
     (answer, after)
+}
+
+/// The outcome on `buffer` of a call for one state of a book whose records have `width` bytes, of which
+/// `first` is the first where there is one.
+pub fn one_outcome(first: Option<&[u8]>, width: usize, g: usize, buffer: &[u8]) -> ffi::Outcome {
+    record_outcome(first.map(|first| (branching(g), first)), width, buffer)
+}
+
+/// The same for the state closest to a candidate: in how many facts it differs, and its record.
+pub fn nearest_outcome(
+    nearest: Option<(usize, &[u8])>,
+    width: usize,
+    g: usize,
+    buffer: &[u8],
+) -> ffi::Outcome {
+    let written = nearest.map(|(facts, record)| (differing(g, facts), record));
+    record_outcome(written, width, buffer)
+}
+
+/// Of records in the order of the listing the one in which the fewest facts differ from a candidate,
+/// among equals the first, and how many these are.
+pub fn nearest_of<'a>(records: &[&'a [u8]], candidate: &[u8]) -> Option<(usize, &'a [u8])> {
+    let differing = |record: &[u8]| {
+        let bytes = record.iter().zip(candidate);
+        bytes.map(|(byte, other)| (byte ^ other).count_ones()).sum()
+    };
+    let distances = records.iter().map(|record| differing(record));
+    // Of equal ones the first is taken.
+    let (facts, record): (u32, &&[u8]) = distances.zip(records).min_by_key(|at| at.0)?;
+    Some((facts as usize, record))
 }
 
 /// The same for a book whose states are known.
@@ -67,6 +97,19 @@ pub fn assert_outcome(
 pub fn assert_one(what: &str, book: &[u8], drive: Drive, buffer: &[u8], expected: &ffi::Outcome) {
     let engine = ffi::one(book, drive, buffer);
     assert_same(what, book, drive, buffer, [&engine, expected]);
+}
+
+/// The engine's outcome of `lesson_nearest` on fenced copies is the one expected.
+pub fn assert_nearest(
+    what: &str,
+    book: &[u8],
+    drive: Drive,
+    [candidate, buffer]: [&[u8]; 2],
+    expected: &ffi::Outcome,
+) {
+    let engine = ffi::nearest(book, drive, candidate, buffer);
+    let what = format!("{what}, candidate {}", hex(candidate));
+    assert_same(&what, book, drive, buffer, [&engine, expected]);
 }
 
 fn assert_same(

@@ -1,7 +1,7 @@
 //! Document 01's definitions by brute force, in its order and words, with the layers that document
 //! 02, (h) switches off, with the exception that (i) there makes and with the states that (c) there
-//! rules out, for small books: every state is tried. Nothing is clever here, and nothing is shared
-//! with the engine.
+//! rules out, for small books: every state is tried; and (j)'s closest of them. Nothing is clever here,
+//! and nothing is shared with the engine.
 
 use crate::book::{Book, Literal, Rule};
 use crate::drive::Drive;
@@ -239,6 +239,21 @@ impl Driven {
         let records: Vec<Vec<u8>> = models.iter().map(|model| record(model)).collect();
         listing(self.atoms(), &records)
     }
+}
+
+/// Document 02, (j): in how many facts two states differ.
+pub fn distance(state: &[bool], other: &[bool]) -> usize {
+    let facts = state.iter().zip(other);
+    facts.filter(|(stands, other)| stands != other).count()
+}
+
+/// Document 02, (j): of stable models in the order of the listing the one that differs from the
+/// candidate in the fewest facts, among equals the first, and how many those facts are.
+pub fn nearest<'a>(models: &'a [Vec<bool>], candidate: &[bool]) -> Option<(usize, &'a [bool])> {
+    let distances = || models.iter().map(|model| distance(model, candidate));
+    let fewest = distances().min()?;
+    let first = distances().position(|facts| facts == fewest)?;
+    Some((fewest, &models[first]))
 }
 
 /// The listing with these records, which are in their order.

@@ -4,8 +4,9 @@
 use crate::book::{BYTE_ATOMS, LONGEST_RECORD, MAX_ATOMS};
 use crate::drive::Drive;
 use crate::expected::{
-    branching, counts, place_of, yes_or_no, BAD_CANDIDATE, BUFFER_TOO_SHORT, MAX_BRANCHING,
-    NO_STABLE_STATE, NO_SUCH_FACT, NO_SUCH_LAYER, NO_SUCH_LAYER_OFF, TOO_MANY_BRANCHING,
+    branching, counts, differing, place_of, yes_or_no, BAD_CANDIDATE, BUFFER_TOO_SHORT,
+    MAX_BRANCHING, NO_STABLE_STATE, NO_SUCH_FACT, NO_SUCH_LAYER, NO_SUCH_LAYER_OFF,
+    TOO_MANY_BRANCHING,
 };
 use crate::reader::{self, Parts};
 use std::ops::ControlFlow;
@@ -240,6 +241,30 @@ impl<const N: usize> Program<N> {
             }
         }
     }
+
+    /// Writes the record with the least of a measure, among equals the least record, in a whole pass that
+    /// keeps it: the number of branching facts and the measure, or the first of causes 12 to 14.
+    fn write_least(
+        &self,
+        buffer: &mut [u8],
+        measure: impl Fn(&Names<N>) -> usize,
+    ) -> Result<(usize, usize), u64> {
+        let branching = self.branching()?;
+        let width = self.atoms.div_ceil(8);
+        let place = buffer.get_mut(..width).ok_or(BUFFER_TOO_SHORT)?;
+        let mut least = None;
+        self.each_stable(&branching, |state| {
+            let met = (measure(state), Program::record(state));
+            least = Some(match least {
+                Some(least) => met.min(least),
+                None => met,
+            });
+            ControlFlow::Continue(())
+        });
+        let (measured, record) = least.ok_or(NO_STABLE_STATE)?;
+        place.copy_from_slice(&record[..width]);
+        Ok((branching.len(), measured))
+    }
 }
 
 /// The answers of a program, whatever the number of its names, or the causes for which there are none.
@@ -249,6 +274,7 @@ trait Calls {
     fn list(&self, buffer: &mut [u8]) -> Result<u64, u64>;
     fn one(&self, buffer: &mut [u8]) -> Result<u64, u64>;
     fn place(&self, fact: u32) -> Result<u64, u64>;
+    fn nearest(&self, candidate: &[u8], buffer: &mut [u8]) -> Result<u64, u64>;
 }
 
 impl<const N: usize> Calls for Program<N> {
@@ -285,22 +311,9 @@ impl<const N: usize> Calls for Program<N> {
         Ok(counts(branching.len(), count))
     }
 
-    /// A whole pass that keeps the least record.
     fn one(&self, buffer: &mut [u8]) -> Result<u64, u64> {
-        let atoms = self.branching()?;
-        let width = self.atoms.div_ceil(8);
-        let place = buffer.get_mut(..width).ok_or(BUFFER_TOO_SHORT)?;
-        let mut least = None;
-        self.each_stable(&atoms, |state| {
-            let record = Program::record(state);
-            least = Some(match least {
-                Some(least) => record.min(least),
-                None => record,
-            });
-            ControlFlow::Continue(())
-        });
-        place.copy_from_slice(&least.ok_or(NO_STABLE_STATE)?[..width]);
-        Ok(branching(atoms.len()))
+        let (g, _) = self.write_least(buffer, |_| 0)?;
+        Ok(branching(g))
     }
 
     /// The search ends once both a state with the fact and one without it were seen.
@@ -319,6 +332,15 @@ impl<const N: usize> Calls for Program<N> {
             }
         });
         Ok(place_of(branching.len(), standing, states))
+    }
+
+    fn nearest(&self, candidate: &[u8], buffer: &mut [u8]) -> Result<u64, u64> {
+        let wanted: Names<N> = state(candidate, self.atoms).ok_or(BAD_CANDIDATE)?;
+        let (g, facts) = self.write_least(buffer, |state| {
+            let plain_names = state.iter().zip(&wanted).take(self.atoms);
+            plain_names.filter(|(name, wanted)| name != wanted).count()
+        })?;
+        Ok(differing(g, facts))
     }
 }
 
@@ -447,6 +469,13 @@ pub fn place(book: &[u8], drive: Drive, fact: u32) -> u64 {
         .unwrap_or_else(|cause| cause)
 }
 
+/// What `lesson_nearest` answers and does.
+pub fn nearest(book: &[u8], drive: Drive, candidate: &[u8], buffer: &mut [u8]) -> u64 {
+    program(book, drive)
+        .and_then(|program| program.nearest(candidate, buffer))
+        .unwrap_or_else(|cause| cause)
+}
+
 #[cfg(test)]
 mod tests {
     use super::*;
@@ -514,15 +543,16 @@ mod tests {
                     hex(&bytes)
                 );
                 several += usize::from(plain >> 16 > 1);
-                let mut buffer = vec![0xA5; rng.below(4)];
-                let oracle = expected::one(&bytes, drive, &buffer);
-                let plain = one(&bytes, drive, &mut buffer);
-                assert!(
-                    (plain, &buffer) == (oracle.0, &oracle.1),
-                    "seed {seed}, {drive}, one: plain {plain:#X}, oracle {:#X}\n{}",
-                    oracle.0,
-                    hex(&bytes)
-                );
+                let before = vec![0xA5; rng.below(4)];
+                let candidate = shapes::any_candidate(&mut rng, book.atoms.into());
+                let [mut first, mut closest] = [before.clone(), before.clone()];
+                let told = format!("seed {seed}, {drive}, {}\n{}", hex(&candidate), hex(&bytes));
+                let answer = one(&bytes, drive, &mut first);
+                let oracle = expected::one(&bytes, drive, &before);
+                assert_eq!((answer, first), oracle, "one: {told}");
+                let answer = nearest(&bytes, drive, &candidate, &mut closest);
+                let oracle = expected::nearest(&bytes, drive, &candidate, &before);
+                assert_eq!((answer, closest), oracle, "nearest: {told}");
             }
         }
         assert!(several > 500, "only {several} listings of several states");

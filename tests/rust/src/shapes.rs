@@ -1030,6 +1030,24 @@ fn any_layer(rng: &mut Rng, book: &[u8]) -> u32 {
     }
 }
 
+/// A candidate for a book of so many facts: a fitting one half of the time.
+pub fn any_candidate(rng: &mut Rng, atoms: usize) -> Vec<u8> {
+    let mut candidate = rng.bytes(atoms.div_ceil(8));
+    let spare = candidate.len() * 8 - atoms;
+    if let Some(last) = candidate.last_mut() {
+        *last &= 0xFF << spare;
+        if rng.chance(15) {
+            *last |= rng.byte();
+        }
+    }
+    match rng.below(10) {
+        0 => candidate.push(0),
+        1 => drop(candidate.pop()),
+        _ => (),
+    }
+    candidate
+}
+
 /// A book to which each cause of `causes` applies (bit c - 1 for cause c), and none smaller than
 /// the smallest of them. With no cause the book is lawful.
 pub fn with_causes(rng: &mut Rng, causes: u8) -> Vec<u8> {

@@ -3,6 +3,7 @@
 
 use crate::drive::Drive;
 use crate::expected::Asked;
+use crate::ffi::Outcome;
 use crate::plain;
 use crate::reader;
 
@@ -31,26 +32,38 @@ impl<'a> Truth<'a> {
         }
     }
 
-    /// The answer of `lesson_list` and the buffer after it.
-    pub fn list(&self, buffer: &[u8]) -> (u64, Vec<u8>) {
+    /// The answer of a call that writes, and the buffer after it.
+    fn outcome(
+        &self,
+        buffer: &[u8],
+        oracle: impl FnOnce(&Asked) -> Outcome,
+        plain: impl FnOnce(&[u8], Drive, &mut [u8]) -> u64,
+    ) -> Outcome {
         match self {
-            Truth::Oracle(asked) => asked.list(buffer),
+            Truth::Oracle(asked) => oracle(asked),
             Truth::Plain { book, drive } => {
                 let mut after = buffer.to_vec();
-                (plain::list(book, *drive, &mut after), after)
+                (plain(book, *drive, &mut after), after)
             }
         }
     }
 
+    /// The answer of `lesson_list` and the buffer after it.
+    pub fn list(&self, buffer: &[u8]) -> Outcome {
+        self.outcome(buffer, |asked| asked.list(buffer), plain::list)
+    }
+
     /// The answer of `lesson_one` and the buffer after it.
-    pub fn one(&self, buffer: &[u8]) -> (u64, Vec<u8>) {
-        match self {
-            Truth::Oracle(asked) => asked.one(buffer),
-            Truth::Plain { book, drive } => {
-                let mut after = buffer.to_vec();
-                (plain::one(book, *drive, &mut after), after)
-            }
-        }
+    pub fn one(&self, buffer: &[u8]) -> Outcome {
+        self.outcome(buffer, |asked| asked.one(buffer), plain::one)
+    }
+
+    /// The answer of `lesson_nearest` and the buffer after it.
+    pub fn nearest(&self, candidate: &[u8], buffer: &[u8]) -> Outcome {
+        let plain =
+            |book: &[u8], drive, after: &mut [u8]| plain::nearest(book, drive, candidate, after);
+        let oracle = |asked: &Asked| asked.nearest(candidate, buffer);
+        self.outcome(buffer, oracle, plain)
     }
 
     /// The answer of `lesson_place`.

@@ -418,24 +418,6 @@ fn layers_of_the_book_are_driven_and_all_others_are_refused_9() {
     }
 }
 
-/// A candidate for a book of so many facts: a fitting one half of the time.
-fn any_candidate(rng: &mut Rng, atoms: usize) -> Vec<u8> {
-    let mut candidate = rng.bytes(atoms.div_ceil(8));
-    let spare = candidate.len() * 8 - atoms;
-    if let Some(last) = candidate.last_mut() {
-        *last &= 0xFF << spare;
-        if rng.chance(15) {
-            *last |= rng.byte();
-        }
-    }
-    match rng.below(10) {
-        0 => candidate.push(0),
-        1 => drop(candidate.pop()),
-        _ => (),
-    }
-    candidate
-}
-
 #[test]
 fn any_bytes_are_answered_as_by_reader_and_oracle() {
     let any_bytes = AnyBytes {
@@ -451,7 +433,7 @@ fn any_bytes_are_answered_as_by_reader_and_oracle() {
         |rng, what, bytes| {
             let (facts, _) = fields(bytes);
             let drive = shapes::any_drive(rng, bytes);
-            let candidate = any_candidate(rng, facts);
+            let candidate = shapes::any_candidate(rng, facts);
             let answer = agree(what, bytes, drive, &candidate);
             yes += usize::from(answer == yes_or_no(true));
             no += usize::from(answer == yes_or_no(false));
