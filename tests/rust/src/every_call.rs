@@ -1,4 +1,4 @@
-//! All four calls on a driven layer at once: on small books against the oracle, against states that are
+//! All five calls on a driven layer at once: on small books against the oracle, against states that are
 //! known, and against misreadings, which must find others; and on large books whose states are known.
 
 use crate::book::{hex, width, Book, BYTE_ATOMS, MAX_ATOMS};
@@ -6,7 +6,9 @@ use crate::drive::Drive;
 use crate::expected::{counts, place_of, yes_or_no, Asked};
 use crate::ffi;
 use crate::known::{some_facts, Known};
-use crate::listed::{assert_one, assert_outcome, one_outcome, outcome};
+use crate::listed::{
+    assert_nearest, assert_one, assert_outcome, nearest_of, nearest_outcome, one_outcome, outcome,
+};
 use crate::misreadings::{Misread, Misreading};
 use crate::oracle;
 
@@ -21,7 +23,29 @@ pub fn states(atoms: u16) -> impl Iterator<Item = Vec<bool>> {
     (0..1u32 << atoms).map(move |number| (0..atoms).map(|atom| number >> atom & 1 == 1).collect())
 }
 
-/// All four calls come to what the oracle says, for every state and every fact of a small book, and
+/// `lesson_nearest` comes to this for a candidate, in its own buffer, which is a byte longer than a record.
+fn assert_nearest_in_place(
+    what: &str,
+    book: &[u8],
+    drive: Drive,
+    candidate: &[u8],
+    expected: &ffi::Outcome,
+) {
+    let mut buffer = vec![FILLER; candidate.len() + 1];
+    let answer = ffi::nearest_in_place(book, drive, candidate, &mut buffer);
+    let right = (answer, &buffer) == (expected.0, &expected.1);
+    assert!(
+        right,
+        "{what}, {drive}, nearest to {}: engine {answer:#X}, {}, expected {:#X}, {}\n{}",
+        hex(candidate),
+        hex(&buffer),
+        expected.0,
+        hex(&expected.1),
+        hex(book)
+    );
+}
+
+/// All five calls come to what the oracle says, for every state and every fact of a small book, and
 /// in buffers with room and without. What `lesson_list` answers is returned.
 pub fn assert_as_the_oracle(what: &str, book: &Book, drive: Drive) -> u64 {
     let bytes = book.bytes();
@@ -35,6 +59,8 @@ pub fn assert_as_the_oracle(what: &str, book: &Book, drive: Drive) -> u64 {
             false => ffi::test_in_place(&bytes, drive, &record),
         };
         assert_eq!(engine, expected, "{}", told(&hex(&record)));
+        let nearest = asked.nearest(&record, &[FILLER; 2]);
+        assert_nearest_in_place(what, &bytes, drive, &record, &nearest);
     }
     let (answer, _) = asked.list(&[FILLER; ROOM]);
     let exact = 11 + (answer >> 16) as usize;
@@ -45,6 +71,10 @@ pub fn assert_as_the_oracle(what: &str, book: &Book, drive: Drive) -> u64 {
     for length in 0..3 {
         let buffer = vec![FILLER; length];
         assert_one(what, &bytes, drive, &buffer, &asked.one(&buffer));
+        for candidate in [&[0x00; 1][..], &[0x80], &[0x01], &[]] {
+            let nearest = asked.nearest(candidate, &buffer);
+            assert_nearest(what, &bytes, drive, [candidate, &buffer], &nearest);
+        }
     }
     for fact in 0..=book.atoms.into() {
         let engine = ffi::place(&bytes, drive, fact);
@@ -53,16 +83,19 @@ pub fn assert_as_the_oracle(what: &str, book: &Book, drive: Drive) -> u64 {
     answer
 }
 
-/// By all four calls, the stable states of a book of at most 8 facts are those of the one-byte
+/// By all five calls, the stable states of a book of at most 8 facts are those of the one-byte
 /// records, which rise, and g is this.
 pub fn assert_known(what: &str, book: &Book, drive: Drive, records: &[u8], g: usize) {
     let bytes = book.bytes();
     let told = |call: &str| format!("{what}, {drive}, {call}\n{}", hex(&bytes));
+    let listed: Vec<&[u8]> = records.chunks(1).collect();
     for state in states(book.atoms) {
         let record = oracle::record(&state);
         let expected = yes_or_no(records.contains(&record[0]));
         let engine = ffi::test(&bytes, drive, &record);
         assert_eq!(engine, expected, "{}", told(&hex(&record)));
+        let nearest = nearest_outcome(nearest_of(&listed, &record), 1, g, &[FILLER; 2]);
+        assert_nearest(what, &bytes, drive, [&record, &[FILLER; 2]], &nearest);
     }
     let listed: Vec<Vec<u8>> = records.iter().map(|&record| vec![record]).collect();
     let listing = oracle::listing(book.atoms, &listed);
@@ -97,7 +130,7 @@ pub fn assert_trap(book: &Book, drive: Drive, records: &[u8], branching: usize, 
     assert!(shown, "the book does not show {wrong:?} at {drive}");
 }
 
-/// All four calls are refused, and leave every byte.
+/// All five calls are refused, and leave every byte.
 pub fn assert_refused(what: &str, bytes: &[u8], drive: Drive, cause: u64) {
     let buffers: [&[u8]; 3] = [&[], &[FILLER; 1], &[FILLER; 40]];
     for buffer in buffers {
@@ -107,6 +140,9 @@ pub fn assert_refused(what: &str, bytes: &[u8], drive: Drive, cause: u64) {
         assert_eq!(one, refused, "{what}, {drive}\n{}", hex(bytes));
         let test = ffi::test(bytes, drive, buffer);
         assert_eq!(test, cause, "{what}, {drive}\n{}", hex(bytes));
+        for candidate in buffers {
+            assert_nearest(what, bytes, drive, [candidate, buffer], &refused);
+        }
     }
     for fact in [0, 5, BYTE_ATOMS.into(), MAX_ATOMS.into(), u32::MAX] {
         let place = ffi::place(bytes, drive, fact);
@@ -114,7 +150,7 @@ pub fn assert_refused(what: &str, bytes: &[u8], drive: Drive, cause: u64) {
     }
 }
 
-/// All four calls on a book of any size whose states are known, in buffers around the listing's length,
+/// All five calls on a book of any size whose states are known, in buffers around the listing's length,
 /// and with candidates that are stable and neighbours of these.
 pub fn assert_known_book(what: &str, known: &Known) {
     let (bytes, drive) = (known.book.bytes(), known.layer.into());
@@ -137,15 +173,22 @@ pub fn assert_known_book(what: &str, known: &Known) {
         let place = ffi::place(&bytes, drive, fact.into());
         assert_eq!(place, places[usize::from(fact)], "{what}, {fact}");
     }
+    let buffer = vec![FILLER; width + 1];
+    let assert_candidate = |candidate: &[u8]| {
+        let stable = records.contains(&candidate);
+        let answer = ffi::test(&bytes, drive, candidate);
+        assert_eq!(answer, yes_or_no(stable), "{what}: {}", hex(candidate));
+        let nearest = nearest_of(&records, candidate);
+        let expected = nearest_outcome(nearest, width, known.branching, &buffer);
+        assert_nearest_in_place(what, &bytes, drive, candidate, &expected);
+    };
+    assert_candidate(&vec![0; width]);
     for record in records.iter().take(8) {
-        let answer = ffi::test(&bytes, drive, record);
-        assert_eq!(answer, yes_or_no(true), "{what}: {}", hex(record));
+        assert_candidate(record);
         for bit in [0x80, 0x01] {
             let mut other = record.to_vec();
             other[0] ^= bit;
-            let stable = records.contains(&&other[..]);
-            let answer = ffi::test(&bytes, drive, &other);
-            assert_eq!(answer, yes_or_no(stable), "{what}: {}", hex(&other));
+            assert_candidate(&other);
         }
     }
 }

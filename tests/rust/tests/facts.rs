@@ -6,7 +6,9 @@ use lesson_tests::book::{
 };
 use lesson_tests::drive::at;
 use lesson_tests::every_call::{assert_known_book, assert_refused};
-use lesson_tests::expected::{counts, place_of, yes_or_no, BUFFER_TOO_SHORT, MAX_BRANCHING};
+use lesson_tests::expected::{
+    counts, differing, place_of, yes_or_no, BUFFER_TOO_SHORT, MAX_BRANCHING,
+};
 use lesson_tests::ffi;
 use lesson_tests::known;
 use lesson_tests::listed::{assert_outcome, outcome};
@@ -44,8 +46,13 @@ fn assert_only_state(what: &str, book: &Book, facts: &[u16]) {
         assert_eq!(place, place_of(0, stands.into(), 1), "{what}, {fact}");
         let mut other = state.clone();
         other[usize::from(fact)] = !stands;
-        let test = ffi::test_in_place(&bytes, drive, &oracle::record(&other));
+        let other = oracle::record(&other);
+        let test = ffi::test_in_place(&bytes, drive, &other);
         assert_eq!(test, yes_or_no(false), "{what}, {fact}");
+        let mut nearest = vec![7; record.len()];
+        let answer = ffi::nearest_in_place(&bytes, drive, &other, &mut nearest);
+        let expected = (differing(0, 1), &record);
+        assert_eq!((answer, &nearest), expected, "{what}, {fact}");
     }
     let test = ffi::test(&bytes, drive, &record);
     assert_eq!(test, yes_or_no(true), "{what}\n{}", hex(&bytes));
