@@ -5,8 +5,9 @@
 use crate::book::{width, BYTE_ATOMS, LONGEST_RECORD, MAX_ATOMS};
 use crate::drive::Drive;
 use crate::expected::{
-    branching, counts, place_of, yes_or_no, BAD_CANDIDATE, BUFFER_TOO_SHORT, MAX_BRANCHING,
-    NO_STABLE_STATE, NO_SUCH_FACT, NO_SUCH_LAYER, NO_SUCH_LAYER_OFF, TOO_MANY_BRANCHING,
+    branching, counts, differing, place_of, yes_or_no, BAD_CANDIDATE, BUFFER_TOO_SHORT,
+    MAX_BRANCHING, NO_STABLE_STATE, NO_SUCH_FACT, NO_SUCH_LAYER, NO_SUCH_LAYER_OFF,
+    TOO_MANY_BRANCHING,
 };
 use crate::reader::{self, Parts};
 use std::ops::ControlFlow;
@@ -48,6 +49,19 @@ fn within<const W: usize>(set: &Set<W>, other: &Set<W>) -> bool {
 
 fn disjoint<const W: usize>(set: &Set<W>, other: &Set<W>) -> bool {
     (0..W).all(|word| set[word] & other[word] == 0)
+}
+
+/// How many facts are in one of two sets only.
+fn distance<const W: usize>(set: &Set<W>, other: &Set<W>) -> u32 {
+    (0..W)
+        .map(|word| (set[word] ^ other[word]).count_ones())
+        .sum()
+}
+
+/// The facts of a set among `atoms`, as a number: the first of these is its highest bit.
+fn as_setting<const W: usize>(atoms: &[u16], set: &Set<W>) -> u32 {
+    let stands = |setting, &atom: &u16| setting << 1 | u32::from(contains(set, atom));
+    atoms.iter().fold(0, stands)
 }
 
 /// The first `atoms` facts.
@@ -325,10 +339,7 @@ impl<const W: usize> Search<W> {
         if branching.len() > MAX_BRANCHING {
             return Err(TOO_MANY_BRANCHING);
         }
-        let as_setting = |set: &Set<W>| {
-            let stands = |setting, &atom: &u16| setting << 1 | u32::from(contains(set, atom));
-            branching.iter().fold(0, stands)
-        };
+        let as_setting = |set: &Set<W>| as_setting(&branching, set);
         let guard = |body: &Body<W>| Guard {
             decided: as_setting(&body.plain) | as_setting(&body.negated),
             stand: as_setting(&body.plain),
@@ -523,6 +534,31 @@ impl<const W: usize> Search<W> {
         });
         place_of(self.branching.len(), standing, states)
     }
+
+    /// Every setting in turn, with the closest state so far kept. A setting is passed over where more of
+    /// the branching facts alone differ, and after a state in which none differs no other is closest.
+    fn nearest(&mut self, wanted: &Set<W>, buffer: &mut [u8]) -> Result<u64, u64> {
+        let width = width(self.atoms);
+        let place = buffer.get_mut(..width).ok_or(BUFFER_TOO_SHORT)?;
+        let near = as_setting(&self.branching, wanted);
+        let mut closest: Option<(u32, Set<W>)> = None;
+        for setting in 0..1u32 << self.branching.len() {
+            let apart = (setting ^ near).count_ones();
+            if closest.is_some_and(|(facts, _)| apart > facts) {
+                continue;
+            }
+            if let Some(state) = self.state_at(setting) {
+                let met = (distance(wanted, &state), state);
+                closest = Some(closest.map_or(met, |closest| closest.min(met)));
+                if met.0 == 0 {
+                    break;
+                }
+            }
+        }
+        let (facts, state) = closest.ok_or(NO_STABLE_STATE)?;
+        place.copy_from_slice(&record(&state)[..width]);
+        Ok(differing(self.branching.len(), facts as usize))
+    }
 }
 
 /// The rules with plain heads in an order in which they fire if all negated facts are reached and
@@ -630,6 +666,7 @@ trait Calls {
     fn list(self: Box<Self>, buffer: &mut [u8]) -> Result<u64, u64>;
     fn one(self: Box<Self>, buffer: &mut [u8]) -> Result<u64, u64>;
     fn place(self: Box<Self>, fact: u32) -> Result<u64, u64>;
+    fn nearest(self: Box<Self>, record: &[u8], buffer: &mut [u8]) -> Result<u64, u64>;
 }
 
 impl<const W: usize> Calls for Program<W> {
@@ -651,6 +688,11 @@ impl<const W: usize> Calls for Program<W> {
             return Err(NO_SUCH_FACT);
         }
         Ok(Search::new(*self)?.place(fact as u16))
+    }
+
+    fn nearest(self: Box<Self>, record: &[u8], buffer: &mut [u8]) -> Result<u64, u64> {
+        let wanted = candidate(record, self.atoms)?;
+        Search::new(*self)?.nearest(&wanted, buffer)
     }
 }
 
@@ -703,5 +745,12 @@ pub fn one(book: &[u8], drive: Drive, buffer: &mut [u8]) -> u64 {
 pub fn place(book: &[u8], drive: Drive, fact: u32) -> u64 {
     program(book, drive)
         .and_then(|program| program.place(fact))
+        .unwrap_or_else(|cause| cause)
+}
+
+/// What `lesson_nearest` answers and does.
+pub fn nearest(book: &[u8], drive: Drive, record: &[u8], buffer: &mut [u8]) -> u64 {
+    program(book, drive)
+        .and_then(|program| program.nearest(record, buffer))
         .unwrap_or_else(|cause| cause)
 }

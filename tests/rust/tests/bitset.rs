@@ -8,12 +8,13 @@ use lesson_tests::drive::Drive;
 use lesson_tests::expected::{self, counts, place_of, yes_or_no};
 use lesson_tests::ffi;
 use lesson_tests::known::{self, Known, Left, EVERY_FOLLOWING};
-use lesson_tests::listed::{one_of_known, one_outcome};
+use lesson_tests::listed::{nearest_of, nearest_outcome, one_of_known, one_outcome};
 use lesson_tests::oracle::{self, Driven};
 use lesson_tests::orders::{Order, Ordered};
 use lesson_tests::rng::{seed, Rng};
 use lesson_tests::shapes::{self, Layering};
 use lesson_tests::sweep;
+use lesson_tests::truth::Truth;
 
 const FILLER: u8 = 0xA5;
 
@@ -44,33 +45,42 @@ impl Case<'_> {
         self.assert_answers(&format!("test of {}", hex(record)), answers, expected);
     }
 
-    /// Both listings stand in front of the untouched rest, or the buffers are as they were.
-    fn list(&self, length: usize, expected: (u64, &[u8])) {
-        let mut buffers = [vec![FILLER; length], vec![FILLER; length]];
-        let [bits, engine] = &mut buffers;
-        let answers = [
-            bitset::list(self.book, self.drive, bits),
-            ffi::list_in_place(self.book, self.drive, engine),
-        ];
-        self.assert_answers("list", answers, expected.0);
-        for buffer in &buffers {
-            assert!(buffer == expected.1, "{}\n{}", self.what, hex(self.book));
+    /// Both write what is expected in front of the untouched rest, or leave every byte.
+    fn written(
+        &self,
+        call: &str,
+        expected: (u64, &[u8]),
+        bits: impl FnOnce(&mut [u8]) -> u64,
+        engine: impl FnOnce(&mut [u8]) -> u64,
+    ) {
+        let before = vec![FILLER; expected.1.len()];
+        let [mut by_bits, mut by_engine] = [before.clone(), before];
+        let answers = [bits(&mut by_bits), engine(&mut by_engine)];
+        self.assert_answers(call, answers, expected.0);
+        for buffer in [by_bits, by_engine] {
+            let right = buffer == expected.1;
+            assert!(right, "{}: {}\n{}", self.what, hex(&buffer), hex(self.book));
         }
     }
 
-    /// Each writes the first record in front of the untouched rest, or nothing.
-    fn one(&self, length: usize, expected: &ffi::Outcome) {
-        let mut buffers = [vec![FILLER; length], vec![FILLER; length]];
-        let [bits, engine] = &mut buffers;
-        let answers = [
-            bitset::one(self.book, self.drive, bits),
-            ffi::one_in_place(self.book, self.drive, engine),
-        ];
-        self.assert_answers("one", answers, expected.0);
-        for buffer in &buffers {
-            let right = *buffer == expected.1;
-            assert!(right, "{}: {}\n{}", self.what, hex(buffer), hex(self.book));
-        }
+    fn list(&self, expected: (u64, &[u8])) {
+        let bits = |buffer: &mut [u8]| bitset::list(self.book, self.drive, buffer);
+        let engine = |buffer: &mut [u8]| ffi::list_in_place(self.book, self.drive, buffer);
+        self.written("list", expected, bits, engine);
+    }
+
+    fn one(&self, (answer, after): &ffi::Outcome) {
+        let bits = |buffer: &mut [u8]| bitset::one(self.book, self.drive, buffer);
+        let engine = |buffer: &mut [u8]| ffi::one_in_place(self.book, self.drive, buffer);
+        self.written("one", (*answer, after), bits, engine);
+    }
+
+    fn nearest(&self, record: &[u8], (answer, after): &ffi::Outcome) {
+        let (book, drive) = (self.book, self.drive);
+        let bits = |buffer: &mut [u8]| bitset::nearest(book, drive, record, buffer);
+        let engine = |buffer: &mut [u8]| ffi::nearest_in_place(book, drive, record, buffer);
+        let call = format!("nearest to {}", hex(record));
+        self.written(&call, (*answer, after), bits, engine);
     }
 
     fn place(&self, fact: u32, expected: u64) {
@@ -85,24 +95,32 @@ impl Case<'_> {
 /// Compares all calls at one layer of a small book; the number of its stable states.
 fn assert_layer(case: &Case, driven: &Driven) -> usize {
     let atoms = driven.atoms();
+    let width = width(atoms);
     let g = driven.branching_count();
     let models = driven.stable_models();
     for number in 0..1u32 << atoms {
         let state: Vec<bool> = (0..atoms).map(|fact| number >> fact & 1 == 1).collect();
         let stable = models.contains(&state);
-        case.test(&oracle::record(&state), yes_or_no(stable));
+        let record = oracle::record(&state);
+        case.test(&record, yes_or_no(stable));
+        let nearest = oracle::nearest(&models, &state);
+        let nearest = nearest.map(|(facts, model)| (facts, oracle::record(model)));
+        let nearest = nearest
+            .as_ref()
+            .map(|(facts, record)| (*facts, &record[..]));
+        let buffer = vec![FILLER; width + number as usize % 2];
+        case.nearest(&record, &nearest_outcome(nearest, width, g, &buffer));
     }
     let listing = driven.listing();
     let rest = [FILLER; 5];
     let listed = [&listing[..], &rest].concat();
-    case.list(listed.len(), (counts(g, models.len()), &listed));
+    case.list((counts(g, models.len()), &listed));
     let short = vec![FILLER; listing.len() - 1];
-    case.list(short.len(), (expected::BUFFER_TOO_SHORT, &short));
-    let width = width(atoms);
+    case.list((expected::BUFFER_TOO_SHORT, &short));
     let first = models.first().map(|model| oracle::record(model));
     for length in [0, width, width + 2] {
         let buffer = vec![FILLER; length];
-        case.one(length, &one_outcome(first.as_deref(), width, g, &buffer));
+        case.one(&one_outcome(first.as_deref(), width, g, &buffer));
     }
     for fact in 0..atoms {
         let standing = models.iter().filter(|model| model[usize::from(fact)]);
@@ -187,18 +205,28 @@ fn assert_known(what: &str, known: &Known) {
     };
     let listing = known.listing();
     let width = width(known.book.atoms);
-    let records: Vec<Vec<u8>> = listing[11..].chunks(width).map(<[u8]>::to_vec).collect();
-    case.list(listing.len(), (known.answer(), &listing));
-    case.one(width, &one_of_known(known, &vec![FILLER; width]));
+    let records: Vec<&[u8]> = listing[11..].chunks(width).collect();
+    case.list((known.answer(), &listing));
+    case.one(&one_of_known(known, &vec![FILLER; width]));
     let places = known.places();
     for fact in known::some_facts(known.book.atoms) {
         case.place(fact.into(), places[usize::from(fact)]);
     }
-    for record in &records[..records.len().min(8)] {
-        case.test(record, yes_or_no(true));
-        let mut other = record.clone();
+    let mut other = vec![0; width];
+    for record in records.iter().take(8) {
+        other.copy_from_slice(record);
         other[0] ^= 0x80;
-        case.test(&other, yes_or_no(records.contains(&other)));
+        for candidate in [record, &other[..]] {
+            case.test(candidate, yes_or_no(records.contains(&candidate)));
+        }
+    }
+    // Far from the last of them too.
+    other[width - 1] ^= 0x80;
+    for candidate in [&vec![0; width], &other] {
+        let nearest = nearest_of(&records, candidate);
+        let buffer = vec![FILLER; width];
+        let expected = nearest_outcome(nearest, width, known.branching, &buffer);
+        case.nearest(candidate, &expected);
     }
 }
 
@@ -303,6 +331,8 @@ fn any_bytes_are_refused_by_both_with_the_same_cause() {
             let width = rng.range(1, 2);
             let candidate = rng.bytes(width);
             case.test(&candidate, expected::test(&bytes, case.drive, &candidate));
+            let nearest = Truth::new(&bytes, case.drive).nearest(&candidate, &[FILLER; 2]);
+            case.nearest(&candidate, &nearest);
             tally[(placed & 0xFF) as usize] += 1;
         }
     }
