@@ -1,4 +1,4 @@
-//! The fault trial's inputs: a drive of a book, and questions to all five calls, each with what must
+//! The fault trial's inputs: a drive of a book, and questions to all six calls, each with what must
 //! come of it. Seed and number give the input, so that one of them can be tried again alone.
 
 use crate::book::{hex, Book, BYTE_ATOMS, LONGEST_RECORD, MAX_ATOMS, WIDE};
@@ -15,7 +15,7 @@ use crate::shapes::{self, Layering, EVERY_SHAPE};
 use crate::truth::Truth;
 use std::fmt;
 
-pub const CALLS: [&str; 5] = ["check", "test", "list", "one", "place"];
+pub const CALLS: [&str; 6] = ["check", "test", "list", "one", "place", "nearest"];
 
 /// A call, with what it takes beside the book and the drive.
 #[derive(Clone, Debug)]
@@ -25,6 +25,7 @@ pub enum Question {
     List { buffer: Vec<u8> },
     One { buffer: Vec<u8> },
     Place { fact: u32 },
+    Nearest { candidate: Vec<u8>, buffer: Vec<u8> },
 }
 
 impl Question {
@@ -36,6 +37,25 @@ impl Question {
             Question::List { .. } => 2,
             Question::One { .. } => 3,
             Question::Place { .. } => 4,
+            Question::Nearest { .. } => 5,
+        }
+    }
+
+    /// The candidate, where the call is lent one.
+    pub fn candidate(&self) -> Option<&[u8]> {
+        match self {
+            Question::Test { candidate } | Question::Nearest { candidate, .. } => Some(candidate),
+            _ => None,
+        }
+    }
+
+    /// The buffer, where the call is lent one.
+    pub fn buffer(&self) -> Option<&[u8]> {
+        match self {
+            Question::List { buffer }
+            | Question::One { buffer }
+            | Question::Nearest { buffer, .. } => Some(buffer),
+            _ => None,
         }
     }
 }
@@ -43,14 +63,16 @@ impl Question {
 impl fmt::Display for Question {
     fn fmt(&self, f: &mut fmt::Formatter) -> fmt::Result {
         write!(f, "lesson_{}", CALLS[self.call()])?;
-        match self {
-            Question::Check => Ok(()),
-            Question::Test { candidate } => write!(f, ", candidate {}", hex(candidate)),
-            Question::List { buffer } | Question::One { buffer } => {
-                write!(f, ", buffer of {} bytes, {}", buffer.len(), hex(buffer))
-            }
-            Question::Place { fact } => write!(f, ", fact {fact}"),
+        if let Question::Place { fact } = self {
+            write!(f, ", fact {fact}")?;
         }
+        if let Some(candidate) = self.candidate() {
+            write!(f, ", candidate {}", hex(candidate))?;
+        }
+        if let Some(buffer) = self.buffer() {
+            write!(f, ", buffer of {} bytes, {}", buffer.len(), hex(buffer))?;
+        }
+        Ok(())
     }
 }
 
@@ -263,7 +285,20 @@ fn questions(rng: &mut Rng, book: &[u8], drive: Drive) -> Vec<Asked> {
     let length = 11 + records.len() * width;
     let cause = reader::first_cause(book);
     let mut questions = vec![(Question::Check, Wanted::answer(cause.into()))];
-    for candidate in candidates(rng, facts, width, &records) {
+    let [stable, state, wrong] = candidates(rng, facts, width, &records);
+    let any_room = rng.range(0, width + 9);
+    let too_few = width.saturating_sub(1);
+    for (candidate, length) in [
+        (&stable, width),
+        (&state, any_room),
+        (&state, too_few),
+        (&wrong, any_room),
+    ] {
+        let (candidate, buffer) = (candidate.clone(), rng.bytes(length));
+        let wanted = Wanted::outcome(truth.nearest(&candidate, &buffer));
+        questions.push((Question::Nearest { candidate, buffer }, wanted));
+    }
+    for candidate in [stable, state, wrong] {
         let answer = truth.test(&candidate);
         questions.push((Question::Test { candidate }, Wanted::answer(answer)));
     }
@@ -275,7 +310,7 @@ fn questions(rng: &mut Rng, book: &[u8], drive: Drive) -> Vec<Asked> {
         let wanted = Wanted::outcome(truth.list(&buffer));
         questions.push((Question::List { buffer }, wanted));
     }
-    for length in [width, width.saturating_sub(1), rng.range(0, width + 9)] {
+    for length in [width, too_few, any_room] {
         let buffer = rng.bytes(length);
         let wanted = Wanted::outcome(truth.one(&buffer));
         questions.push((Question::One { buffer }, wanted));

@@ -2,21 +2,20 @@
 
 use crate::causes::{ANSWERS, IN_ORDER};
 use crate::inputs::{Input, Question, CALLS};
+use std::fmt::Display;
 
-/// The slices of the calls, in the order of `Tally::nulls`.
-const SLICES: [&str; 8] = [
-    "check's book",
-    "test's book",
-    "list's book",
-    "one's book",
-    "place's book",
-    "test's candidate",
-    "list's buffer",
-    "one's buffer",
+/// The slices that a call may be lent.
+const SLICES: [&str; 3] = ["book", "candidate", "buffer"];
+
+/// The calls that are lent each of them, in the order of `CALLS`.
+const LENT: [[bool; CALLS.len()]; SLICES.len()] = [
+    [true; CALLS.len()],
+    [false, true, false, false, false, true],
+    [false, false, true, true, false, true],
 ];
 
 /// Answers that a call is granted with, in the order of `Tally::granted`.
-const GRANTED: [&str; 11] = [
+const GRANTED: [&str; 13] = [
     "test yes",
     "test no",
     "list none",
@@ -28,6 +27,8 @@ const GRANTED: [&str; 11] = [
     "constraints",
     "test no by a constraint alone",
     "more facts than a byte numbers",
+    "nearest is the candidate",
+    "nearest differs",
 ];
 
 #[derive(Default)]
@@ -38,12 +39,12 @@ pub struct Tally {
     pub at_once: u64,
     /// For each call and each cause, 0 for none: the questions, each counted once however often
     /// it was put.
-    answers: [[u64; ANSWERS]; 5],
-    granted: [u64; 11],
-    /// Slices lent as NULL with length 0.
-    nulls: [u64; 8],
-    /// Slices lent at each remainder of their address by 8: books, then candidates and buffers.
-    alignments: [[u64; 8]; 2],
+    answers: [[u64; ANSWERS]; CALLS.len()],
+    granted: [u64; GRANTED.len()],
+    /// For each slice and each call: lent as NULL with length 0.
+    nulls: [[u64; CALLS.len()]; SLICES.len()],
+    /// For each slice: lent at each remainder of its address by 8.
+    alignments: [[u64; 8]; SLICES.len()],
 }
 
 /// A check's name, and whether it holds.
@@ -70,26 +71,34 @@ impl Tally {
                 2 if upper == 0 => 2,
                 2 if upper > 1 => 3,
                 4 => 4 + upper as usize,
+                5 if upper == 0 => 11,
+                5 => 12,
                 _ => continue,
             };
             self.granted[kind] += 1;
         }
     }
 
-    /// Counts a book that is lent to a call.
-    pub fn count_book(&mut self, call: usize, book: Option<&[u8]>) {
-        match book {
-            Some(book) => self.alignments[0][book.as_ptr() as usize % 8] += 1,
-            None => self.nulls[call] += 1,
+    /// Counts the slices that a call is lent, in the order of `SLICES`.
+    pub fn count_lent(&mut self, call: usize, slices: [Option<&[u8]>; SLICES.len()]) {
+        for (slice, lent) in slices.into_iter().enumerate() {
+            match lent {
+                _ if !LENT[slice][call] => (),
+                Some(lent) => self.alignments[slice][lent.as_ptr() as usize % 8] += 1,
+                None => self.nulls[slice][call] += 1,
+            }
         }
     }
 
-    /// Counts a candidate or a buffer.
-    pub fn count_other(&mut self, call: usize, slice: Option<&[u8]>) {
-        match slice {
-            Some(slice) => self.alignments[1][slice.as_ptr() as usize % 8] += 1,
-            None => self.nulls[4 + call] += 1,
+    /// How often each slice was NULL, with its name.
+    fn nulls(&self) -> Vec<(String, u64)> {
+        let mut nulls = Vec::new();
+        for (slice, (name, lent)) in SLICES.iter().zip(&LENT).enumerate() {
+            for (call, _) in lent.iter().enumerate().filter(|(_, &lent)| lent) {
+                nulls.push((format!("{}'s {name}", CALLS[call]), self.nulls[slice][call]));
+            }
         }
+        nulls
     }
 
     /// How often each cause was given, 0 for none.
@@ -112,10 +121,11 @@ impl Tally {
             row(call, &mut columns().map(|cause| answers[cause]));
         }
         row("all", &mut columns().map(|cause| self.total(cause)));
-        println!("granted: {}", named(&GRANTED, &self.granted));
-        println!("NULL with length 0: {}", named(&SLICES, &self.nulls));
-        println!("books at addresses 0 to 7 mod 8: {:?}", self.alignments[0]);
-        println!("candidates and buffers: {:?}", self.alignments[1]);
+        println!("granted: {}", named(GRANTED.iter().zip(self.granted)));
+        println!("NULL with length 0: {}", named(self.nulls()));
+        for (name, alignments) in SLICES.iter().zip(&self.alignments) {
+            println!("{name} at addresses 0 to 7 mod 8: {alignments:?}");
+        }
     }
 
     /// Whether everything was tried `least` times at least.
@@ -134,10 +144,10 @@ impl Tally {
         for (name, &times) in GRANTED.iter().zip(&self.granted) {
             check((*name).into(), times);
         }
-        for (name, &times) in SLICES.iter().zip(&self.nulls) {
+        for (name, times) in self.nulls() {
             check(format!("NULL for {name}"), times);
         }
-        for (name, alignments) in ["book", "candidate or buffer"].iter().zip(&self.alignments) {
+        for (name, alignments) in SLICES.iter().zip(&self.alignments) {
             for (address, &times) in alignments.iter().enumerate() {
                 check(format!("{name} at address {address} mod 8"), times);
             }
@@ -158,8 +168,8 @@ fn column_heads() -> String {
         .collect()
 }
 
-fn named(names: &[&str], numbers: &[u64]) -> String {
-    let named = names.iter().zip(numbers);
+fn named(numbers: impl IntoIterator<Item = (impl Display, u64)>) -> String {
+    let named = numbers.into_iter();
     let named: Vec<String> = named
         .map(|(name, number)| format!("{name} {number}"))
         .collect();

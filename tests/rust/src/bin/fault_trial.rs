@@ -1,4 +1,4 @@
-//! Runs all five calls on random, damaged and hostile inputs against the oracle, with every slice
+//! Runs all six calls on random, damaged and hostile inputs against the oracle, with every slice
 //! against an unreadable page on either side, misaligned, and in a heap block of its own; and from
 //! four threads at once on shared books.
 //!
@@ -41,8 +41,8 @@ struct Worker {
     notes: Notes,
     /// 0 for the one that works alone, 1 to 4 for the threads.
     number: usize,
-    /// For the candidate or the buffer.
-    lender: Lender,
+    candidate: Lender,
+    buffer: Lender,
     calls: u64,
 }
 
@@ -77,7 +77,8 @@ impl Worker {
         Worker {
             notes,
             number,
-            lender: Lender::default(),
+            candidate: Lender::default(),
+            buffer: Lender::default(),
             calls: 0,
         }
     }
@@ -97,37 +98,34 @@ impl Worker {
         let answer = self.answer(book, input.drive, asked);
         self.note([0; 3]);
         self.calls += 1;
-        let after = match asked {
-            Question::List { .. } | Question::One { .. } => self.lender.slice(),
-            _ => None,
-        };
-        let after = after.unwrap_or_default();
+        let after = asked.buffer().and(self.buffer.slice()).unwrap_or_default();
         let as_wanted = answer == wanted.answer && wanted.buffer == after;
+        let marks_stand = self.candidate.marks_stand() && self.buffer.marks_stand();
         assert!(
-            as_wanted && self.lender.marks_stand(),
-            "{}\nengine   {answer:#X}, buffer {}, bytes around it untouched: {}",
+            as_wanted && marks_stand,
+            "{}\nengine   {answer:#X}, buffer {}, bytes around the slices untouched: {marks_stand}",
             told(seed, input, question, placement),
             hex(after),
-            self.lender.marks_stand()
         );
     }
 
     fn lay(&mut self, asked: &Question, placement: Placement) {
-        let (contents, access): (&[u8], Access) = match asked {
-            Question::Test { candidate } => (candidate, Access::Read),
-            Question::List { buffer } | Question::One { buffer } => (buffer, Access::ReadAndWrite),
-            Question::Check | Question::Place { .. } => return,
-        };
-        self.lender.lay(contents, placement, access);
+        if let Some(candidate) = asked.candidate() {
+            self.candidate.lay(candidate, placement, Access::Read);
+        }
+        if let Some(buffer) = asked.buffer() {
+            self.buffer.lay(buffer, placement, Access::ReadAndWrite);
+        }
     }
 
     fn answer(&mut self, book: Option<&[u8]>, drive: Drive, asked: &Question) -> u64 {
         let call = match asked {
             Question::Check => Call::Check,
-            Question::Test { .. } => Call::Test(self.lender.slice()),
-            Question::List { .. } => Call::List(self.lender.buffer()),
-            Question::One { .. } => Call::One(self.lender.buffer()),
+            Question::Test { .. } => Call::Test(self.candidate.slice()),
+            Question::List { .. } => Call::List(self.buffer.buffer()),
+            Question::One { .. } => Call::One(self.buffer.buffer()),
             Question::Place { fact } => Call::Place(*fact),
+            Question::Nearest { .. } => Call::Nearest(self.candidate.slice(), self.buffer.buffer()),
         };
         ffi::answer(book, drive, call)
     }
@@ -171,12 +169,9 @@ impl Trial {
                 self.worker
                     .put(self.seed, book, input, [question, placement]);
                 self.tally.alone += 1;
-                self.tally.count_book(asked.call(), book);
-                if let Question::Test { .. } | Question::List { .. } | Question::One { .. } = asked
-                {
-                    let other = self.worker.lender.slice();
-                    self.tally.count_other(asked.call(), other);
-                }
+                let worker = &self.worker;
+                let slices = [book, worker.candidate.slice(), worker.buffer.slice()];
+                self.tally.count_lent(asked.call(), slices);
             }
         }
     }
