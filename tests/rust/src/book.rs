@@ -23,6 +23,12 @@ pub const WIDE: [u16; 8] = [
     MAX_ATOMS,
 ];
 
+/// The numbers of facts at which a record changes its length or its spare bits.
+pub fn edge_sizes() -> impl Iterator<Item = u16> {
+    let few = [1, 7, 8, 9, BYTE_ATOMS - 1, BYTE_ATOMS];
+    few.into_iter().chain(WIDE)
+}
+
 /// The bytes of a record of so many facts.
 pub const fn width(atoms: u16) -> usize {
     (atoms as usize).div_ceil(8)

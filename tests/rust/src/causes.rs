@@ -2,8 +2,9 @@
 
 use crate::book::MAX_ATOMS;
 use crate::drive::{at, Drive};
+use crate::known::{self, Known};
 use crate::rng::{seed, Rng};
-use crate::shapes::{absent_layers, EVERY_SHAPE, NO_LAYERS};
+use crate::shapes::{absent_layers, broken, EVERY_SHAPE, NO_LAYERS};
 use std::fmt;
 
 /// The causes in the order in which they are tested: document 02, (h) puts 19 right after 9.
@@ -55,6 +56,46 @@ impl Causes {
             true => absent_layers(rng, layers),
             false => 0,
         })
+    }
+}
+
+/// What a call that writes one record is lent, beside a candidate.
+pub struct OneRecord {
+    /// The lawful book.
+    pub known: Known,
+    /// The bytes lent for it.
+    pub book: Vec<u8>,
+    pub drive: Drive,
+    pub buffer: Vec<u8>,
+}
+
+impl Causes {
+    /// A call for a record of three bytes, to which these causes apply, 10 aside: the book has too many
+    /// branching facts for 12 and no state for 14, and the buffer is too short for 13.
+    pub fn one_record(self, rng: &mut Rng) -> OneRecord {
+        let mut known = known::widened(
+            match self.has(12) {
+                true => known::displacing_pairs(10, 1),
+                false => known::displacing_pairs(2, 0),
+            },
+            22,
+        );
+        if self.has(14) {
+            known = known::quarrelled(known);
+        }
+        let book = broken(rng, &known.book, self.of_the_book());
+        let drive = self.drive(rng, known.book.layers, known.layer);
+        let length = match self.has(13) {
+            true => rng.below(3),
+            false => rng.range(3, 9),
+        };
+        let buffer = rng.bytes(length);
+        OneRecord {
+            known,
+            book,
+            drive,
+            buffer,
+        }
     }
 }
 

@@ -202,6 +202,41 @@ pub fn free(choices: u16, first: u16, atoms: u16) -> Known {
     }
 }
 
+/// Facts that may stand or not, behind their helpers; in front of these facts that say by which number each
+/// setting is listed, and behind each other's opposites; and a last fact that stands at some settings.
+/// Where the helpers stand alone in a candidate, as many facts differ from every state, and at those
+/// settings one more.
+pub fn tied(listed_as: &[usize], farther: &[usize]) -> Known {
+    let choices = listed_as.len().ilog2() as u16;
+    let (choice, opposite) = (2 * choices, 3 * choices);
+    let more = 4 * choices;
+    let known = free(choices, choices, more + 1);
+    let (mut book, mut states) = (known.book, Vec::new());
+    for (number, &listed) in listed_as.iter().enumerate() {
+        let body: Vec<Literal> = (0..choices)
+            .map(|at| Literal {
+                atom: choice + at,
+                negated: !bit(number, at.into()),
+            })
+            .collect();
+        let says = (0..choices).map(|at| match bit(listed, (choices - 1 - at).into()) {
+            true => at,
+            false => opposite + at,
+        });
+        let mut state = (known.state)(number);
+        for atom in says.chain(farther.contains(&number).then_some(more)) {
+            book = book.rule(1, plain(atom), &body);
+            state[usize::from(atom)] = true;
+        }
+        states.push(state);
+    }
+    Known {
+        book,
+        state: Box::new(move |number| states[number].clone()),
+        ..known
+    }
+}
+
 /// How the first facts follow the free ones, and so how the records' order lies to an order in
 /// which a search may set these.
 #[derive(Clone, Copy, Debug)]
@@ -455,15 +490,21 @@ pub fn junction(rng: &mut Rng, choices: u16, atoms: u16) -> Known {
 
 /// The same book with one fact more, which has no rule and stands in no state.
 pub fn spared(known: Known) -> Known {
+    let atoms = known.book.atoms + 1;
+    widened(known, atoms)
+}
+
+/// The same book with so many facts: those behind its own have no rule and stand in no state.
+pub fn widened(known: Known, atoms: u16) -> Known {
     let Known {
         mut book, state, ..
     } = known;
-    book.atoms += 1;
+    book.atoms = atoms;
     Known {
         book,
         state: Box::new(move |number| {
             let mut state = state(number);
-            state.push(false);
+            state.resize(atoms.into(), false);
             state
         }),
         ..known
@@ -1129,6 +1170,20 @@ pub fn behind(known: Known, front: Front, count: u16) -> Known {
     renumbered(behind, (count..end).chain(0..count).collect())
 }
 
+/// Small books of several kinds, with words for messages: with several states, one and none.
+pub fn several() -> Vec<(&'static str, Known)> {
+    vec![
+        ("pairs", pairs(3, 1)),
+        ("displacing pairs", displacing_pairs(3, 1)),
+        ("free", free(4, 0, 9)),
+        ("chosen", chosen(2, 6)),
+        ("counted", counted(5, 9)),
+        ("single, standing", single(5, true)),
+        ("single, not standing", single(5, false)),
+        ("a quarrel", quarrelled(pairs(3, 0))),
+    ]
+}
+
 /// The same book with constraints in its driven layer: of its states those are left in which no body
 /// of them holds.
 pub fn constrained(known: Known, bodies: &[Vec<Literal>]) -> Known {
@@ -1330,6 +1385,8 @@ pub(crate) mod tests {
         }
         assert_known("front and end", &front_and_end(4, 12));
         assert_known("spared", &spared(pairs(3, 1)));
+        assert_known("tied", &tied(&[2, 0, 3, 1], &[1, 2]));
+        assert_known("tied", &tied(&[3, 0, 5, 7, 2, 6, 1, 4], &[]));
         for choices in 0..5 {
             assert_known("chosen", &chosen(choices, 6));
         }

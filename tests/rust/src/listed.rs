@@ -6,6 +6,7 @@ use crate::drive::Drive;
 use crate::expected::{branching, differing, BUFFER_TOO_SHORT, NO_STABLE_STATE};
 use crate::ffi;
 use crate::known::Known;
+use crate::oracle;
 
 /// The outcome on `buffer` of a call that would write `listing` and give `answer`.
 pub fn outcome(listing: &[u8], answer: u64, buffer: &[u8]) -> ffi::Outcome {
@@ -42,13 +43,26 @@ pub fn one_outcome(first: Option<&[u8]>, width: usize, g: usize, buffer: &[u8]) 
 
 /// The same for the state closest to a candidate: in how many facts it differs, and its record.
 pub fn nearest_outcome(
-    nearest: Option<(usize, &[u8])>,
+    nearest: Option<(usize, impl AsRef<[u8]>)>,
     width: usize,
     g: usize,
     buffer: &[u8],
 ) -> ffi::Outcome {
-    let written = nearest.map(|(facts, record)| (differing(g, facts), record));
+    let written = nearest.as_ref();
+    let written = written.map(|(facts, record)| (differing(g, *facts), record.as_ref()));
     record_outcome(written, width, buffer)
+}
+
+/// The same by the oracle: of stable models in the order of the listing.
+pub fn nearest_of_models(
+    models: &[Vec<bool>],
+    candidate: &[bool],
+    g: usize,
+    buffer: &[u8],
+) -> ffi::Outcome {
+    let nearest = oracle::nearest(models, candidate);
+    let nearest = nearest.map(|(facts, model)| (facts, oracle::record(model)));
+    nearest_outcome(nearest, candidate.len().div_ceil(8), g, buffer)
 }
 
 /// Of records in the order of the listing the one in which the fewest facts differ from a candidate,
@@ -70,15 +84,37 @@ pub fn one_of_known(known: &Known, buffer: &[u8]) -> ffi::Outcome {
     one_outcome(known.first().as_deref(), width, known.branching, buffer)
 }
 
-/// The first record that `lesson_list` writes, with so many bytes of room. The book is lawful, and has a
-/// state.
-pub fn first_listed(book: &[u8], drive: Drive, room: usize) -> Vec<u8> {
+/// The bytes of a record, and the records that `lesson_list` writes, with so many bytes of room. The book
+/// is lawful, and has a state.
+fn records_listed(book: &[u8], drive: Drive, room: usize) -> (usize, Vec<u8>) {
     let mut buffer = vec![0; room];
     let answer = ffi::list_in_place(book, drive, &mut buffer);
     let told = || format!("{drive}, list: {answer:#X}\n{}", hex(book));
     assert!(answer & 0xFF == 0 && answer >> 16 != 0, "{}", told());
-    let (facts, _) = fields(book);
-    buffer[11..11 + facts.div_ceil(8)].to_vec()
+    let width = fields(book).0.div_ceil(8);
+    let records = &buffer[11..][..(answer >> 16) as usize * width];
+    (width, records.to_vec())
+}
+
+/// The first record that `lesson_list` writes.
+pub fn first_listed(book: &[u8], drive: Drive, room: usize) -> Vec<u8> {
+    let (width, mut records) = records_listed(book, drive, room);
+    records.truncate(width);
+    records
+}
+
+/// Of the records that `lesson_list` writes the closest to a candidate, among equals the first, and in
+/// how many facts it differs.
+pub fn nearest_listed(
+    book: &[u8],
+    drive: Drive,
+    room: usize,
+    candidate: &[u8],
+) -> (usize, Vec<u8>) {
+    let (width, records) = records_listed(book, drive, room);
+    let records: Vec<&[u8]> = records.chunks(width).collect();
+    let (facts, record) = nearest_of(&records, candidate).expect("a record");
+    (facts, record.to_vec())
 }
 
 /// The engine's outcome of `lesson_list` on fenced copies is the one expected.

@@ -1,7 +1,7 @@
 //! Books of every shape, lawful and not. The same generator state gives the same book.
 
 use crate::book::{
-    framed, not, plain, set_length, Arrow, Book, Draft, Literal, Rule, Section, BYTE_ATOMS,
+    framed, not, plain, set_length, width, Arrow, Book, Draft, Literal, Rule, Section, BYTE_ATOMS,
     FALSITY, MAX_ATOMS, WIDE,
 };
 use crate::drive::{all_layers, at, Drive};
@@ -532,7 +532,8 @@ fn circle(book: Book, layer: u8, f: u16, h: u16) -> Book {
         .rule(layer, plain(h), &[plain(f)])
 }
 
-fn choice(book: Book, layer: u8, f: u16, h: u16) -> Book {
+/// "f if not h" and "h if not f" in a layer.
+pub fn choice(book: Book, layer: u8, f: u16, h: u16) -> Book {
     book.rule(layer, plain(f), &[not(h)])
         .rule(layer, plain(h), &[not(f)])
 }
@@ -1028,6 +1029,60 @@ fn any_layer(rng: &mut Rng, book: &[u8]) -> u32 {
         2 => rng.pick(&NO_LAYERS),
         _ => rng.below(layers.max(1)) as u32,
     }
+}
+
+/// The same book with two facts more that follow others, and then all under random numbers: facts that
+/// do not branch come before branching ones more often so.
+pub fn with_followers(rng: &mut Rng, mut book: Book) -> Book {
+    for _ in 0..2 {
+        let follower = book.atoms;
+        book.atoms += 1;
+        for _ in 0..rng.range(1, 2) {
+            let followed = Literal {
+                atom: rng.below(follower.into()) as u16,
+                negated: rng.chance(60),
+            };
+            let layer = rng.below(book.layers.into()) as u8;
+            book = book.rule(layer, plain(follower), &[followed]);
+        }
+    }
+    let mut numbers: Vec<u16> = (0..book.atoms).collect();
+    rng.shuffle(&mut numbers);
+    book.renumbered(&numbers)
+}
+
+/// Every order of so many things.
+pub fn permutations(number: u16) -> Vec<Vec<u16>> {
+    let Some(last) = number.checked_sub(1) else {
+        return vec![Vec::new()];
+    };
+    let with_last = |shorter: Vec<u16>| {
+        (0..number).map(move |place| {
+            let mut longer = shorter.clone();
+            longer.insert(place.into(), last);
+            longer
+        })
+    };
+    permutations(last).into_iter().flat_map(with_last).collect()
+}
+
+/// Candidates for a book of so many facts that are no record of it: of other lengths, and with a spare
+/// bit set, alone and beside all facts.
+pub fn wrong_candidates(atoms: u16) -> Vec<Vec<u8>> {
+    let right = width(atoms);
+    let longer = [right + 1, 2 * right, 256 + right, 65_536 + right];
+    let lengths = (0..right).chain(longer);
+    let mut wrong: Vec<Vec<u8>> = lengths.map(|length| vec![0; length]).collect();
+    let spare = 8 * right - usize::from(atoms);
+    for bit in 0..spare {
+        for others in [0x00, 0xFF] {
+            let mut candidate = vec![others; right];
+            candidate[right - 1] &= 0xFF << spare;
+            candidate[right - 1] |= 1 << bit;
+            wrong.push(candidate);
+        }
+    }
+    wrong
 }
 
 /// A candidate for a book of so many facts: a fitting one half of the time.

@@ -8,7 +8,9 @@ use lesson_tests::drive::Drive;
 use lesson_tests::expected::{self, counts, place_of, yes_or_no};
 use lesson_tests::ffi;
 use lesson_tests::known::{self, Known, Left, EVERY_FOLLOWING};
-use lesson_tests::listed::{nearest_of, nearest_outcome, one_of_known, one_outcome};
+use lesson_tests::listed::{
+    nearest_of, nearest_of_models, nearest_outcome, one_of_known, one_outcome,
+};
 use lesson_tests::oracle::{self, Driven};
 use lesson_tests::orders::{Order, Ordered};
 use lesson_tests::rng::{seed, Rng};
@@ -103,13 +105,8 @@ fn assert_layer(case: &Case, driven: &Driven) -> usize {
         let stable = models.contains(&state);
         let record = oracle::record(&state);
         case.test(&record, yes_or_no(stable));
-        let nearest = oracle::nearest(&models, &state);
-        let nearest = nearest.map(|(facts, model)| (facts, oracle::record(model)));
-        let nearest = nearest
-            .as_ref()
-            .map(|(facts, record)| (*facts, &record[..]));
         let buffer = vec![FILLER; width + number as usize % 2];
-        case.nearest(&record, &nearest_outcome(nearest, width, g, &buffer));
+        case.nearest(&record, &nearest_of_models(&models, &state, g, &buffer));
     }
     let listing = driven.listing();
     let rest = [FILLER; 5];

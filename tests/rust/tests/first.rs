@@ -9,7 +9,7 @@ use lesson_tests::listed::{assert_one, first_listed, one_of_known, one_outcome};
 use lesson_tests::oracle::{self, Driven};
 use lesson_tests::orders::{Order, Ordered};
 use lesson_tests::rng::{seed, Rng};
-use lesson_tests::shapes::{self, Layering};
+use lesson_tests::shapes::{self, choice, Layering};
 use lesson_tests::sweep::{self, two_sets};
 
 const FILLER: u8 = 0xA5;
@@ -156,30 +156,24 @@ fn assert_known(what: &str, known: &Known) {
     }
 }
 
-/// "p if not q" and "q if not p" in one layer.
-fn choice(book: Book, p: u16, q: u16) -> Book {
-    book.rule(0, plain(p), &[not(q)])
-        .rule(0, plain(q), &[not(p)])
-}
-
 #[test]
 fn trap_the_first_met_is_not_handed_out() {
     // A search that sets p as not standing first comes to q and to the fact in front that follows it.
-    let book = choice(Book::new(3, 1), 1, 2).rule(0, plain(0), &[plain(2)]);
+    let book = choice(Book::new(3, 1), 0, 1, 2).rule(0, plain(0), &[plain(2)]);
     assert_trap(&book, at(0), &[0x40], &[LEAST_BY_BRANCHING]);
     // One that sets p as standing first comes to p and to the fact that follows it.
-    let book = choice(Book::new(3, 1), 1, 2).rule(0, plain(0), &[plain(1)]);
+    let book = choice(Book::new(3, 1), 0, 1, 2).rule(0, plain(0), &[plain(1)]);
     assert_trap(&book, at(0), &[0x20], &[FIRST_MET_STANDING]);
     // The fact in front stands where p does not.
-    let book = choice(Book::new(3, 1), 1, 2).rule(0, plain(0), &[not(1)]);
+    let book = choice(Book::new(3, 1), 0, 1, 2).rule(0, plain(0), &[not(1)]);
     assert_trap(&book, at(0), &[0x40], &[LEAST_BY_BRANCHING]);
 }
 
 #[test]
 fn trap_the_last_of_the_listing_is_not_handed_out() {
-    let book = choice(Book::new(2, 1), 0, 1);
+    let book = choice(Book::new(2, 1), 0, 0, 1);
     assert_trap(&book, at(0), &[0x40], &[Wrong::LastListed]);
-    let book = choice(choice(Book::new(4, 1), 0, 1), 2, 3);
+    let book = choice(choice(Book::new(4, 1), 0, 0, 1), 0, 2, 3);
     assert_trap(&book, at(0), &[0x50], &[Wrong::LastListed]);
 }
 
@@ -188,14 +182,14 @@ fn trap_the_last_of_the_listing_is_not_handed_out() {
 #[test]
 fn trap_the_least_by_branching_facts_only_is_not_handed_out() {
     let wrong = [LEAST_BY_BRANCHING];
-    let front = choice(Book::new(3, 1), 1, 2).rule(0, plain(0), &[not(1)]);
+    let front = choice(Book::new(3, 1), 0, 1, 2).rule(0, plain(0), &[not(1)]);
     assert_trap(&front, at(0), &[0b0100_0000], &wrong);
     let between = Book::new(6, 1)
         .rule(0, plain(0), &[not(5)])
         .rule(0, plain(1), &[not(2)]);
-    let between = choice(choice(between, 0, 5), 2, 3);
+    let between = choice(choice(between, 0, 0, 5), 0, 2, 3);
     assert_trap(&between, at(0), &[0b0010_0100], &wrong);
-    let given = choice(Book::new(5, 1), 3, 4)
+    let given = choice(Book::new(5, 1), 0, 3, 4)
         .rule(0, plain(0), &[])
         .rule(0, plain(2), &[not(3), plain(0)])
         .rule(0, plain(1), &[not(1), plain(1)]);
@@ -206,12 +200,12 @@ fn trap_the_least_by_branching_facts_only_is_not_handed_out() {
 #[test]
 fn trap_no_other_order_of_states_counts() {
     // p alone, or q and r: the fewest stand in the last state.
-    let book = choice(Book::new(3, 1), 0, 1).rule(0, plain(2), &[plain(1)]);
+    let book = choice(Book::new(3, 1), 0, 0, 1).rule(0, plain(2), &[plain(1)]);
     assert_trap(&book, at(0), &[0x60], &[Wrong::FewestStanding]);
-    let book = choice(Book::new(2, 1), 0, 1);
+    let book = choice(Book::new(2, 1), 0, 0, 1);
     assert_trap(&book, at(0), &[0x40], &[Wrong::LastFactFirst]);
     // The fact behind that does not branch does not count before those in front.
-    let book = choice(Book::new(3, 1), 0, 1).rule(0, plain(2), &[plain(1)]);
+    let book = choice(Book::new(3, 1), 0, 0, 1).rule(0, plain(2), &[plain(1)]);
     assert_trap(&book, at(0), &[0x60], &[Wrong::OthersBefore]);
 }
 
@@ -281,28 +275,13 @@ fn followers_behind_the_branching_facts_do_not_matter() {
     }
 }
 
-/// Every order of so many things.
-fn permutations(number: u16) -> Vec<Vec<u16>> {
-    let Some(last) = number.checked_sub(1) else {
-        return vec![Vec::new()];
-    };
-    let with_last = |shorter: Vec<u16>| {
-        (0..number).map(move |place| {
-            let mut longer = shorter.clone();
-            longer.insert(place.into(), last);
-            longer
-        })
-    };
-    permutations(last).into_iter().flat_map(with_last).collect()
-}
-
 /// Two choices, their helpers and two followers under every numbering, each follower with either choice
 /// and either sign.
 #[test]
 fn every_numbering_of_two_choices_their_helpers_and_followers() {
     let mut shown: Shown = [0; EVERY_WRONG.len()];
     let literals = [plain(4), not(4), plain(5), not(5)];
-    let numberings = permutations(6);
+    let numberings = shapes::permutations(6);
     let mut books = 0;
     for one in literals {
         for other in literals {
@@ -329,32 +308,12 @@ fn every_numbering_of_two_choices_their_helpers_and_followers() {
     assert!(shown.iter().all(|&times| times > 1_000), "{shown:?}");
 }
 
-/// The same book with two facts more that follow others, and then all under random numbers: facts that
-/// do not branch come before branching ones more often so.
-fn with_followers(rng: &mut Rng, mut book: Book) -> Book {
-    for _ in 0..2 {
-        let follower = book.atoms;
-        book.atoms += 1;
-        for _ in 0..rng.range(1, 2) {
-            let followed = Literal {
-                atom: rng.below(follower.into()) as u16,
-                negated: rng.chance(60),
-            };
-            let layer = rng.below(book.layers.into()) as u8;
-            book = book.rule(layer, plain(follower), &[followed]);
-        }
-    }
-    let mut numbers: Vec<u16> = (0..book.atoms).collect();
-    rng.shuffle(&mut numbers);
-    book.renumbered(&numbers)
-}
-
 /// Random books with layers off: at every layer, the oracle's first state.
 fn sweep(shape: &str, number: usize, least: usize, generate: impl Fn(&mut Rng) -> Book) {
     let mut shown: Shown = [0; EVERY_WRONG.len()];
     let generate = |rng: &mut Rng| {
         let book = generate(rng);
-        with_followers(rng, book)
+        shapes::with_followers(rng, book)
     };
     let mut states = [0; 3];
     let tried = sweep::drives(shape, number, generate, two_sets, |what, book, drive| {
@@ -404,20 +363,6 @@ fn random_books_with_leaning_rules_with_layers_off() {
     });
 }
 
-/// Books on which the facts in front are tried.
-fn bases() -> Vec<(&'static str, Known)> {
-    vec![
-        ("pairs", known::pairs(3, 1)),
-        ("displacing pairs", known::displacing_pairs(3, 1)),
-        ("free", known::free(4, 0, 9)),
-        ("chosen", known::chosen(2, 6)),
-        ("counted", known::counted(5, 9)),
-        ("single, standing", known::single(5, true)),
-        ("single, not standing", known::single(5, false)),
-        ("a quarrel", known::quarrelled(known::pairs(3, 0))),
-    ]
-}
-
 /// In front of a book's facts, between them and behind them: so many that never stand, that stand for
 /// sure, that stand in every state but by the branching facts, and that follow these.
 #[test]
@@ -426,7 +371,7 @@ fn facts_of_every_kind_before_between_and_behind_the_branching_ones() {
     let mut rng = Rng::named(seed, "first, front");
     for front in Front::ALL {
         for count in [1, 2, 7, 8, 20, 57, 240] {
-            for (name, base) in bases() {
+            for (name, base) in known::several() {
                 let (known, what) = (
                     known::behind(base, front, count),
                     format!("seed {seed}, {name}, {count} facts: {front:?}"),
@@ -449,7 +394,7 @@ fn facts_of_every_kind_before_between_and_behind_the_branching_ones() {
 fn facts_of_two_kinds_before_the_branching_ones() {
     for first in Front::ALL {
         for second in Front::ALL {
-            for (name, base) in bases() {
+            for (name, base) in known::several() {
                 let known = known::behind(known::behind(base, second, 3), first, 3);
                 assert_known(&format!("{name}, {first:?} before {second:?}"), &known);
             }
@@ -461,7 +406,7 @@ fn facts_of_two_kinds_before_the_branching_ones() {
 /// may what it rests on. Fact 1 is its support where there is one, and 2 is p of the choice.
 #[test]
 fn trap_a_fact_that_seems_sure_may_not_stand() {
-    let chain = |atoms| choice(Book::new(atoms, 2).arrow(0, 1), 2, 3);
+    let chain = |atoms| choice(Book::new(atoms, 2).arrow(0, 1), 0, 2, 3);
     let displaced = chain(4).rule(0, plain(0), &[]).rule(1, not(0), &[plain(2)]);
     assert_trap(&displaced, at(1), &[0b0010_0000], &[LEAST_BY_BRANCHING]);
     let support = chain(4)
@@ -490,7 +435,7 @@ fn trap_a_fact_that_seems_sure_may_not_stand() {
 /// Facts that stand by a layer's rules, where that layer is off, is not below the driven one, or is.
 #[test]
 fn a_fact_is_sure_by_the_relevant_rules_alone() {
-    let book = choice(Book::new(4, 4).arrow(0, 1).arrow(0, 2), 2, 3)
+    let book = choice(Book::new(4, 4).arrow(0, 1).arrow(0, 2), 0, 2, 3)
         .rule(1, plain(0), &[])
         .rule(2, not(0), &[plain(2)])
         .rule(0, plain(1), &[not(2)]);
@@ -557,7 +502,7 @@ fn records_that_agree_up_to_the_last_facts() {
                     first[usize::from(atom)] = true;
                 }
             }
-            let pair = choice(book.clone(), p, q);
+            let pair = choice(book.clone(), 0, p, q);
             first[usize::from(q)] = true;
             let what = format!("seed {seed}, {atoms} facts");
             assert_record(&what, &pair, &first, 2);

@@ -301,32 +301,13 @@ fn of_several_causes_the_first_tested_is_given() {
     let seed = seed();
     let mut rng = Rng::named(seed, "one, first cause");
     for causes in every_set(&[1, 2, 3, 4, 5, 6, 7, 8, 9, 19, 12, 13, 14]) {
-        let mut known = match causes.has(12) {
-            true => known::displacing_pairs(10, 1),
-            false => known::displacing_pairs(2, 0),
-        };
-        known.book.atoms = 22;
-        if causes.has(14) {
-            known = known::quarrelled(known);
-        }
-        let bytes = shapes::broken(&mut rng, &known.book, causes.of_the_book());
-        let drive = causes.drive(&mut rng, known.book.layers, known.layer);
-        let length = match causes.has(13) {
-            true => rng.below(3),
-            false => rng.range(3, 9),
-        };
-        let buffer = rng.bytes(length);
+        let call = causes.one_record(&mut rng);
         let what = format!("seed {seed}, {causes}");
-        match causes.first() {
-            Some(cause) => assert_refused(&what, &bytes, drive, &buffer, cause),
-            None => {
-                // The facts that were added do not stand.
-                let mut first = known.first().expect("there are states");
-                first.resize(3, 0);
-                let expected = one_outcome(Some(&first), 3, 4, &buffer);
-                assert_outcome(&what, &bytes, drive, &buffer, &expected);
-            }
-        }
+        let expected = match causes.first() {
+            Some(cause) => (cause, call.buffer.clone()),
+            None => one_of_known(&call.known, &call.buffer),
+        };
+        assert_outcome(&what, &call.book, call.drive, &call.buffer, &expected);
     }
 }
 

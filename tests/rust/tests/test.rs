@@ -1,7 +1,7 @@
 //! `lesson_test` of the compiled archive against the oracle and against document 01's numbers.
 
 use lesson_tests::book::{
-    hex, not, plain, width, Book, Literal, BYTE_ATOMS, LONGEST_RECORD, MAX_ATOMS, WIDE,
+    edge_sizes, hex, not, plain, width, Book, Literal, BYTE_ATOMS, LONGEST_RECORD, MAX_ATOMS,
 };
 use lesson_tests::causes::{every_set, fields, AnyBytes};
 use lesson_tests::drive::{at, Drive};
@@ -313,15 +313,9 @@ fn starred_examples_have_the_states_of_documents_01_and_02_and_no_others() {
     }
 }
 
-/// The numbers of facts at which a record changes its length or its spare bits.
-fn edges() -> impl Iterator<Item = u16> {
-    let few = [1, 7, 8, 9, BYTE_ATOMS - 1, BYTE_ATOMS];
-    few.into_iter().chain(WIDE)
-}
-
 #[test]
 fn candidates_of_another_length_are_refused_10() {
-    for atoms in edges() {
+    for atoms in edge_sizes() {
         let bytes = Book::new(atoms, 1).bytes();
         let right = width(atoms);
         let longer = [2 * right, LONGEST_RECORD, LONGEST_RECORD + 1, 1_000];
@@ -347,7 +341,7 @@ fn candidate_of_more_than_4_gib_is_refused_10() {
 
 #[test]
 fn candidates_with_a_spare_bit_set_are_refused_10_and_no_others() {
-    for atoms in edges() {
+    for atoms in edge_sizes() {
         let bytes = Book::new(atoms, 1).bytes();
         let right = width(atoms);
         for bit in 0..8 * right {
@@ -371,7 +365,7 @@ fn candidates_with_a_spare_bit_set_are_refused_10_and_no_others() {
 
 #[test]
 fn each_fact_of_a_candidate_counts() {
-    for atoms in edges() {
+    for atoms in edge_sizes() {
         let none = Book::new(atoms, 1);
         let mut all = none.clone();
         for atom in 0..atoms {
