@@ -2,7 +2,6 @@
  * the largest listing, which is written in full. */
 #include "host.h"
 
-#define NOISE 0xA5
 #define LAYERS 2
 #define BRANCHING 20 /* choices, and so LESSON_MOST_STATES states */
 /* Rules of each choice, and the bytes of their records. */
@@ -89,7 +88,7 @@ static void expect_listing(const char *what, size_t choices, size_t bytes)
     listing[bytes] = NOISE;
     expect_answer(what, list(bytes - 1), LESSON_BUFFER_TOO_SHORT);
     expect_true("  in a byte less, and the buffer is as it was", number(0, 1) == NOISE);
-    expect_answer(what, list(bytes + 1), (uint64_t)choices << 8 | (uint64_t)states << 16);
+    expect_answer(what, list(bytes + 1), counts(choices, states));
     expect_true("  and its head", number(0, 1) == 1 && number(1, 4) == bytes &&
                                       number(5, 2) == LESSON_MOST_FACTS && number(7, 4) == states);
     expect_true("  and the byte past it", listing[bytes] == NOISE);

@@ -1,5 +1,6 @@
 /* What the C test hosts share: document 01's book B, the smallest book, one with a constraint, one with
- * as many facts as there can be, and a count of checks. */
+ * as many facts as there can be, one whose first state is met last, one without a state, and a count of
+ * checks. */
 #ifndef HOST_H
 #define HOST_H
 
@@ -32,6 +33,25 @@ static const uint8_t never_p[38] = {
     5, 0, 0x7F, 0xFF, 0, 0   /* at 32: 32,767 if p */
 };
 
+/* "p if not q" and "q if not p", and in front of them a fact that follows q. A search that first
+ * takes p as not standing comes to q and the fact in front, whose record is the last. */
+static const uint8_t follower[38] = {
+    1, 0, 0, 0, 38, 0, 3, 1, /* head: 3 facts, 1 layer */
+    0, 0, 0, 0, 0, 0,        /* at 8: no arrows */
+    0, 0, 0, 18, 0, 3,       /* at 14: rule section */
+    5, 0, 0, 1, 0x80, 2,     /* at 20: p if not q */
+    5, 0, 0, 2, 0x80, 1,     /* at 26: q if not p */
+    5, 0, 0, 0, 0, 2         /* at 32: the fact in front if q */
+};
+
+/* "p if not p": no stable state. */
+static const uint8_t without[26] = {
+    0x01, 0x00, 0x00, 0x00, 0x1A, 0x00, 0x01, 0x01, /* head: 1 fact, 1 layer */
+    0x00, 0x00, 0x00, 0x00, 0x00, 0x00,             /* no arrows */
+    0x00, 0x00, 0x00, 0x06, 0x00, 0x01,             /* at 14: rule section */
+    0x05, 0x00, 0x00, 0x00, 0x80, 0x00              /* at 20 */
+};
+
 /* The last fact, and one that agrees with it in its low byte. */
 #define LAST_FACT (LESSON_MOST_FACTS - 1)
 #define FACT_LIKE_IT (LAST_FACT - 256)
@@ -60,6 +80,25 @@ static inline bool is_state_of(const uint8_t *record, size_t fact)
     for (at = 0; at < LESSON_LONGEST_RECORD; at++)
         as_expected = as_expected && record[at] == (at == fact / 8 ? 0x80 >> fact % 8 : 0);
     return as_expected;
+}
+
+/* What a buffer has before a call. */
+#define NOISE 0xA5
+
+/* Whether so many bytes are as they were. */
+static inline bool is_noise(const uint8_t *bytes, size_t count)
+{
+    bool untouched = true;
+
+    while (count-- > 0)
+        untouched = untouched && bytes[count] == NOISE;
+    return untouched;
+}
+
+/* An answer with g, and a number from bit 16 on. */
+static inline uint64_t counts(uint64_t branching, uint64_t number)
+{
+    return branching << 8 | number << 16;
 }
 
 static unsigned passed, failed;

@@ -3,8 +3,6 @@
  * leaves, and NULL. */
 #include "host.h"
 
-#define NOISE 0xA5
-
 static uint8_t buffer[64];
 
 /* p and not p in layer 0, and above it, in layer 1, "p if p": it displaces neither. */
@@ -34,17 +32,8 @@ static void expect(const char *what, const uint8_t *book, size_t length, uint32_
 /* The buffer is these bytes and then noise to its end. */
 static void expect_buffer(const char *what, const char *bytes, size_t count)
 {
-    bool as_expected = memcmp(buffer, bytes, count) == 0;
-    size_t at;
-
-    for (at = count; at < sizeof buffer; at++)
-        as_expected = as_expected && buffer[at] == NOISE;
-    expect_true(what, as_expected);
-}
-
-static uint64_t counts(uint64_t branching, uint64_t states)
-{
-    return branching << 8 | states << 16;
+    expect_true(what, memcmp(buffer, bytes, count) == 0 &&
+                          is_noise(buffer + count, sizeof buffer - count));
 }
 
 static void expect_refused(const char *what, const uint8_t *book, size_t length, uint32_t layer,

@@ -2,16 +2,6 @@
  * first of several as lesson_list has them, what a refusal leaves, and NULL. */
 #include "host.h"
 
-#define NOISE 0xA5
-
-/* "p if not p": no stable state. */
-static const uint8_t without[26] = {
-    0x01, 0x00, 0x00, 0x00, 0x1A, 0x00, 0x01, 0x01, /* head: 1 fact, 1 layer */
-    0x00, 0x00, 0x00, 0x00, 0x00, 0x00,             /* no arrows */
-    0x00, 0x00, 0x00, 0x06, 0x00, 0x01,             /* at 14: rule section */
-    0x05, 0x00, 0x00, 0x00, 0x80, 0x00              /* at 20 */
-};
-
 /* A constraint with an empty body: no stable state either. */
 static const uint8_t never[24] = {
     0x01, 0x00, 0x00, 0x00, 0x18, 0x00, 0x01, 0x01, /* head: 1 fact, 1 layer */
@@ -20,32 +10,16 @@ static const uint8_t never[24] = {
     0x03, 0x00, 0x7F, 0xFF                          /* at 20 */
 };
 
-/* "p if not q" and "q if not p", and in front of them a fact that follows q. A search that first
- * takes p as not standing comes to q and the fact in front, whose record is the last. */
-static const uint8_t follower[38] = {
-    1, 0, 0, 0, 38, 0, 3, 1, /* head: 3 facts, 1 layer */
-    0, 0, 0, 0, 0, 0,        /* at 8: no arrows */
-    0, 0, 0, 18, 0, 3,       /* at 14: rule section */
-    5, 0, 0, 1, 0x80, 2,     /* at 20: p if not q */
-    5, 0, 0, 2, 0x80, 1,     /* at 26: q if not p */
-    5, 0, 0, 0, 0, 2         /* at 32: the fact in front if q */
-};
-
 static uint8_t buffer[8];
 
 /* Asks for a state in the first bytes of the buffer, all of it noise before. */
 static void expect(const char *what, const uint8_t *book, size_t length, uint32_t layer,
                    uint32_t off, size_t buffer_length, uint64_t expected, uint8_t first_byte)
 {
-    bool as_expected;
-    size_t at;
-
     memset(buffer, NOISE, sizeof buffer);
     expect_answer(what, lesson_one(book, length, layer, off, buffer, buffer_length), expected);
-    as_expected = buffer[0] == first_byte;
-    for (at = 1; at < sizeof buffer; at++)
-        as_expected = as_expected && buffer[at] == NOISE;
-    expect_true("  and the buffer", as_expected);
+    expect_true("  and the buffer",
+                buffer[0] == first_byte && is_noise(buffer + 1, sizeof buffer - 1));
 }
 
 /* The first state of the widest book, which needs every byte of its record. */

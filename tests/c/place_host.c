@@ -12,21 +12,13 @@ static const uint8_t choice[36] = {
     0x03, 0x00, 0x00, 0x02                          /* at 32: r */
 };
 
-/* "p if not p": no stable state. */
-static const uint8_t without[26] = {
-    0x01, 0x00, 0x00, 0x00, 0x1A, 0x00, 0x01, 0x01, /* head: 1 fact, 1 layer */
-    0x00, 0x00, 0x00, 0x00, 0x00, 0x00,             /* no arrows */
-    0x00, 0x00, 0x00, 0x06, 0x00, 0x01,             /* at 14: rule section */
-    0x05, 0x00, 0x00, 0x00, 0x80, 0x00              /* at 20 */
-};
-
 static void expect_place(const char *what, const uint8_t *book, size_t length, uint32_t layer,
                          uint32_t off, uint32_t fact, uint32_t branching,
                          enum lesson_place_number place)
 {
     uint64_t answer = lesson_place(book, length, layer, off, fact);
 
-    expect_answer(what, answer, (uint64_t)branching << 8 | (uint64_t)place << 16);
+    expect_answer(what, answer, counts(branching, place));
     expect_true("  and its helpers", lesson_place_of(answer) == place &&
                                          lesson_branching_count(answer) == branching);
 }

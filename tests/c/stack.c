@@ -23,24 +23,25 @@
 /* The first of the facts that stand with the free ones. */
 #define HELPERS (FACTS - 200u)
 
-enum call { EMPTY, CHECK, TEST, LIST, ONE, PLACE, CALLS };
+enum call { EMPTY, CHECK, TEST, LIST, ONE, PLACE, NEAREST, CALLS };
 
-static const char *const names[CALLS] = {"empty call",  "lesson_check", "lesson_test",
-                                         "lesson_list", "lesson_one",   "lesson_place"};
+static const char *const names[CALLS] = {"empty call",    "lesson_check", "lesson_test",
+                                         "lesson_list",   "lesson_one",   "lesson_place",
+                                         "lesson_nearest"};
 
 /* The call that is measured, and its answer. The candidate, or what a call fills, are the first
- * bytes of the buffer. */
+ * bytes of the buffer; a call that has both fills a record, of which it is lent `room` bytes. */
 static struct {
     enum call call;
     const uint8_t *book;
     size_t length;
     uint32_t layer, off, fact;
-    size_t lent;
+    size_t lent, room;
     uint64_t answer;
 } asked;
 
 static _Alignas(64) uint8_t stack[STACK_BYTES];
-static uint8_t buffer[1 << 18];
+static uint8_t buffer[1 << 18], record[WIDTH];
 static size_t deepest[CALLS];
 static ucontext_t here, there;
 
@@ -65,6 +66,9 @@ static uint64_t answer(void)
         return lesson_one(asked.book, asked.length, asked.layer, asked.off, buffer, asked.lent);
     case PLACE:
         return lesson_place(asked.book, asked.length, asked.layer, asked.off, asked.fact);
+    case NEAREST:
+        return lesson_nearest(asked.book, asked.length, asked.layer, asked.off, buffer, asked.lent,
+                              record, asked.room);
     default:
         return empty_call();
     }
@@ -199,6 +203,7 @@ static void lend(const uint8_t *bytes, size_t length, uint32_t layer, uint32_t o
     asked.off = off;
     asked.fact = fact;
     asked.lent = lent;
+    asked.room = sizeof record;
 }
 
 /* Every call on a book, with a state that lesson_one has left in the buffer as the candidate. The
@@ -211,8 +216,10 @@ static uint64_t measure_every(const uint8_t *bytes, size_t length, uint32_t laye
     measure(ONE);
     asked.lent = width;
     measure(TEST);
+    measure(NEAREST);
     buffer[0] ^= 0x80;
     measure(TEST);
+    measure(NEAREST);
     asked.lent = sizeof buffer;
     measure(PLACE);
     return measure(LIST);
@@ -237,11 +244,9 @@ static void measure_refusals(void)
     lend(B, sizeof B, 3, 0, 0, 0);
     measure(LIST);
     measure(ONE);
-}
-
-static uint64_t counts(uint64_t branching, uint64_t states)
-{
-    return branching << 8 | states << 16;
+    lend(B, sizeof B, 3, 0, 0, 1);
+    asked.room = 0;
+    measure(NEAREST);
 }
 
 /* The largest books. Where 20 facts branch and all rules are relevant, only what ends early. */
@@ -266,6 +271,7 @@ static void measure_largest(void)
     expect_true("20 branching facts, 1,024 rules: one", measure(ONE) == counts(20, 0));
     asked.lent = WIDTH;
     expect_true("20 branching facts, 1,024 rules: test", lesson_is_stable(measure(TEST)));
+    expect_true("20 branching facts, 1,024 rules: nearest", measure(NEAREST) == counts(20, 0));
     expect_true("20 branching facts, 1,024 rules: place",
                 measure(PLACE) == counts(20, LESSON_IN_SOME));
 }
@@ -285,6 +291,7 @@ static void measure_constraints(void)
     expect_true("20 branching facts and constraints: one", measure(ONE) == counts(20, 0));
     asked.lent = WIDTH;
     expect_true("20 branching facts and constraints: test", lesson_is_stable(measure(TEST)));
+    expect_true("20 branching facts and constraints: nearest", measure(NEAREST) == counts(20, 0));
     expect_true("20 branching facts and constraints: place",
                 measure(PLACE) == counts(20, LESSON_IN_SOME));
     measure_every(never_p, sizeof never_p, 0, 0, 0, 1);
@@ -324,5 +331,6 @@ int main(void)
     expect_figure(LIST, LESSON_LIST_STACK);
     expect_figure(ONE, LESSON_ONE_STACK);
     expect_figure(PLACE, LESSON_PLACE_STACK);
+    expect_figure(NEAREST, LESSON_NEAREST_STACK);
     return report();
 }
