@@ -1,5 +1,6 @@
 /*
- * A host to copy from: loads a book, lists its states, tests two, and asks each fact's place.
+ * A host to copy from: loads a book, lists its states, tests two, asks for the stable state closest
+ * to one that is not, and asks each fact's place.
  *
  *   gcc -std=c11 -Iinclude examples/host.c target/staticlib/liblesson.a -o target/host
  *   target/host BOOK [LAYER [OFF]...]
@@ -49,7 +50,14 @@ static bool granted(const char *call, uint64_t answer)
     return lesson_granted(answer);
 }
 
-/* Prints every state as a line of 0s and 1s, a digit for each fact. */
+/* Prints a state as 0s and 1s, a digit for each fact. */
+static void print_state(const uint8_t *record, unsigned facts)
+{
+    for (unsigned fact = 0; fact < facts; fact++)
+        putchar(record[fact / 8] >> (7 - fact % 8) & 1 ? '1' : '0');
+}
+
+/* Prints every state on a line of its own. */
 static bool list(unsigned facts)
 {
     uint64_t answer = lesson_list(book, book_len, layer, off, listing, sizeof listing);
@@ -60,30 +68,37 @@ static bool list(unsigned facts)
     printf("states %u, branching facts %u\n", (unsigned)lesson_state_count(answer),
            (unsigned)lesson_branching_count(answer));
     for (uint32_t state = 0; state < lesson_state_count(answer); state++) {
-        for (unsigned fact = 0; fact < facts; fact++)
-            putchar(record[fact / 8] >> (7 - fact % 8) & 1 ? '1' : '0');
+        print_state(record, facts);
         putchar('\n');
         record += (facts + 7) / 8;
     }
     return true;
 }
 
-/* Has the engine hand out the first state, and tests it; then again with fact 0 the other way. */
+/* Has the engine hand out the first state, and tests it; then again with fact 0 the other way, as a
+ * trainee may have left it. Prints the stable state closest to that. */
 static bool test(unsigned facts)
 {
-    uint8_t record[LESSON_LONGEST_RECORD];
+    uint8_t record[LESSON_LONGEST_RECORD], closest[LESSON_LONGEST_RECORD];
+    size_t size = (facts + 7) / 8;
+    uint64_t answer;
 
     if (!granted("one state", lesson_one(book, book_len, layer, off, record, sizeof record)))
         return false;
     for (int flipped = 0; flipped <= 1; flipped++) {
-        uint64_t answer = lesson_test(book, book_len, layer, off, record, (facts + 7) / 8);
-
+        record[0] ^= flipped ? 0x80 : 0;
+        answer = lesson_test(book, book_len, layer, off, record, size);
         if (!granted("test", answer))
             return false;
         printf("%s: %s\n", flipped ? "fact 0 the other way" : "the first state",
                lesson_is_stable(answer) ? "stable" : "not stable");
-        record[0] ^= 0x80;
     }
+    answer = lesson_nearest(book, book_len, layer, off, record, size, closest, sizeof closest);
+    if (!granted("nearest", answer))
+        return false;
+    printf("closest to that: ");
+    print_state(closest, facts);
+    printf(", differs in %u\n", (unsigned)lesson_distance(answer));
     return true;
 }
 

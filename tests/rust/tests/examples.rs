@@ -171,15 +171,18 @@ fn what_the_host_prints_follows_from_the_states() {
             driven.branching_count()
         ));
         lines.extend(states.iter().map(|state| digits(state)));
-        let mut first = states[0].clone();
-        for handed_out in ["the first state", "fact 0 the other way"] {
-            let stable = match driven.stable(&first) {
+        let mut tested = states[0].clone();
+        for (flipped, said) in [(false, "the first state"), (true, "fact 0 the other way")] {
+            tested[0] ^= flipped;
+            let stable = match driven.stable(&tested) {
                 true => "stable",
                 false => "not stable",
             };
-            lines.push(format!("{handed_out}: {stable}"));
-            first[0] = !first[0];
+            lines.push(format!("{said}: {stable}"));
         }
+        let (facts, closest) = oracle::nearest(&states, &tested).expect("a state");
+        let closest = digits(closest);
+        lines.push(format!("closest to that: {closest}, differs in {facts}"));
         for atom in 0..usize::from(book.atoms) {
             let place = match states.iter().filter(|state| state[atom]).count() {
                 0 => "none",
