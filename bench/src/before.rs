@@ -3,8 +3,8 @@
 //!
 //! It is expected to be one from after document 02, (i), whose calls take a set of layers that are switched
 //! off behind the layer, and which answers as the engine does wherever it takes a book, but for which one
-//! state it hands out. For one whose calls take no set, the last line of this file becomes
-//! `second_archive!();`.
+//! state it hands out; no row asks it for the closest one. For one whose calls take no set, the last line of
+//! this file becomes `second_archive!();`.
 
 use lesson_tests::drive::Drive;
 use lesson_tests::ffi::Call;
@@ -76,6 +76,7 @@ macro_rules! second_archive {
                         before_one(book, book_len, layer, $($off,)? buffer, length)
                     }
                     Call::Place(fact) => before_place(book, book_len, layer, $($off,)? fact),
+                    Call::Nearest(..) => unreachable!("no row asks it"),
                 }
             }
         }

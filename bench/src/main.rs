@@ -5,10 +5,11 @@
 //!
 //! Run it with `cargo run --release`; with `-- --full` the books that take long come too, with
 //! `-- --only WORD` only the rows that have the word in their name, and with `-- --constraints` the
-//! second table alone. Four others come alone: with `-- --opening` the one of how long books open, with
+//! second table alone. Five others come alone: with `-- --opening` the one of how long books open, with
 //! `-- --junctions` the one of books with many facts, with `-- --one` the one of one state wherever the
-//! branching facts are, and with `-- --orders` the one of listings whose records come in every order, where
-//! `--limit SECONDS` leaves out an archive that would take longer. Where LESSON_BEFORE_DIR names a folder
+//! branching facts are, with `-- --nearest` the one of the state closest to a candidate, and with
+//! `-- --orders` the one of listings whose records come in every order, where `--limit SECONDS` leaves out
+//! an archive that would take longer. Where LESSON_BEFORE_DIR names a folder
 //! with another liblesson.a, every row times that one too, but for the books that it refuses; `before` says
 //! which arguments its calls take.
 
@@ -16,13 +17,14 @@ mod before;
 mod clingo;
 mod constraints;
 mod junctions;
+mod nearest;
 mod one;
 mod opening;
 mod orders;
 
 use lesson_tests::book::{width, Book, BYTE_ATOMS, LONGEST_RECORD};
 use lesson_tests::drive::at;
-use lesson_tests::expected::{branching, NO_STABLE_STATE};
+use lesson_tests::expected::{branching, differing, NO_STABLE_STATE};
 use lesson_tests::ffi::{self, Call};
 use lesson_tests::known::{self, Ending, Following, Known, Slow};
 use lesson_tests::orders::{Order, Ordered};
@@ -87,6 +89,10 @@ impl Program {
                 Call::List(buffer) => plain::list(book, drive, buffer.unwrap_or_default()),
                 Call::One(buffer) => plain::one(book, drive, buffer.unwrap_or_default()),
                 Call::Place(fact) => plain::place(book, drive, fact),
+                Call::Nearest(candidate, buffer) => {
+                    let (candidate, buffer) = slices(candidate, buffer);
+                    plain::nearest(book, drive, candidate, buffer)
+                }
             },
             Program::Bits => match call {
                 Call::Check => bitset::check(book),
@@ -94,6 +100,10 @@ impl Program {
                 Call::List(buffer) => bitset::list(book, drive, buffer.unwrap_or_default()),
                 Call::One(buffer) => bitset::one(book, drive, buffer.unwrap_or_default()),
                 Call::Place(fact) => bitset::place(book, drive, fact),
+                Call::Nearest(candidate, buffer) => {
+                    let (candidate, buffer) = slices(candidate, buffer);
+                    bitset::nearest(book, drive, candidate, buffer)
+                }
             },
         }
     }
@@ -105,6 +115,14 @@ impl Program {
             _ => answer,
         }
     }
+}
+
+/// A candidate and a buffer, empty where they are NULL.
+fn slices<'a>(
+    candidate: Option<&'a [u8]>,
+    buffer: Option<&'a mut [u8]>,
+) -> (&'a [u8], &'a mut [u8]) {
+    (candidate.unwrap_or_default(), buffer.unwrap_or_default())
 }
 
 /// Seconds for one call, over `calls` of them.
@@ -300,6 +318,25 @@ impl Table {
             let handed_out = &states[0][..first.len()];
             assert_eq!(handed_out, first, "{name}: not the first state");
         }
+    }
+
+    /// A row for the state closest to a candidate. All write the same bytes.
+    fn nearest(&self, name: &str, known: &Known, candidate: &[bool]) {
+        let (g, k) = (known.branching, known.count);
+        let (facts, closest) = known.nearest(candidate).expect("there is a state");
+        let asked = Asked {
+            name: format!("nearest, {name}, g = {g}, k = {k}, {facts} differ"),
+            book: &known.book.bytes(),
+            layer: known.layer.into(),
+            answer: differing(g, facts),
+            candidate: &oracle::record(candidate),
+            buffer: closest.len(),
+        };
+        let states = self.row(asked, |candidate, buffer| {
+            Call::Nearest(Some(candidate), Some(buffer))
+        });
+        let right = states.iter().all(|state| *state == closest);
+        assert!(right, "{name}: not the closest state");
     }
 
     /// A row for the place of a fact.
@@ -518,7 +555,7 @@ fn standing(word: String, full: bool) {
 fn main() {
     let (mut full, mut orders, mut limit) = (false, false, orders::LIMIT);
     let (mut word, mut constraints_only, mut junctions) = (String::new(), false, false);
-    let mut one_only = false;
+    let (mut one_only, mut nearest_only) = (false, false);
     let mut options = env::args().skip(1);
     while let Some(option) = options.next() {
         let mut value = || {
@@ -533,16 +570,20 @@ fn main() {
             "--junctions" => junctions = true,
             "--opening" => return opening::table(),
             "--one" => one_only = true,
+            "--nearest" => nearest_only = true,
             "--orders" => orders = true,
             "--limit" => limit = value().parse().expect("--limit takes seconds"),
             other => panic!(
                 "{other}: the options are --full, --only WORD, --constraints, --junctions, --opening, --one, \
-                 --orders and --limit SECONDS"
+                 --nearest, --orders and --limit SECONDS"
             ),
         }
     }
     if one_only {
         return one::table(word, full);
+    }
+    if nearest_only {
+        return nearest::table(word);
     }
     if orders {
         return orders::table(word, limit);
