@@ -1,0 +1,9 @@
+pub mod PlaceLaws
+pub mod NameLaws
+pub mod ReaderLaws
+pub mod DepthLaws
+pub mod CompileLaws
+pub mod BelowLaws
+pub mod StackLaws
+pub mod RunLaws
+pub mod CauseLaws
