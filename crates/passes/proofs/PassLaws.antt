@@ -74,6 +74,10 @@ pub settle-room : (n k : ℕ) (part : List ℕ) → RoomFor goals.Settle n k par
 unfolding RoomFor
 settle-room n k part = tt
 
+pub fit-room : (n k : ℕ) (part : List ℕ) → RoomFor goals.Fit n k part
+unfolding RoomFor
+fit-room n k part = tt
+
 pub list-room : (n k : ℕ) (part : List ℕ) → k * recordSize n ≤ length part → RoomFor goals.List n k part
 unfolding RoomFor
 list-room n k part h = h

@@ -17,13 +17,16 @@ use Rattle.format.specs.Book.{u16At}
 use Rattle.models.specs.Listing.{bitValue, interpretations, stableModels}
 use Rattle.models.proofs.InterpretationLaws.{interpretations-length, interpretations-has}
 use Rattle.models.proofs.LeastLaws.{stable-sound, stable-complete}
+use Rattle.insertion.specs.Sorted.{insertPast, insertBy, insertAll}
+use Rattle.records.specs.Written.{before, sorted}
+use Rattle.condition.specs.Code.{codeHolds}
 use Rattle.search.specs.declared.Goal.{Goal}
 use Rattle.search.specs.declared.Goal.the-variants as goals
 use Rattle.search.specs.Visits.{weightOf, totalOf, reaches}
 use Rattle.leaf.proofs.FoundLaws.{found-stable, stable-found}
 use Rattle.passes.specs.Limit.{hasNoStableState}
 use Rattle.passes.specs.Tallied.{searched, Tallied}
-use Rattle.passes.proofs.PassLaws.{empty, searched-length}
+use Rattle.passes.proofs.PassLaws.{empty, searched-length, searched-sorted}
 
 -- ---- the list of the stable models, and the inductive definition
 module _ (P : Program) where
@@ -60,6 +63,7 @@ none-reaches goals.List = refl
 none-reaches (goals.Count most) = le-ltb most 0 (omega arith)
 none-reaches goals.Settle = refl
 none-reaches goals.Sums = refl
+none-reaches goals.Fit = refl
 
 module _ (P : Program) (w : WellFormed P) (few : P .atoms ≤ maxAtoms) where
   pub searched-from : (m : Interpretation) → m ∈ searched P → StableModel P m
@@ -88,13 +92,53 @@ module _ (P : Program) (w : WellFormed P) (few : P .atoms ≤ maxAtoms) where
     pub tallied-some : 0 < count → hasNoStableState P ≡ false
     tallied-some h = state-some P (omega (arith, t .count-is, ap length (t .split), length-append (t .seen) (t .rest), searched-length P w few))
 
+-- ---- what models weigh together, where each weighs one bit
+pub bits-weight : (w : Interpretation → ℕ) (p : Interpretation → Bool) → ((m : Interpretation) → w m ≡ bitValue (p m) 1) → (ms : List Interpretation) → totalOf w ms ≡ length (filter p ms)
+unfolding totalOf filter bitValue consIf
+bits-weight w p e [] = refl
+bits-weight w p e (m ∷ ms) = go (p m) (e m) (bits-weight w p e ms)
+  where
+    go : (c : Bool) → w m ≡ bitValue c 1 → totalOf w ms ≡ length (filter p ms) → w m + totalOf w ms ≡ length (consIf c m (filter p ms))
+    go true f g = omega (arith, f, g)
+    go false f g = omega (arith, f, g)
+
 -- for a fact's place the models weigh as many as those in which it stands
 pub settled-weight : (asked : List ℕ) (ms : List Interpretation) → totalOf (weightOf goals.Settle asked) ms ≡ length (filter (λ m. atomHolds m (u16At asked 0)) ms)
-unfolding totalOf weightOf filter bitValue consIf
-settled-weight asked [] = refl
-settled-weight asked (m ∷ ms) = go (atomHolds m (u16At asked 0)) (settled-weight asked ms)
-  where
-    go : (c : Bool) → totalOf (weightOf goals.Settle asked) ms ≡ length (filter (λ m. atomHolds m (u16At asked 0)) ms)
-        → bitValue c 1 + totalOf (weightOf goals.Settle asked) ms ≡ length (consIf c m (filter (λ m. atomHolds m (u16At asked 0)) ms))
-    go true e = omega (arith, e)
-    go false e = omega (arith, e)
+unfolding weightOf
+settled-weight asked ms = bits-weight (weightOf goals.Settle asked) (λ m. atomHolds m (u16At asked 0)) (λ m. refl) ms
+
+-- for a condition as many as those in which it holds
+pub fitted-weight : (asked : List ℕ) (ms : List Interpretation) → totalOf (weightOf goals.Fit asked) ms ≡ length (filter (codeHolds asked) ms)
+unfolding weightOf
+fitted-weight asked ms = bits-weight (weightOf goals.Fit asked) (codeHolds asked) (λ m. refl) ms
+
+-- ---- how many pass a test does not depend on the order
+module _ (p : Interpretation → Bool) where
+  consIf-length : (c : Bool) (m : Interpretation) (ms : List Interpretation) → length (consIf c m ms) ≡ bitValue c 1 + length ms
+  unfolding consIf bitValue
+  consIf-length true m ms = omega arith
+  consIf-length false m ms = omega arith
+
+  passing : (m : Interpretation) (ms : List Interpretation) → length (filter p (m ∷ ms)) ≡ bitValue (p m) 1 + length (filter p ms)
+  unfolding filter
+  passing m ms = consIf-length (p m) m (filter p ms)
+
+  module _ (less : Interpretation → Interpretation → Bool) where
+    insert-passing : (m : Interpretation) (ms : List Interpretation) → length (filter p (insertBy less m ms)) ≡ bitValue (p m) 1 + length (filter p ms)
+    unfolding insertBy insertPast
+    insert-passing m [] = passing m []
+    insert-passing m (y ∷ ys) = go (less y m) (insert-passing m ys)
+      where
+        go : (c : Bool) → length (filter p (insertBy less m ys)) ≡ bitValue (p m) 1 + length (filter p ys)
+            → length (filter p (insertPast c m y (insertBy less m ys) ys)) ≡ bitValue (p m) 1 + length (filter p (y ∷ ys))
+        go true e = omega (arith, e, passing y (insertBy less m ys), passing y ys)
+        go false e = omega (arith, passing m (y ∷ ys))
+
+    insertAll-passing : (ms l : List Interpretation) → length (filter p (insertAll less ms l)) ≡ length (filter p ms) + length (filter p l)
+    unfolding insertAll filter
+    insertAll-passing [] l = omega arith
+    insertAll-passing (m ∷ ms) l = omega (arith, insertAll-passing ms (insertBy less m l), insert-passing m l, passing m ms)
+
+  pub searched-passing : (P : Program) → WellFormed P → P .atoms ≤ maxAtoms → length (filter p (searched P)) ≡ length (filter p (stableModels P))
+  unfolding sorted filter
+  searched-passing P w few = omega (arith, insertAll-passing (before (P .atoms)) (searched P) [], ap (λ (l : List Interpretation). length (filter p l)) (searched-sorted P w few))

@@ -35,6 +35,7 @@ room-less goals.List n a b part h r = let q : a * recordSize n ≤ b * recordSiz
 room-less (goals.Count most) n a b part h r = tt
 room-less goals.Settle n a b part h r = tt
 room-less goals.Sums n a b part h r = r
+room-less goals.Fit n a b part h r = tt
 
 pub room-same : (goal : Goal) (n a : ℕ) (part part′ : List ℕ) → length part′ ≡ length part → RoomFor goal n a part → RoomFor goal n a part′
 unfolding RoomFor
@@ -42,6 +43,7 @@ room-same goals.List n a part part′ e r = omega (arith, e, r)
 room-same (goals.Count most) n a part part′ e r = tt
 room-same goals.Settle n a part part′ e r = tt
 room-same goals.Sums n a part part′ e r = omega (arith, e, r)
+room-same goals.Fit n a part part′ e r = tt
 
 -- a record's place, and the bytes of as many records as there may be, in numbers that fit
 pub times-fit : (count w : ℕ) → count ≤ 4294967296 → w ≤ maxRecord → count * w ≤ 4294967296 * maxRecord
@@ -71,6 +73,7 @@ kept-none goals.List n count part = let z : count + 0 ≡ count = omega arith in
 kept-none (goals.Count most) n count part = refl
 kept-none goals.Settle n count part = refl
 kept-none goals.Sums n count part = refl
+kept-none goals.Fit n count part = refl
 
 -- ---- one model
 module _ (goal : Goal) (n count : ℕ) (m : Interpretation) (part : List ℕ) where
@@ -93,6 +96,10 @@ module _ (goal : Goal) (n count : ℕ) (m : Interpretation) (part : List ℕ) wh
   unfolding keptBy summed
   keep-sums e new f = f ∙ rw e refl
 
+  pub keep-fit : goal ≡ goals.Fit → part ≡ keptBy goal n count (m ∷ []) part
+  unfolding keptBy
+  keep-fit e = rw e refl
+
 -- ---- two runs of models
 sums-append : (n : ℕ) (xs ys : List Interpretation) (part : List ℕ) → summed n (summed n part xs) ys ≡ summed n part (xs ++ ys)
 unfolding summed
@@ -111,6 +118,10 @@ module _ (goal : Goal) (n from mid end : ℕ) (part : List ℕ) where
   pub combines-sums : goal ≡ goals.Sums → Combines goal n from mid end part part
   unfolding keptBy
   combines-sums e old xs ys room em ee f = f ∙ rw e (sums-append n xs ys old)
+
+  pub combines-fit : goal ≡ goals.Fit → Combines goal n from mid end part part
+  unfolding keptBy
+  combines-fit e old xs ys room em ee f = f ∙ rw e refl
 
 -- ---- two runs of records
 records-wide : (n : ℕ) (ms : List Interpretation) → Wide (recordSize n) (map (recordOf n) ms)

@@ -11,6 +11,7 @@ use Rattle.format.specs.Book.{u16At}
 use Rattle.models.specs.StableModels.{Interpretation, atomHolds}
 use Rattle.models.specs.Listing.{bitValue}
 use Rattle.records.proofs.PackLaws.{bit-le}
+use Rattle.condition.specs.Code.{codeHolds, StackFits}
 use Rattle.search.specs.declared.Goal.{Goal}
 use Rattle.search.specs.declared.Goal.the-variants as goals
 use Rattle.search.specs.declared.Visit.{Visit}
@@ -29,6 +30,7 @@ weight-le goals.List asked m = omega arith
 weight-le (goals.Count most) asked m = omega arith
 weight-le goals.Settle asked m = bit-le (atomHolds m (u16At asked 0))
 weight-le goals.Sums asked m = omega arith
+weight-le goals.Fit asked m = bit-le (codeHolds asked m)
 
 total-le : (goal : Goal) (asked : List ℕ) (ms : List Interpretation) → totalOf (weightOf goal asked) ms ≤ length ms
 unfolding totalOf
@@ -177,6 +179,10 @@ module _ (v : Visit) where
   unfolding reaches
   sums-stop e = rw e refl
 
+  pub fit-stops : v .goal ≡ goals.Fit → false ≡ stopped v
+  unfolding reaches
+  fit-stops e = rw e refl
+
 -- the question of a goal, and what a model weighs, in the code's cases
 module _ (goal : Goal) (asked : List ℕ) (m : Interpretation) where
   pub asked-two : goal ≡ goals.Settle → Asks goal asked → 0 + 2 ≤ length asked
@@ -200,3 +206,20 @@ module _ (goal : Goal) (asked : List ℕ) (m : Interpretation) where
   weigh-settle e x b f ex eb ef =
       let q : x ≡ weightOf goal asked m = ex ∙ eb ∙ ap (λ (k : ℕ). bitValue (atomHolds m k) 1) ef ∙ sym (ap (λ (g : Goal). weightOf g asked m) e) in
       (q, omega (arith, q, weight-le goal asked m))
+
+  pub asked-code : goal ≡ goals.Fit → Asks goal asked → StackFits asked
+  unfolding Asks
+  asked-code e a = subst (λ (g : Goal). Asks g asked) e a
+
+  pub weigh-fit : goal ≡ goals.Fit → (x : ℕ) → x ≡ bitValue (codeHolds asked m) 1 → (x ≡ weightOf goal asked m) × (x ≤ 1)
+  unfolding weightOf
+  weigh-fit e x ex = let q : x ≡ weightOf goal asked m = ex ∙ sym (ap (λ (g : Goal). weightOf g asked m) e) in (q, omega (arith, q, weight-le goal asked m))
+
+-- a bit by its test
+pub bit-set : (b : Bool) → b ≡ true → 1 ≡ bitValue b 1
+unfolding bitValue
+bit-set b e = rw e refl
+
+pub bit-clear : (b : Bool) → b ≡ false → 0 ≡ bitValue b 1
+unfolding bitValue
+bit-clear b e = rw e refl

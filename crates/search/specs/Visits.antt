@@ -12,23 +12,26 @@ use Rattle.format.specs.Book.{u16At}
 use Rattle.models.specs.StableModels.{Interpretation, atomHolds}
 use Rattle.models.specs.Listing.{bitValue, recordSize, recordOf}
 use Rattle.records.specs.Written.{sorted, summed}
+use Rattle.condition.specs.Code.{codeHolds, StackFits}
 use Rattle.search.specs.declared.Goal.{Goal}
 use Rattle.search.specs.declared.Goal.the-variants as goals
 use Rattle.search.specs.declared.Visit.{Visit}
 
--- the bytes that a goal is asked with: a fact's place, with the fact's number
+-- the bytes that a goal is asked with: a fact's place, with the fact's number; states that fit a condition, with its code
 unfoldable pub Asks : Goal → List ℕ → Type 0
 Asks goals.List asked = Unit {0}
 Asks (goals.Count most) asked = Unit {0}
 Asks goals.Settle asked = 2 ≤ length asked
 Asks goals.Sums asked = Unit {0}
+Asks goals.Fit asked = StackFits asked
 
--- what a model weighs: for a fact's place 1 where the fact stands
+-- what a model weighs: for a fact's place 1 where the fact stands, for a condition 1 where it holds
 unfoldable pub weightOf : Goal → List ℕ → Interpretation → ℕ
 weightOf goals.List asked m = 0
 weightOf (goals.Count most) asked m = 0
 weightOf goals.Settle asked m = bitValue (atomHolds m (u16At asked 0)) 1
 weightOf goals.Sums asked m = 0
+weightOf goals.Fit asked m = bitValue (codeHolds asked m) 1
 
 -- what models weigh together
 unfoldable pub totalOf : (Interpretation → ℕ) → List Interpretation → ℕ
@@ -46,6 +49,7 @@ keptBy goals.List n count ms part = take (count * recordSize n) part ++ (rising 
 keptBy (goals.Count most) n count ms part = part
 keptBy goals.Settle n count ms part = part
 keptBy goals.Sums n count ms part = summed n part ms
+keptBy goals.Fit n count ms part = part
 
 -- the part has the room that the goal needs for so many models in all
 unfoldable pub RoomFor : Goal → ℕ → ℕ → List ℕ → Type 0
@@ -53,6 +57,7 @@ RoomFor goals.List n count part = count * recordSize n ≤ length part
 RoomFor (goals.Count most) n count part = Unit {0}
 RoomFor goals.Settle n count part = Unit {0}
 RoomFor goals.Sums n count part = 4 * n ≤ length part
+RoomFor goals.Fit n count part = Unit {0}
 
 -- the goal is reached: of a count, once it is past its most; of a fact's place, once it stands in some but not in all
 unfoldable pub reaches : Goal → ℕ → ℕ → Bool
@@ -60,6 +65,7 @@ reaches goals.List count weight = false
 reaches (goals.Count most) count weight = ltb most count
 reaches goals.Settle count weight = ltb 0 weight && ltb weight count
 reaches goals.Sums count weight = false
+reaches goals.Fit count weight = false
 
 abbrev pub stopped : Visit → Bool
 stopped v = reaches (v .goal) (v .count) (v .weight)

@@ -8,6 +8,8 @@ ghost use lib.ListN.{length, replicate};
 ghost use Rattle.base.specs.Bounds.{maxAtoms, maxNames, maxRules};
 ghost use Rattle.base.specs.Lists.{consIf, all, any};
 ghost use Rattle.models.specs.StableModels.{holds};
+ghost use Rattle.models.specs.Listing.{bitValue};
+ghost use Rattle.condition.specs.Code.{codeHolds, StackFits};
 ghost use Rattle.bans.specs.Bans.{bodiesOf, BansFit};
 ghost use Rattle.setting.specs.Setting.{settingOf};
 ghost use Rattle.setting.specs.RuleMasks.{Headed};
@@ -20,6 +22,7 @@ ghost use Rattle.search.specs.Decided.{undecided, Turned};
 ghost use Rattle.search.specs.Visits.{Asks, weightOf, keptBy, RoomFor, stopped, Kept, visited, Searched, Combines};
 use bans::banned;
 use base::wide;
+use condition::evaluate;
 use format::be16;
 use leaf::model_at;
 use merging::merge;
@@ -37,14 +40,15 @@ use rejecting::clear_at;
 use rejecting::reject_at;
 use setting::headed;
 
-// What the search is for: every record, how many models there are, whether the asked fact stands in some but not in all, or in how many
-// models each fact stands.
+// What the search is for: every record, how many models there are, whether the asked fact stands in some but not in all, in how many
+// models each fact stands, or in how many the asked condition holds.
 pub enum Goal {
     List,
     // no further than one more than this
     Count(usize),
     Settle,
     Sums,
+    Fit,
 }
 
 // What the search keeps: the models met and what they weigh together.
@@ -78,7 +82,19 @@ pub fn stops(v: Visit) -> bool
             }
         }
         Goal::Sums => false,
+        Goal::Fit => false,
     }
+}
+
+// 1 where the condition of a code holds in a state.
+fn fit_weight(code: &[u8], m: &[bool]) -> usize
+    requires { ⌜ StackFits (now code) ⌝ }
+    ensures { λ r. ⌜ r ≡ bitValue (codeHolds (now (code .entry)) (now (m .entry))) 1 ⌝ }
+{
+    if evaluate(code, m) {
+        return 1;
+    }
+    0
 }
 
 // What a model weighs.
@@ -91,6 +107,7 @@ fn weight(goal: Goal, asked: &[u8], m: &[bool]) -> usize
         Goal::Count(most) => 0,
         Goal::Settle => wide(atom_bit(m, be16(asked, 0))),
         Goal::Sums => 0,
+        Goal::Fit => fit_weight(asked, m),
     }
 }
 
@@ -104,6 +121,7 @@ fn keep(goal: Goal, state: &[bool], n: usize, count: usize, part: &mut [u8])
         Goal::Count(most) => {}
         Goal::Settle => {}
         Goal::Sums => add_state(state, part),
+        Goal::Fit => {}
     }
 }
 
@@ -247,6 +265,7 @@ fn combine(goal: Goal, n: usize, from: usize, mid: usize, end: usize, part: &mut
         Goal::Count(most) => {}
         Goal::Settle => {}
         Goal::Sums => {}
+        Goal::Fit => {}
     }
 }
 

@@ -1,5 +1,5 @@
 -- One law a goal; where records are listed, the two runs are merged (`combines-listed`).
-use Rattle.search.proofs.KeptLaws.{times-fit, start-fits, end-fits, width-some, lent-size, combines-listed, combines-count, combines-settle, combines-sums}
+use Rattle.search.proofs.KeptLaws.{times-fit, start-fits, end-fits, width-some, lent-size, combines-listed, combines-count, combines-settle, combines-sums, combines-fit}
 use native.Mathlib.Omega.{arith}
 use borrow.Author.Needs.{needs}
 use Rattle.search.proofs.combine.Statement.{statement}
@@ -44,6 +44,9 @@ enum-told-2 c = search needs
 enum-told-3 : tie.Need-enum-told-3
 enum-told-3 c = search needs
 
+enum-told-4 : tie.Need-enum-told-4
+enum-told-4 c = search needs
+
 same-length : tie.Need-same-length
 same-length c = search needs
 
@@ -58,6 +61,9 @@ returns-3 c = let a = c .before .before .before .args in combines-settle (a .goa
 
 returns-4 : tie.Need-returns-4
 returns-4 c = let a = c .before .before .before .args in combines-sums (a .goal) (a .n) (a .from) (a .mid) (a .end) (a .part .now) (c .enum-told3 .given .1)
+
+returns-5 : tie.Need-returns-5
+returns-5 c = let a = c .before .before .before .args in combines-fit (a .goal) (a .n) (a .from) (a .mid) (a .end) (a .part .now) (c .enum-told4 .given .1)
 
 pub combine-spec : {M : Type 1} → statement M
 combine-spec =
@@ -76,8 +82,10 @@ combine-spec =
     enum-known-goal
     enum-told-2
     enum-told-3
+    enum-told-4
     same-length
     returns
     returns-2
     returns-3
-    returns-4)
+    returns-4
+    returns-5)

@@ -1,6 +1,6 @@
 -- One law a goal.
 use mathlib.Core.Path.{_∙_}
-use Rattle.search.proofs.KeptLaws.{times-fit, place-fits, sums-fit, sums-of, keep-listed, keep-count, keep-settle, keep-sums}
+use Rattle.search.proofs.KeptLaws.{times-fit, place-fits, sums-fit, sums-of, keep-listed, keep-count, keep-settle, keep-sums, keep-fit}
 use native.Mathlib.Omega.{arith}
 use borrow.Author.Needs.{needs}
 use Rattle.search.proofs.keep.Statement.{statement}
@@ -30,6 +30,9 @@ enum-told-3 c = search needs
 add-state-requires : tie.Need-add-state-requires
 add-state-requires c κs = let a = c .before .before .before .before .before .args in sums-fit (a .goal) (a .n) (a .count) (a .state .now) (a .part .now) (c .before .enum-told3 .given .1) (c .before .before .before .before .before .pre .3) (c .before .before .before .before .before .pre .0) (c .before .before .before .before .before .pre .2)
 
+enum-told-4 : tie.Need-enum-told-4
+enum-told-4 c = search needs
+
 same-length : tie.Need-same-length
 same-length c = search needs
 
@@ -48,6 +51,9 @@ returns-3 c = let a = c .before .before .before .before .args in keep-settle (a 
 returns-4 : tie.Need-returns-4
 returns-4 c = let a = c .before .before .before .before .before .before .before .before .args in keep-sums (a .goal) (a .n) (a .count) _ (a .part .now) (c .before .before .before .before .enum-told3 .given .1) _ (c .before .before .add-state .ensures ∙ sums-of (a .n) (a .state .now) (a .part .now) (c .before .before .before .before .before .before .before .before .pre .3))
 
+returns-5 : tie.Need-returns-5
+returns-5 c = let a = c .before .before .before .before .args in keep-fit (a .goal) (a .n) (a .count) _ (a .part .now) (c .enum-told4 .given .1)
+
 pub keep-spec : {M : Type 1} → statement M
 keep-spec =
     tie.close
@@ -60,9 +66,11 @@ keep-spec =
     enum-told-2
     enum-told-3
     add-state-requires
+    enum-told-4
     same-length
     returns
     returns-2
     returns-3
     same-length-2
-    returns-4)
+    returns-4
+    returns-5)

@@ -1,5 +1,5 @@
 -- One law a goal.
-use Rattle.search.proofs.VisitLaws.{list-stops, count-stops, settle-stops, settle-goes-on, sums-stop}
+use Rattle.search.proofs.VisitLaws.{list-stops, count-stops, settle-stops, settle-goes-on, sums-stop, fit-stops}
 use borrow.Author.Needs.{needs}
 use Rattle.search.proofs.stops.Statement.{statement}
 use Rattle.search.proofs.stops.Tie as tie
@@ -16,6 +16,9 @@ enum-told-2 c = search needs
 enum-told-3 : tie.Need-enum-told-3
 enum-told-3 c = search needs
 
+enum-told-4 : tie.Need-enum-told-4
+enum-told-4 c = search needs
+
 returns : tie.Need-returns
 returns c = list-stops (c .before .before .args .v) (c .enum-told .given .1)
 
@@ -31,6 +34,9 @@ returns-4 c = settle-goes-on (c .before .before .before .before .args .v) (c .be
 returns-5 : tie.Need-returns-5
 returns-5 c = sums-stop (c .before .before .args .v) (c .enum-told3 .given .1)
 
+returns-6 : tie.Need-returns-6
+returns-6 c = fit-stops (c .before .before .args .v) (c .enum-told4 .given .1)
+
 pub stops-spec : {M : Type 1} → statement M
 stops-spec =
     tie.close
@@ -39,8 +45,10 @@ stops-spec =
     enum-known-goal
     enum-told-2
     enum-told-3
+    enum-told-4
     returns
     returns-2
     returns-3
     returns-4
-    returns-5)
+    returns-5
+    returns-6)

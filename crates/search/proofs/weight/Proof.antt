@@ -1,5 +1,5 @@
 -- One law a goal.
-use Rattle.search.proofs.VisitLaws.{asked-two, weigh-list, weigh-count, weigh-settle, weigh-sums}
+use Rattle.search.proofs.VisitLaws.{asked-two, asked-code, weigh-list, weigh-count, weigh-settle, weigh-sums, weigh-fit}
 use borrow.Author.Needs.{needs}
 use Rattle.search.proofs.weight.Statement.{statement}
 use Rattle.search.proofs.weight.Tie as tie
@@ -25,6 +25,12 @@ wide-requires c κs = search needs
 enum-told-3 : tie.Need-enum-told-3
 enum-told-3 c = search needs
 
+enum-told-4 : tie.Need-enum-told-4
+enum-told-4 c = search needs
+
+fit-weight-requires : tie.Need-fit-weight-requires
+fit-weight-requires c κs = let a = c .before .before .before .before .args in asked-code (a .goal) (a .asked .now) (a .m .now) (c .enum-told4 .given .1) (c .before .before .before .before .pre)
+
 returns : tie.Need-returns
 returns c = let a = c .before .before .before .before .args in weigh-list (a .goal) (a .asked .now) (a .m .now) (c .enum-told .given .1)
 
@@ -37,6 +43,9 @@ returns-3 c = let a = c .before .before .before .before .before .before .before 
 returns-4 : tie.Need-returns-4
 returns-4 c = let a = c .before .before .before .before .args in weigh-sums (a .goal) (a .asked .now) (a .m .now) (c .enum-told3 .given .1)
 
+returns-5 : tie.Need-returns-5
+returns-5 c = let a = c .before .before .before .before .before .args in weigh-fit (a .goal) (a .asked .now) (a .m .now) (c .before .enum-told4 .given .1) (c .fit-weight .result) (c .fit-weight .ensures)
+
 pub weight-spec : {M : Type 1} → statement M
 weight-spec =
     tie.close
@@ -48,7 +57,10 @@ weight-spec =
     atom-bit-requires
     wide-requires
     enum-told-3
+    enum-told-4
+    fit-weight-requires
     returns
     returns-2
     returns-3
-    returns-4)
+    returns-4
+    returns-5)
