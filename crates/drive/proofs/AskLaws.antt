@@ -33,27 +33,36 @@ use Rattle.list_call.specs.Reply as list
 use Rattle.one_call.specs.Reply as one
 use Rattle.near_call.specs.Reply as near
 use Rattle.place_call.specs.Reply as place
+use Rattle.count_call.specs.Reply as count
+use Rattle.condition.specs.Code.{codeHolds, lentCode, StackFits}
+use Rattle.condition.specs.Causes.{conditionTests, fitsText}
+use Rattle.condition.specs.Outcome.{ReadyTo, Prepares}
+use Rattle.condition.specs.declared.Prepared.{Prepared}
+use Rattle.condition.specs.declared.Prepared.the-variants as prepared
 use Rattle.list_call.specs.declared.ListReply.{ListReply}
 use Rattle.one_call.specs.declared.OneReply.{OneReply}
 use Rattle.near_call.specs.declared.NearReply.{NearReply}
 use Rattle.place_call.specs.declared.PlaceReply.{PlaceReply}
+use Rattle.count_call.specs.declared.CountReply.{CountReply}
 use Rattle.list_call.proofs.ListLaws as list-laws
 use Rattle.one_call.proofs.OneLaws as one-laws
 use Rattle.near_call.proofs.NearLaws as near-laws
 use Rattle.place_call.proofs.PlaceLaws as place-laws
+use Rattle.count_call.proofs.CountLaws as count-laws
 use Rattle.drive.specs.declared.Question.{Question}
 use Rattle.drive.specs.declared.Question.the-variants as question
 use Rattle.drive.specs.declared.Answer.{Answer}
-use Rattle.drive.specs.declared.Answer.the-variants.{Listing, State, Standing, Closest}
+use Rattle.drive.specs.declared.Answer.the-variants.{Listing, State, Standing, Closest, Counting}
 use Rattle.drive.specs.Asked.{ownTests, askedTests, asksNoFact, AskedWith, Alone, replyBy, refusalOf, Answers, Asked, NearAt}
 
 -- ---- a refusal: the buffer is as it was
 refused-by : (q : Question) (asked : List ℕ) (c : Cause) (P : Program) (old : List ℕ) → Answers q asked (Refused c) P old (refusalOf q c) old
-unfolding refusalOf replyBy list.replyOf list.bufferOf one.replyOf one.bufferOf place.replyOf near.replyOf near.bufferOf
+unfolding refusalOf replyBy list.replyOf list.bufferOf one.replyOf one.bufferOf place.replyOf near.replyOf near.bufferOf count.replyOf
 refused-by question.List asked c P old = record { reply-is = refl; buffer-is = refl }
 refused-by question.One asked c P old = record { reply-is = refl; buffer-is = refl }
 refused-by (question.Place fact) asked c P old = record { reply-is = refl; buffer-is = refl }
 refused-by question.Nearest asked c P old = record { reply-is = refl; buffer-is = refl }
+refused-by question.Count asked c P old = record { reply-is = refl; buffer-is = refl }
 
 pub refused-as : (q : Question) (asked : List ℕ) (c : Cause) (P : Program) (old : List ℕ) {r : Answer} {v : Verdict} → r ≡ refusalOf q c → v ≡ Refused c → Answers q asked v P old r old
 refused-as q asked c P old e h = rw (e, h) (refused-by q asked c P old)
@@ -82,10 +91,15 @@ pub placed : {q : Question} {fact : ℕ} {asked : List ℕ} {P : Program} {old :
 unfolding ownTests replyBy
 placed e a = rw e (record { reply-is = ap Standing a; buffer-is = refl })
 
+pub counted : {q : Question} {asked : List ℕ} {P : Program} {old : List ℕ} → q ≡ question.Count → {r : CountReply} → r ≡ count.replyOf Accepted P (codeHolds asked)
+    → Answers q asked (firstOf (ownTests q P (length old))) P old (Counting r) old
+unfolding ownTests replyBy firstOf
+counted e a = rw e (record { reply-is = ap Counting a; buffer-is = refl })
+
 -- ---- the program that the table stands for, and the driven layer's
 pub answers-over : (q : Question) (asked : List ℕ) {P Q : Program} → Alike P Q → {old new : List ℕ} {r : Answer} → Answers q asked (firstOf (ownTests q Q (length old))) Q old r new
     → Answers q asked (firstOf (ownTests q P (length old))) P old r new
-unfolding ownTests replyBy
+unfolding ownTests replyBy firstOf
 answers-over question.List asked {P} {Q} a {old} {new} x =
     let y : list.Answers (firstOf (list.roomTests P (length old))) P old (list.replyOf (firstOf (list.roomTests Q (length old))) Q) new = list-laws.answers-over a (record { reply-is = refl; buffer-is = x .buffer-is }) in
     record { reply-is = x .reply-is ∙ ap Listing (y .reply-is); buffer-is = y .buffer-is }
@@ -100,6 +114,8 @@ answers-over question.Nearest asked {P} {Q} a {old} {new} x =
     record { reply-is = refl; buffer-is = x .buffer-is ∙ ap (λ (c : Interpretation). near.bufferOf (firstOf (one.roomTests Q (length old))) Q c old) e } in
     let y = near-laws.answers-over a (interpretationOf (P .atoms) asked) z in
     record { reply-is = x .reply-is ∙ ap (λ (c : Interpretation). Closest (near.replyOf (firstOf (one.roomTests Q (length old))) Q c)) e ∙ ap Closest (y .reply-is); buffer-is = y .buffer-is }
+answers-over question.Count asked {P} {Q} a {old} {new} x =
+    record { reply-is = x .reply-is ∙ ap Counting (sym (count-laws.reply-over a Accepted (codeHolds asked))); buffer-is = x .buffer-is }
 
 -- ---- causes 11 and 12
 module _ (P : Program) (n : ℕ) (e : n ≡ P .atoms) (room : ℕ) where
@@ -108,20 +124,23 @@ module _ (P : Program) (n : ℕ) (e : n ≡ P .atoms) (room : ℕ) where
   fact-refused question.List h = absurd (false≢true h)
   fact-refused question.One h = absurd (false≢true h)
   fact-refused question.Nearest h = absurd (false≢true h)
+  fact-refused question.Count h = absurd (false≢true h)
   fact-refused (question.Place fact) h = rw (ap (λ (k : ℕ). not (ltb fact k)) (sym e) ∙ h) refl
 
   pub branching-refused : (q : Question) → asksNoFact q n ≡ false → hasTooManyBranching P ≡ true → firstOf (askedTests q P room) ≡ Refused TooManyBranching
-  unfolding asksNoFact askedTests list.searchTests one.searchTests place.searchTests place.factTests place.isNoSuchFact firstOf verdictIf
+  unfolding asksNoFact askedTests list.searchTests one.searchTests count.searchTests place.searchTests place.factTests place.isNoSuchFact firstOf verdictIf
   branching-refused question.List f h = rw h refl
   branching-refused question.One f h = rw h refl
   branching-refused question.Nearest f h = rw h refl
+  branching-refused question.Count f h = rw h refl
   branching-refused (question.Place fact) f h = rw (ap (λ (k : ℕ). not (ltb fact k)) (sym e) ∙ f, h) refl
 
   own-left : (q : Question) → asksNoFact q n ≡ false → hasTooManyBranching P ≡ false → firstOf (askedTests q P room) ≡ firstOf (ownTests q P room)
-  unfolding asksNoFact askedTests ownTests list.searchTests one.searchTests place.searchTests place.factTests place.isNoSuchFact firstOf verdictIf
+  unfolding asksNoFact askedTests ownTests list.searchTests one.searchTests count.searchTests place.searchTests place.factTests place.isNoSuchFact firstOf verdictIf
   own-left question.List f h = rw h refl
   own-left question.One f h = rw h refl
   own-left question.Nearest f h = rw h refl
+  own-left question.Count f h = rw h refl
   own-left (question.Place fact) f h = rw (ap (λ (k : ℕ). not (ltb fact k)) (sym e) ∙ f, h) refl
 
 pub fact-low : (fact n : ℕ) → n ≤ maxAtoms → asksNoFact (question.Place fact) n ≡ false → fact < maxAtoms
@@ -172,6 +191,7 @@ with-nothing question.List n a = tt
 with-nothing question.One n a = tt
 with-nothing (question.Place fact) n a = tt
 with-nothing question.Nearest n a = absurd a
+with-nothing question.Count n a = absurd a
 
 pub with-candidate : (n : ℕ) (candidate : List ℕ) → isBadCandidate n candidate ≡ false → AskedWith question.Nearest n candidate
 unfolding AskedWith
@@ -180,6 +200,14 @@ with-candidate n candidate e = e
 pub candidate-with : {q : Question} (n : ℕ) (asked : List ℕ) → q ≡ question.Nearest → AskedWith q n asked → isBadCandidate n asked ≡ false
 unfolding AskedWith
 candidate-with n asked e h = subst (λ (q : Question). AskedWith q n asked) e h
+
+pub with-code : (n : ℕ) (code : List ℕ) → StackFits code → AskedWith question.Count n code
+unfolding AskedWith
+with-code n code h = h
+
+pub code-with : {q : Question} (n : ℕ) (asked : List ℕ) → q ≡ question.Count → AskedWith q n asked → StackFits asked
+unfolding AskedWith
+code-with n asked e h = subst (λ (q : Question). AskedWith q n asked) e h
 
 -- ---- the state closest to a candidate
 module _ (P : Program) (n : ℕ) (size : n ≡ P .atoms) (candidate old : List ℕ) where
@@ -207,3 +235,38 @@ module _ (book : List ℕ) (layer off : ℕ) (candidate old : List ℕ) (v : Ver
         a .reply-is ∙ ap (λ (v : Verdict). Closest (near.replyOf v (programOf book layer off) (interpretationOf (bookOf book .atoms) candidate))) q,
         a .buffer-is ∙ ap (λ (v : Verdict). near.bufferOf v (programOf book layer off) (interpretationOf (bookOf book .atoms) candidate) old) q,
       )
+
+-- ---- the count
+-- the condition's reading, by its case
+module _ (s : List ℕ) (n : ℕ) (code : List ℕ) (r : Prepared) where
+  pub read-ready : {u : ℕ} → r ≡ prepared.Ready u → Prepares s n code r → ReadyTo s n code u
+  read-ready e h = subst (λ (x : Prepared). Prepares s n code x) e h
+
+  pub read-refused : {c : Cause} → r ≡ prepared.Refused c → Prepares s n code r → firstOf (conditionTests n s) ≡ Refused c
+  read-refused e h = subst (λ (x : Prepared). Prepares s n code x) e h
+
+module _ (P : Program) (n : ℕ) (size : n ≡ P .atoms) (condition : List ℕ) where
+  pub condition-refused : (c : Cause) → firstOf (conditionTests n condition) ≡ Refused c → {r : Answer} → r ≡ refusalOf question.Count c
+      → r ≡ Counting (count.replyOf (firstOf (count.fitTests P condition)) P (fitsText condition))
+  unfolding refusalOf count.replyOf
+  condition-refused c h e = e ∙ sym (ap (λ (v : Verdict). Counting (count.replyOf v P (fitsText condition))) (count-laws.condition-first P condition c (ap (λ (k : ℕ). firstOf (conditionTests k condition)) (sym size) ∙ h)))
+
+  pub condition-read : (code : List ℕ) (u : ℕ) → ReadyTo condition n code u → {r : Answer} {old new : List ℕ} → Answers question.Count (lentCode code u) (firstOf (askedTests question.Count P (length old))) P old r new
+      → r ≡ Counting (count.replyOf (firstOf (count.fitTests P condition)) P (fitsText condition))
+  unfolding askedTests replyBy
+  condition-read code u h a =
+      let same : codeHolds (lentCode code u) ≡ fitsText condition = λ i m. h .value m i in
+      a .reply-is ∙ ap (λ (p : Interpretation → Bool). Counting (count.replyOf (firstOf (count.searchTests P)) P p)) same
+      ∙ sym (ap (λ (v : Verdict). Counting (count.replyOf v P (fitsText condition))) (count-laws.search-last P condition (ap (λ (k : ℕ). firstOf (conditionTests k condition)) (sym size) ∙ h .none)))
+
+module _ (book : List ℕ) (layer off : ℕ) (condition : List ℕ) (v : Verdict) (e : v ≡ firstOf (layerTests book layer off)) where
+  pub count-refused : (c : Cause) → v ≡ Refused c → {r : Answer} → r ≡ refusalOf question.Count c → r ≡ Counting (count.countReply book layer off condition)
+  unfolding refusalOf count.replyOf count.countReply count.countTests
+  count-refused c h z =
+      z ∙ sym (ap (λ (v : Verdict). Counting (count.replyOf v (programOf book layer off) (fitsText condition))) (first-refused (layerTests book layer off) (count.fitTests (programOf book layer off) condition) c (sym e ∙ h)))
+
+  pub count-answered : v ≡ Accepted → {r : Answer} → r ≡ Counting (count.replyOf (firstOf (count.fitTests (programOf book layer off) condition)) (programOf book layer off) (fitsText condition))
+      → r ≡ Counting (count.countReply book layer off condition)
+  unfolding count.countReply count.countTests
+  count-answered h z =
+      z ∙ sym (ap (λ (v : Verdict). Counting (count.replyOf v (programOf book layer off) (fitsText condition))) (first-append (layerTests book layer off) (count.fitTests (programOf book layer off) condition) (sym e ∙ h)))

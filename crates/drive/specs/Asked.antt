@@ -18,21 +18,25 @@ use Rattle.list_call.specs.Reply as list
 use Rattle.one_call.specs.Reply as one
 use Rattle.near_call.specs.Reply as near
 use Rattle.place_call.specs.Reply as place
+use Rattle.count_call.specs.Reply as count
+use Rattle.condition.specs.Code.{codeHolds, StackFits}
 use Rattle.list_call.specs.declared.ListReply.the-variants as list-reply
 use Rattle.one_call.specs.declared.OneReply.the-variants as one-reply
 use Rattle.near_call.specs.declared.NearReply.the-variants as near-reply
 use Rattle.place_call.specs.declared.PlaceReply.the-variants as place-reply
+use Rattle.count_call.specs.declared.CountReply.the-variants as count-reply
 use Rattle.drive.specs.declared.Question.{Question}
 use Rattle.drive.specs.declared.Question.the-variants as question
 use Rattle.drive.specs.declared.Answer.{Answer}
-use Rattle.drive.specs.declared.Answer.the-variants.{Listing, State, Standing, Closest}
+use Rattle.drive.specs.declared.Answer.the-variants.{Listing, State, Standing, Closest, Counting}
 
--- the last causes, by the question: 13, 13 and 14, 14, or 13 and 14
+-- the last causes, by the question: 13, 13 and 14, 14, 13 and 14, or none
 unfoldable pub ownTests : Question → Program → ℕ → List Test
 ownTests question.List P room = list.roomTests P room
 ownTests question.One P room = one.roomTests P room
 ownTests (question.Place fact) P room = place.stateTests P
 ownTests question.Nearest P room = one.roomTests P room
+ownTests question.Count P room = []
 
 -- after the causes of the book and of the driven layer: 11 where a fact is asked for, 12, then the last
 unfoldable pub askedTests : Question → Program → ℕ → List Test
@@ -40,6 +44,7 @@ askedTests question.List P room = list.searchTests P room
 askedTests question.One P room = one.searchTests P room
 askedTests (question.Place fact) P room = place.factTests P fact
 askedTests question.Nearest P room = one.searchTests P room
+askedTests question.Count P room = count.searchTests P
 
 -- 11: the question is for a fact not below n
 unfoldable pub asksNoFact : Question → ℕ → Bool
@@ -47,13 +52,16 @@ asksNoFact question.List n = false
 asksNoFact question.One n = false
 asksNoFact (question.Place fact) n = not (ltb fact n)
 asksNoFact question.Nearest n = false
+asksNoFact question.Count n = false
 
--- what is handed over with a question about a book of n facts: a candidate, of which 10 is ruled out
+-- what is handed over with a question about a book of n facts: a candidate, of which 10 is ruled out, or a condition's code, which keeps to
+-- its stack
 unfoldable pub AskedWith : Question → ℕ → List ℕ → Type 0
 AskedWith question.List n asked = Unit {0}
 AskedWith question.One n asked = Unit {0}
 AskedWith (question.Place fact) n asked = Unit {0}
 AskedWith question.Nearest n asked = isBadCandidate n asked ≡ false
+AskedWith question.Count n asked = StackFits asked
 
 -- nothing is handed over with it
 abbrev pub Alone : Question → Type 0
@@ -61,12 +69,14 @@ Alone question.List = Unit {0}
 Alone question.One = Unit {0}
 Alone (question.Place fact) = Unit {0}
 Alone question.Nearest = ⊥
+Alone question.Count = ⊥
 
 unfoldable pub replyBy : Question → List ℕ → Verdict → Program → Answer
 replyBy question.List asked v P = Listing (list.replyOf v P)
 replyBy question.One asked v P = State (one.replyOf v P)
 replyBy (question.Place fact) asked v P = Standing (place.replyOf v P fact)
 replyBy question.Nearest asked v P = Closest (near.replyOf v P (interpretationOf (P .atoms) asked))
+replyBy question.Count asked v P = Counting (count.replyOf v P (codeHolds asked))
 
 -- what a refusal replies, whatever the program
 unfoldable pub refusalOf : Question → Cause → Answer
@@ -74,13 +84,15 @@ refusalOf question.List c = Listing (list-reply.Refused c)
 refusalOf question.One c = State (one-reply.Refused c)
 refusalOf (question.Place fact) c = Standing (place-reply.Refused c)
 refusalOf question.Nearest c = Closest (near-reply.Refused c)
+refusalOf question.Count c = Counting (count-reply.Refused c)
 
--- the buffer afterwards; a fact's place writes nothing
+-- the buffer afterwards; a fact's place and a count write nothing
 abbrev pub BufferBy : Question → List ℕ → Verdict → Program → List ℕ → List ℕ → Type 0
 BufferBy question.List asked v P old new = new ≡ list.bufferOf v P old
 BufferBy question.One asked v P old new = new ≡ one.bufferOf v P old
 BufferBy (question.Place fact) asked v P old new = new ≡ old
 BufferBy question.Nearest asked v P old new = new ≡ near.bufferOf v P (interpretationOf (P .atoms) asked) old
+BufferBy question.Count asked v P old new = new ≡ old
 
 -- the answer and the buffer that a verdict comes to
 pub record Answers (q : Question) (asked : List ℕ) (v : Verdict) (P : Program) (old : List ℕ) (r : Answer) (new : List ℕ) : Type 0 where

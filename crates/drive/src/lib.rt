@@ -12,8 +12,10 @@ ghost use Rattle.near_call.specs.Reply.{nearReply, nearBuffer};
 ghost use Rattle.accepted.specs.Accepted.{IsAccepted};
 ghost use Rattle.plan.specs.Plan.{plannedProgram};
 ghost use Rattle.passes.specs.SetUp.{Ready};
+ghost use Rattle.count_call.specs.Reply.{fitTests, replyOf, countReply};
+ghost use Rattle.condition.specs.Causes.{fitsText};
 ghost use Rattle.drive.specs.Asked.{ownTests, askedTests, asksNoFact, AskedWith, Alone, refusalOf, Answers, Asked, NearAt};
-ghost use Rattle.drive.specs.declared.Answer.the-variants.{Closest};
+ghost use Rattle.drive.specs.declared.Answer.the-variants.{Closest, Counting};
 use accepted::atom_count;
 use accepted::check_layer;
 use base::MAX_LAYERS;
@@ -21,6 +23,11 @@ use base::MAX_RULES;
 use book::Cause;
 use book::Verdict;
 use candidate::bad_candidate;
+use condition::CODE_BYTES;
+use condition::Prepared;
+use condition::prepare;
+use count_call::CountReply;
+use count_call::count_found;
 use list_call::ListReply;
 use list_call::list_models;
 use near_call::NearReply;
@@ -43,6 +50,8 @@ pub enum Question {
     Place(usize),
     // the state closest to the candidate that is handed over beside the question
     Nearest,
+    // how many states fit the condition whose code is handed over beside the question
+    Count,
 }
 
 pub enum Answer {
@@ -50,6 +59,7 @@ pub enum Answer {
     State(OneReply),
     Standing(PlaceReply),
     Closest(NearReply),
+    Counting(CountReply),
 }
 
 // Whether the question is for a fact that the book does not have.
@@ -61,6 +71,7 @@ fn asks_no_fact(question: Question, n: usize) -> bool
         Question::One => false,
         Question::Place(fact) => !(fact < n),
         Question::Nearest => false,
+        Question::Count => false,
     }
 }
 
@@ -72,6 +83,7 @@ fn refusal(question: Question, cause: Cause) -> Answer
         Question::One => Answer::State(OneReply::Refused(cause)),
         Question::Place(fact) => Answer::Standing(PlaceReply::Refused(cause)),
         Question::Nearest => Answer::Closest(NearReply::Refused(cause)),
+        Question::Count => Answer::Counting(CountReply::Refused(cause)),
     }
 }
 
@@ -95,6 +107,7 @@ fn find_answer(
         Question::One => Answer::State(one_found(book, rows, plan, sizes, buffer)),
         Question::Place(fact) => Answer::Standing(place_found(book, rows, plan, sizes, fact)),
         Question::Nearest => Answer::Closest(near_found(book, rows, plan, sizes, asked, buffer)),
+        Question::Count => Answer::Counting(count_found(book, rows, plan, sizes, asked)),
     }
 }
 
@@ -197,5 +210,52 @@ pub fn near(book: &[u8], layer: u32, off: u32, candidate: &[u8], buffer: &mut [u
     match v {
         Verdict::Refused(c) => refusal(Question::Nearest, c),
         Verdict::Accepted => near_at(book, layer as usize, off, lower, candidate, buffer),
+    }
+}
+
+// How many states fit a condition at a layer, once causes 1 to 9 and 19 are ruled out. It is read before the arrays of the search are
+// made, so that the stack has room for both in turn.
+fn count_at(
+    book: &[u8],
+    layer: usize,
+    off: u32,
+    lower: [u32; MAX_LAYERS],
+    condition: &[u8],
+) -> Answer
+    requires { ⌜ IsAccepted (now book) ⌝ }
+    requires { ⌜ layer < bookOf (now book) .layers ⌝ }
+    requires { ⌜ LowerMasks (arrowsOf (now book)) lower ⌝ }
+    ensures { λ r. ⌜ r ≡ Counting (replyOf (firstOf (fitTests (programOf (now (book .entry)) layer off) (now (condition .entry)))) (programOf (now (book .entry)) layer off) (fitsText (now (condition .entry)))) ⌝ }
+{
+    let n = atom_count(book);
+    let mut code: [u8; CODE_BYTES] = [0; CODE_BYTES];
+    let read = prepare(condition, n, &mut code);
+    match read {
+        Prepared::Refused(c) => refusal(Question::Count, c),
+        Prepared::Ready(u) => {
+            let mut none: [u8; 0] = [];
+            drive(
+                book,
+                layer,
+                off,
+                lower,
+                Question::Count,
+                &code[0..2 * u],
+                &mut none,
+            )
+        }
+    }
+}
+
+// Answers how many states of the book at the driven layer fit a condition, with the layers of a set switched off.
+pub fn count(book: &[u8], layer: u32, off: u32, condition: &[u8]) -> Answer
+    ensures { λ r. ⌜ r ≡ Counting (countReply (now (book .entry)) layer off (now (condition .entry))) ⌝ }
+{
+    let checked = check_layer(book, layer, off);
+    let lower = checked.lower;
+    let v = checked.verdict;
+    match v {
+        Verdict::Refused(c) => refusal(Question::Count, c),
+        Verdict::Accepted => count_at(book, layer as usize, off, lower, condition),
     }
 }

@@ -2,7 +2,7 @@
 use mathlib.Core.Path.{sym, ap, _∙_}
 use Rattle.drive.specs.declared.Question.{Question}
 use Rattle.drive.specs.Asked.{asksNoFact}
-use Rattle.drive.proofs.AskLaws.{listed, written, neared, placed, fact-low, candidate-with}
+use Rattle.drive.proofs.AskLaws.{listed, written, neared, placed, counted, fact-low, candidate-with, code-with}
 use Rattle.plan.specs.Plan.{planBans}
 use Rattle.search.proofs.AllowedLaws.{barred-size}
 use borrow.Author.Needs.{needs}
@@ -33,6 +33,12 @@ enum-told-3 c = search needs
 near-found-requires : tie.Need-near-found-requires
 near-found-requires c κs = (c .before .before .before .before .before .before .before .before .pre .0, candidate-with (c .before .before .before .before .before .before .before .before .args .sizes .n) (c .before .before .before .before .before .before .before .before .args .asked .now) (c .before .enum-told3 .given .1) (c .before .before .before .before .before .before .before .before .pre .1 .1))
 
+enum-told-4 : tie.Need-enum-told-4
+enum-told-4 c = search needs
+
+count-found-requires : tie.Need-count-found-requires
+count-found-requires c κs = (c .before .before .before .before .before .before .before .pre .0, code-with (c .before .before .before .before .before .before .before .args .sizes .n) (c .before .before .before .before .before .before .before .args .asked .now) (c .enum-told4 .given .1) (c .before .before .before .before .before .before .before .pre .1 .1))
+
 same-length : tie.Need-same-length
 same-length c = search needs
 
@@ -54,6 +60,9 @@ same-length-3 c = search needs
 returns-4 : tie.Need-returns-4
 returns-4 c = neared (c .before .before .before .before .enum-told3 .given .1) (c .before .before .before .before .before .before .before .before .before .before .before .args .sizes .n) (barred-size (c .before .before .before .before .before .before .before .before .before .before .before .pre .0 .table) (planBans (c .before .before .before .before .before .before .before .before .before .before .before .args .plan .now) (c .before .before .before .before .before .before .before .before .before .before .before .args .sizes .bans))) (c .before .before .near-found .ensures)
 
+returns-5 : tie.Need-returns-5
+returns-5 c = counted (c .before .enum-told4 .given .1) (c .count-found .ensures)
+
 pub find-answer-spec : {M : Type 1} → statement M
 find-answer-spec =
     tie.close
@@ -66,10 +75,13 @@ find-answer-spec =
     place-found-requires
     enum-told-3
     near-found-requires
+    enum-told-4
+    count-found-requires
     same-length
     returns
     same-length-2
     returns-2
     returns-3
     same-length-3
-    returns-4)
+    returns-4
+    returns-5)

@@ -18,6 +18,9 @@ enum-known-question c = search needs
 enum-told-3 : tie.Need-enum-told-3
 enum-told-3 c = search needs
 
+enum-told-4 : tie.Need-enum-told-4
+enum-told-4 c = search needs
+
 returns : tie.Need-returns
 unfolding refusalOf
 returns c = sym (ap (λ (q : Question). refusalOf q (c .before .before .args .cause)) (c .enum-told .given .1))
@@ -34,6 +37,10 @@ returns-4 : tie.Need-returns-4
 unfolding refusalOf
 returns-4 c = sym (ap (λ (q : Question). refusalOf q (c .before .before .args .cause)) (c .enum-told3 .given .1))
 
+returns-5 : tie.Need-returns-5
+unfolding refusalOf
+returns-5 c = sym (ap (λ (q : Question). refusalOf q (c .before .before .args .cause)) (c .enum-told4 .given .1))
+
 pub refusal-spec : {M : Type 1} → statement M
 refusal-spec =
     tie.close
@@ -42,7 +49,9 @@ refusal-spec =
     enum-told-2
     enum-known-question
     enum-told-3
+    enum-told-4
     returns
     returns-2
     returns-3
-    returns-4)
+    returns-4
+    returns-5)
