@@ -12,7 +12,7 @@ use Rattle.base.specs.Bounds.{maxAtoms, maxBranching}
 use Rattle.book.specs.Causes.{verdict}
 use Rattle.book.specs.Numbers.{numberOf}
 use Rattle.book.specs.declared.Cause.{Cause}
-use Rattle.book.specs.declared.Cause.the-variants.{TooShort, WrongVersion, WrongLength, BrokenSection, OutOfRange, BadRecord, RepeatedArrow, Cycle, NoSuchLayer, NoSuchLayerOff, BadCandidate, NoSuchFact, TooManyBranching, BufferTooShort, NoStableState}
+use Rattle.book.specs.declared.Cause.the-variants.{TooShort, WrongVersion, WrongLength, BrokenSection, OutOfRange, BadRecord, RepeatedArrow, Cycle, NoSuchLayer, NoSuchLayerOff, BadCandidate, BadCondition, TooDeep, NoSuchFact, TooManyBranching, BufferTooShort, NoStableState}
 use Rattle.book.specs.declared.Verdict.{Verdict}
 use Rattle.book.specs.declared.Verdict.the-variants.{Accepted, Refused}
 use Rattle.list_call.specs.Condition3.{Call, Granted}
@@ -31,17 +31,20 @@ use Rattle.place_call.specs.declared.Place.{Place}
 use Rattle.place_call.specs.declared.Place.the-variants.{Every, InSome, Nowhere}
 use Rattle.place_call.specs.declared.PlaceReply.{PlaceReply}
 use Rattle.place_call.specs.declared.PlaceReply.the-variants as place
+use Rattle.count_call.specs.Reply.{countReply}
+use Rattle.count_call.specs.declared.CountReply.{CountReply}
+use Rattle.count_call.specs.declared.CountReply.the-variants as count
 use Rattle.test_call.specs.Reply.{testReply}
 use Rattle.test_call.specs.declared.TestReply.{TestReply}
 use Rattle.test_call.specs.declared.TestReply.the-variants as reply
-use Rattle.lesson.specs.Answers.{checkAnswer, testAnswer, listAnswer, oneAnswer, placeAnswer, nearAnswer}
-use Rattle.lesson.specs.Host.{lessonGranted, lessonIsStable, lessonBranchingCount, lessonStateCount, lessonDistance, lessonPlaceOf, placeNumber, Reading, readBy, grantedWith, refusedFor, checkTold, testTold, listTold, oneTold, placeTold, nearTold, Given, HostReads, AnswersRead, NumbersDiffer, listNumber, statesRead, branchingRead, Condition3Read}
-use Rattle.lesson.proofs.AnswerLaws.{list-small, one-small, place-small, near-small}
+use Rattle.lesson.specs.Answers.{checkAnswer, testAnswer, listAnswer, oneAnswer, placeAnswer, nearAnswer, countAnswer}
+use Rattle.lesson.specs.Host.{lessonGranted, lessonIsStable, lessonBranchingCount, lessonStateCount, lessonDistance, lessonPlaceOf, placeNumber, Reading, readBy, grantedWith, refusedFor, checkTold, testTold, listTold, oneTold, placeTold, nearTold, Given, HostReads, AnswersRead, NumbersDiffer, listNumber, statesRead, branchingRead, Condition3Read, Counts, lessonCounts, countTold}
+use Rattle.lesson.proofs.AnswerLaws.{list-small, one-small, place-small, near-small, count-small}
 
 -- ---- the numbers of the causes
--- those of 1 to 14
+-- those of 1 to 17; there is no 15
 causes : List Cause
-causes = TooShort ∷ WrongVersion ∷ WrongLength ∷ BrokenSection ∷ OutOfRange ∷ BadRecord ∷ RepeatedArrow ∷ Cycle ∷ NoSuchLayer ∷ BadCandidate ∷ NoSuchFact ∷ TooManyBranching ∷ BufferTooShort ∷ NoStableState ∷ []
+causes = TooShort ∷ WrongVersion ∷ WrongLength ∷ BrokenSection ∷ OutOfRange ∷ BadRecord ∷ RepeatedArrow ∷ Cycle ∷ NoSuchLayer ∷ BadCandidate ∷ NoSuchFact ∷ TooManyBranching ∷ BufferTooShort ∷ NoStableState ∷ NoStableState ∷ BadCondition ∷ TooDeep ∷ []
 
 causeNumbered : ℕ → Cause
 causeNumbered n = getD causes (n - 1) NoSuchLayerOff
@@ -60,6 +63,8 @@ numbered Cycle = (refl, tt, tt)
 numbered NoSuchLayer = (refl, tt, tt)
 numbered NoSuchLayerOff = (refl, tt, tt)
 numbered BadCandidate = (refl, tt, tt)
+numbered BadCondition = (refl, tt, tt)
+numbered TooDeep = (refl, tt, tt)
 numbered NoSuchFact = (refl, tt, tt)
 numbered TooManyBranching = (refl, tt, tt)
 numbered BufferTooShort = (refl, tt, tt)
@@ -200,7 +205,7 @@ place-meant (place.Refused c) = meant-refused placed-with place.Refused c 0
 near-read : (r : NearReply) → ((d g : ℕ) → r ≡ near.Written d g → (d ≤ maxAtoms) × (g ≤ maxBranching)) → readBy lessonDistance (nearAnswer r) ≡ nearTold r
 near-read (near.Written d g) small =
     let s : (d ≤ maxAtoms) × (g ≤ maxBranching) = small d g refl in granted-read lessonDistance g d (nearAnswer (near.Written d g)) d (omega arith) (s .1) (omega (arith, s .0, s .1))
-near-read (near.Refused c) small = states-refused c
+near-read (near.Refused c) small = refused-read lessonDistance c 0 (omega (arith, number-high c))
 
 written-with : ℕ → ℕ → NearReply
 written-with g d = near.Written d g
@@ -209,6 +214,26 @@ near-meant : (r : NearReply) → meant written-with near.Refused (nearTold r) �
 unfolding written-with
 near-meant (near.Written d g) = meant-granted written-with near.Refused g d
 near-meant (near.Refused c) = meant-refused written-with near.Refused c 0
+
+-- ---- lesson_count
+same-counts : {x y : Counts} → x .states ≡ y .states → x .fitting ≡ y .fitting → x ≡ y
+same-counts a b = λ i. record { states = a i; fitting = b i }
+
+count-read : (r : CountReply) → ((k g c : ℕ) → r ≡ count.Counted k g c → (k ≤ 2 ^ maxBranching) × (g ≤ maxBranching) × (c ≤ k)) → readBy lessonCounts (countAnswer r) ≡ countTold r
+count-read (count.Counted k g c) small =
+    let s : (k ≤ 2 ^ maxBranching) × (g ≤ maxBranching) × (c ≤ k) = small k g c refl in
+    granted-read lessonCounts g (c * 16777216 + k) (countAnswer (count.Counted k g c)) (record { states = k; fitting = c }) (omega arith) (s .1)
+    (same-counts (omega (arith, s .0, s .1, s .2)) (omega (arith, s .0, s .1, s .2)))
+count-read (count.Refused c) small =
+    refused-read lessonCounts c (record { states = 0; fitting = 0 }) (same-counts (omega (arith, number-high c)) (omega (arith, number-high c)))
+
+counted-with : ℕ → Counts → CountReply
+counted-with g x = count.Counted (x .states) g (x .fitting)
+
+count-meant : (r : CountReply) → meant counted-with count.Refused (countTold r) ≡ r
+unfolding counted-with
+count-meant (count.Counted k g c) = meant-granted counted-with count.Refused g (record { states = k; fitting = c })
+count-meant (count.Refused c) = meant-refused counted-with count.Refused c (record { states = 0; fitting = 0 })
 
 -- What a host reads from the number of each call is what the reply has to tell, and no two replies share a number.
 pub answers-read : AnswersRead
@@ -227,6 +252,9 @@ answers-read = record {
   lesson-nearest =
       host-reads written-with near.Refused _ nearAnswer lessonDistance nearTold
       (λ x. near-read (nearReply (x .book) (x .layer) (x .off) (x .candidate) (x .buffer)) (λ d g e. near-small (x .book) (x .layer) (x .off) (x .candidate) (x .buffer) (nearReply (x .book) (x .layer) (x .off) (x .candidate) (x .buffer)) d g refl e)) near-meant;
+  lesson-count =
+      host-reads counted-with count.Refused _ countAnswer lessonCounts countTold
+      (λ x. count-read (countReply (x .book) (x .layer) (x .off) (x .condition)) (λ k g c e. count-small (x .book) (x .layer) (x .off) (x .condition) (countReply (x .book) (x .layer) (x .off) (x .condition)) k g c refl e)) count-meant;
 }
 
 -- ---- condition 3, of the number
@@ -238,7 +266,7 @@ granted-reply (list.Refused c) e t = absurd (false≢true (sym (ap (λ (x : Read
 
 pub granted-call : (c : Call) → lessonGranted (listNumber c) ≡ true → Granted c (statesRead c) (branchingRead c)
 granted-call c t =
-    granted-reply (listReply (c .book) (c .layer) (c .off) (c .buffer)) (answers-read .lesson-list .reads (record { book = c .book; layer = c .layer; off = c .off; candidate = []; buffer = c .buffer; fact = 0 })) t
+    granted-reply (listReply (c .book) (c .layer) (c .off) (c .buffer)) (answers-read .lesson-list .reads (record { book = c .book; layer = c .layer; off = c .off; candidate = []; buffer = c .buffer; fact = 0; condition = [] })) t
 
 -- Condition 3 holds with the k and the g that a host reads from the number of lesson_list.
 pub condition3-read : Condition3Read

@@ -39,7 +39,7 @@ module _ (book : List ℕ) (layer off : ℕ) where
 
   module _ (buffer : List ℕ) (t : OneGranted book layer off buffer) where
     granted : (g : ℕ) × (oneReply book layer off buffer ≡ one.Written g)
-    granted = granted-one (oneReply book layer off buffer) (answers-read .lesson-one .reads (record { book = book; layer = layer; off = off; candidate = []; buffer = buffer; fact = 0 })) t
+    granted = granted-one (oneReply book layer off buffer) (answers-read .lesson-one .reads (record { book = book; layer = layer; off = off; candidate = []; buffer = buffer; fact = 0; condition = [] })) t
 
     written : stateWritten book layer off buffer ≡ first
     written = ap (take (recordSize n)) (granted-bytes book layer off buffer (granted .0) (granted .1)) ∙ take-at first (drop (recordSize n) buffer) (recordSize n) (record-length n (getD (stableModels P) 0 []))

@@ -18,12 +18,15 @@ use Rattle.one_call.specs.declared.OneReply.{OneReply}
 use Rattle.near_call.specs.Reply as near
 use Rattle.near_call.specs.declared.NearReply.{NearReply}
 use Rattle.place_call.specs.Reply as place
+use Rattle.count_call.specs.Reply as count
+use Rattle.count_call.specs.declared.CountReply.{CountReply}
+use Rattle.condition.specs.Causes.{fitsText}
 use Rattle.place_call.specs.declared.PlaceReply.{PlaceReply}
 use Rattle.lesson.specs.SwitchedOff.{NothingOff}
 
 module _ (book : List ℕ) (layer : ℕ) where
   pub nothing-off : NothingOff book layer
-  unfolding test.testReply test.testTests list.listReply list.listBuffer list.listTests one.oneReply one.oneBuffer one.oneTests place.placeReply place.placeTests near.nearReply near.nearBuffer near.nearTests
+  unfolding test.testReply test.testTests list.listReply list.listBuffer list.listTests one.oneReply one.oneBuffer one.oneTests place.placeReply place.placeTests near.nearReply near.nearBuffer near.nearTests count.countReply count.countTests
   nothing-off = record {
     test-reply = λ candidate.
         answers-none TestReply (λ P. record { cause = BadCandidate; applies = isBadCandidate (bookOf book .atoms) candidate } ∷ [])
@@ -37,4 +40,5 @@ module _ (book : List ℕ) (layer : ℕ) where
         answers-none NearReply (λ P. near.candidateTests P candidate (length old)) (λ v P. near.replyOf v P (interpretationOf (bookOf book .atoms) candidate)) book layer;
     near-bytes = λ candidate old.
         answers-none (List ℕ) (λ P. near.candidateTests P candidate (length old)) (λ v P. near.bufferOf v P (interpretationOf (bookOf book .atoms) candidate) old) book layer;
+    count-reply = λ condition. answers-none CountReply (λ P. count.fitTests P condition) (λ v P. count.replyOf v P (fitsText condition)) book layer;
   }

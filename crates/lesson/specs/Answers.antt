@@ -16,8 +16,10 @@ use Rattle.place_call.specs.declared.Place.{Place}
 use Rattle.place_call.specs.declared.Place.the-variants.{Every, InSome, Nowhere}
 use Rattle.place_call.specs.declared.PlaceReply.{PlaceReply}
 use Rattle.place_call.specs.declared.PlaceReply.the-variants as place
+use Rattle.count_call.specs.declared.CountReply.{CountReply}
+use Rattle.count_call.specs.declared.CountReply.the-variants as count
 use Rattle.drive.specs.declared.Answer.{Answer}
-use Rattle.drive.specs.declared.Answer.the-variants.{Listing, State, Standing, Closest}
+use Rattle.drive.specs.declared.Answer.the-variants.{Listing, State, Standing, Closest, Counting}
 use Rattle.test_call.specs.declared.TestReply.{TestReply}
 use Rattle.test_call.specs.declared.TestReply.the-variants as reply
 
@@ -57,12 +59,18 @@ abbrev pub nearAnswer : NearReply → ℕ
 nearAnswer (near.Written d g) = d * 65536 + g * 256
 nearAnswer (near.Refused c) = numberOf c
 
+-- lesson_count: g in bits 8 to 15, k in bits 16 to 39, the count from bit 40 on
+abbrev pub countAnswer : CountReply → ℕ
+countAnswer (count.Counted k g c) = c * 1099511627776 + k * 65536 + g * 256
+countAnswer (count.Refused c) = numberOf c
+
 -- a call that searches
 abbrev pub answerOf : Answer → ℕ
 answerOf (Listing r) = listAnswer r
 answerOf (State r) = oneAnswer r
 answerOf (Standing r) = placeAnswer r
 answerOf (Closest r) = nearAnswer r
+answerOf (Counting r) = countAnswer r
 
 -- k and g keep to their bits; proofs/AnswerLaws.antt proves it of every reply that a call gives
 abbrev pub ListFits : ListReply → Type 0
@@ -77,8 +85,12 @@ PlaceFits r = (p : Place) (g : ℕ) → r ≡ place.Placed p g → g ≤ maxBran
 abbrev pub NearFits : NearReply → Type 0
 NearFits r = (d g : ℕ) → r ≡ near.Written d g → (d ≤ maxAtoms) × (g ≤ maxBranching)
 
+abbrev pub CountFits : CountReply → Type 0
+CountFits r = (k g c : ℕ) → r ≡ count.Counted k g c → (k ≤ 2 ^ maxBranching) × (g ≤ maxBranching) × (c ≤ k)
+
 abbrev pub Fits : Answer → Type 0
 Fits (Listing r) = ListFits r
 Fits (State r) = OneFits r
 Fits (Standing r) = PlaceFits r
 Fits (Closest r) = NearFits r
+Fits (Counting r) = CountFits r

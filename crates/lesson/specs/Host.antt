@@ -26,10 +26,13 @@ use Rattle.place_call.specs.declared.Place.{Place}
 use Rattle.place_call.specs.declared.Place.the-variants.{Every, InSome, Nowhere}
 use Rattle.place_call.specs.declared.PlaceReply.{PlaceReply}
 use Rattle.place_call.specs.declared.PlaceReply.the-variants as place
+use Rattle.count_call.specs.Reply.{countReply}
+use Rattle.count_call.specs.declared.CountReply.{CountReply}
+use Rattle.count_call.specs.declared.CountReply.the-variants as count
 use Rattle.test_call.specs.Reply.{testReply}
 use Rattle.test_call.specs.declared.TestReply.{TestReply}
 use Rattle.test_call.specs.declared.TestReply.the-variants as reply
-use Rattle.lesson.specs.Answers.{checkAnswer, testAnswer, listAnswer, oneAnswer, placeAnswer, nearAnswer}
+use Rattle.lesson.specs.Answers.{checkAnswer, testAnswer, listAnswer, oneAnswer, placeAnswer, nearAnswer, countAnswer}
 
 -- ---- the functions of include/lesson.h, each behind its C. Of a number below 2^64, x >> 8 is x / 256, x & 0xFF is x % 256, and
 -- (uint32_t)x is x % 4294967296.
@@ -50,9 +53,13 @@ lessonIsStable answer = not (eqb (answer / 65536 % 2) 0)
 abbrev pub lessonBranchingCount : ℕ → ℕ
 lessonBranchingCount answer = answer / 256 % 256 % 4294967296
 
--- (uint32_t)(answer >> 16)
+-- (uint32_t)(answer >> 16 & 0xFFFFFF)
 abbrev pub lessonStateCount : ℕ → ℕ
-lessonStateCount answer = answer / 65536 % 4294967296
+lessonStateCount answer = answer / 65536 % 16777216 % 4294967296
+
+-- (uint32_t)(answer >> 40)
+abbrev pub lessonFitCount : ℕ → ℕ
+lessonFitCount answer = answer / 1099511627776 % 4294967296
 
 -- (uint32_t)(answer >> 16)
 abbrev pub lessonDistance : ℕ → ℕ
@@ -68,6 +75,14 @@ placeNumber Nowhere = 0
 placeNumber InSome = 1
 placeNumber Every = 2
 
+-- what lesson_count's number carries besides g: k and the count
+pub record Counts : Type 0 where
+  pub states : ℕ
+  pub fitting : ℕ
+
+abbrev pub lessonCounts : ℕ → Counts
+lessonCounts answer = record { states = lessonStateCount answer; fitting = lessonFitCount answer }
+
 -- ---- what a host learns from an answer
 pub record Reading (A : Type 0) : Type 0 where
   pub granted : Bool
@@ -75,7 +90,7 @@ pub record Reading (A : Type 0) : Type 0 where
   pub cause : ℕ
   -- g
   pub branching : ℕ
-  -- what the call tells besides: k, yes or no, a place, or how many facts differ
+  -- what the call tells besides: k, yes or no, a place, how many facts differ, or k and a count
   pub own : A
 
 -- by the functions above, and the one that is the call's own
@@ -122,6 +137,11 @@ abbrev pub nearTold : NearReply → Reading ℕ
 nearTold (near.Written d g) = grantedWith g d
 nearTold (near.Refused c) = refusedFor c 0
 
+-- lesson_count, by lessonStateCount and lessonFitCount: k and the count
+abbrev pub countTold : CountReply → Reading Counts
+countTold (count.Counted k g c) = grantedWith g (record { states = k; fitting = c })
+countTold (count.Refused c) = refusedFor c (record { states = 0; fitting = 0 })
+
 -- ---- what is promised
 -- what a host hands to a call; each call takes its part of it
 pub record Given : Type 0 where
@@ -131,6 +151,7 @@ pub record Given : Type 0 where
   pub candidate : List ℕ
   pub buffer : List ℕ
   pub fact : ℕ
+  pub condition : List ℕ
 
 -- Of a call, whatever it is given: a host reads from its number what its reply has to tell, so that the low byte is 0 exactly where
 -- the call is granted; and no two replies share a number. `answer (reply x)` is the number that the contract in src/lib.rt promises.
@@ -146,6 +167,7 @@ pub record AnswersRead : Type 0 where
   pub lesson-one : HostReads (λ x. oneReply (x .book) (x .layer) (x .off) (x .buffer)) oneAnswer lessonStateCount oneTold
   pub lesson-place : HostReads (λ x. placeReply (x .book) (x .layer) (x .off) (x .fact)) placeAnswer lessonPlaceOf placeTold
   pub lesson-nearest : HostReads (λ x. nearReply (x .book) (x .layer) (x .off) (x .candidate) (x .buffer)) nearAnswer lessonDistance nearTold
+  pub lesson-count : HostReads (λ x. countReply (x .book) (x .layer) (x .off) (x .condition)) countAnswer lessonCounts countTold
 
 -- Each cause has a number of its own, and none has 0.
 pub record NumbersDiffer : Type 0 where

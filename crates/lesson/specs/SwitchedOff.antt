@@ -20,6 +20,8 @@ use Rattle.list_call.specs.Reply as list
 use Rattle.one_call.specs.Reply as one
 use Rattle.near_call.specs.Reply as near
 use Rattle.place_call.specs.Reply as place
+use Rattle.count_call.specs.Reply as count
+use Rattle.condition.specs.Causes.{fitsText}
 
 module _ (book : List ℕ) (layer : ℕ) where
   -- document 01's program at the driven layer
@@ -42,6 +44,9 @@ module _ (book : List ℕ) (layer : ℕ) where
   abbrev pub nearVerdict : List ℕ → List ℕ → Verdict
   nearVerdict candidate old = firstOf (wholeTests book layer ++ near.candidateTests whole candidate (length old))
 
+  abbrev pub countVerdict : List ℕ → Verdict
+  countVerdict condition = firstOf (wholeTests book layer ++ count.fitTests whole condition)
+
   pub record NothingOff : Type 0 where
     pub test-reply : (candidate : List ℕ)
         → test.testReply book layer 0 candidate ≡ test.replyOf (testVerdict candidate) (stable whole (interpretationOf (bookOf book .atoms) candidate))
@@ -54,3 +59,4 @@ module _ (book : List ℕ) (layer : ℕ) where
         → near.nearReply book layer 0 candidate old ≡ near.replyOf (nearVerdict candidate old) whole (interpretationOf (bookOf book .atoms) candidate)
     pub near-bytes : (candidate old : List ℕ)
         → near.nearBuffer book layer 0 candidate old ≡ near.bufferOf (nearVerdict candidate old) whole (interpretationOf (bookOf book .atoms) candidate) old
+    pub count-reply : (condition : List ℕ) → count.countReply book layer 0 condition ≡ count.replyOf (countVerdict condition) whole (fitsText condition)

@@ -8,13 +8,16 @@ ghost use Rattle.list_call.specs.Reply.{listReply, listBuffer};
 ghost use Rattle.one_call.specs.Reply.{oneReply, oneBuffer};
 ghost use Rattle.near_call.specs.Reply.{nearReply, nearBuffer};
 ghost use Rattle.place_call.specs.Reply.{placeReply};
-ghost use Rattle.lesson.specs.Answers.{checkAnswer, testAnswer, listAnswer, oneAnswer, placeBits, placeAnswer, nearAnswer, answerOf, ListFits, OneFits, PlaceFits, NearFits, Fits};
+ghost use Rattle.count_call.specs.Reply.{countReply};
+ghost use Rattle.lesson.specs.Answers.{checkAnswer, testAnswer, listAnswer, oneAnswer, placeBits, placeAnswer, nearAnswer, answerOf, ListFits, OneFits, PlaceFits, NearFits, Fits, countAnswer, CountFits};
 use book::Verdict;
 use book::cause_number;
 use book::check;
+use count_call::CountReply;
 use drive::Answer;
 use drive::Question;
 use drive::ask;
+use drive::count;
 use drive::near;
 use list_call::ListReply;
 use near_call::NearReply;
@@ -117,6 +120,19 @@ fn near_number(r: NearReply) -> u64
     }
 }
 
+// How the reply of a count is answered: g in bits 8 to 15, k in bits 16 to 39, the count from bit 40 on.
+fn count_number(r: CountReply) -> u64
+    requires { ⌜ CountFits r ⌝ }
+    ensures { λ n. ⌜ n ≡ countAnswer r ⌝ }
+{
+    match r {
+        CountReply::Counted(k, g, c) => {
+            (c as u64) * 1099511627776 + (k as u64) * 65536 + (g as u64) * 256
+        }
+        CountReply::Refused(c) => cause_number(c),
+    }
+}
+
 // How the answer of a call that searches is told.
 fn answer_number(a: Answer) -> u64
     requires { ⌜ Fits a ⌝ }
@@ -127,6 +143,7 @@ fn answer_number(a: Answer) -> u64
         Answer::State(r) => one_number(r),
         Answer::Standing(r) => place_number(r),
         Answer::Closest(r) => near_number(r),
+        Answer::Counting(r) => count_number(r),
     }
 }
 
@@ -175,4 +192,13 @@ pub extern "C" fn lesson_nearest(
     ensures bytes { λ _. ⌜ now (buffer .exit) ≡ nearBuffer (now (book .entry)) layer off (now (candidate .entry)) (now (buffer .entry)) ⌝ }
 {
     answer_number(near(book, layer, off, candidate, buffer))
+}
+
+// In how many stable states of a book at a layer, with the layers of a set switched off, a condition holds, or the first of causes 1 to
+// 9, 19, 16, 17, 11 and 12 that applies. The answer carries the count, k and g.
+#[no_mangle]
+pub extern "C" fn lesson_count(book: &[u8], layer: u32, off: u32, condition: &[u8]) -> u64
+    ensures { λ r. ⌜ r ≡ countAnswer (countReply (now (book .entry)) layer off (now (condition .entry))) ⌝ }
+{
+    answer_number(count(book, layer, off, condition))
 }

@@ -115,6 +115,7 @@ fn show(book: &[u8]) {
         Answer::State(reply) => {}
         Answer::Standing(reply) => {}
         Answer::Closest(reply) => {}
+        Answer::Counting(reply) => {}
     }
 }
 

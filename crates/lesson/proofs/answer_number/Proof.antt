@@ -29,6 +29,12 @@ enum-known-a-4 c = search needs
 near-number-requires : tie.Need-near-number-requires
 near-number-requires c κs = subst Fits (c .before .a4 .given .1) (c .before .before .before .pre)
 
+enum-known-a-5 : tie.Need-enum-known-a-5
+enum-known-a-5 c = search needs
+
+count-number-requires : tie.Need-count-number-requires
+count-number-requires c κs = subst Fits (c .before .a5 .given .1) (c .before .before .before .pre)
+
 returns : tie.Need-returns
 returns c = c .list-number .ensures ∙ sym (ap answerOf (c .before .before .a .given .1))
 
@@ -40,6 +46,9 @@ returns-3 c = c .place-number .ensures ∙ sym (ap answerOf (c .before .before .
 
 returns-4 : tie.Need-returns-4
 returns-4 c = c .near-number .ensures ∙ sym (ap answerOf (c .before .before .a4 .given .1))
+
+returns-5 : tie.Need-returns-5
+returns-5 c = c .count-number .ensures ∙ sym (ap answerOf (c .before .before .a5 .given .1))
 
 pub answer-number-spec : {M : Type 1} → statement M
 answer-number-spec =
@@ -53,7 +62,10 @@ answer-number-spec =
     place-number-requires
     enum-known-a-4
     near-number-requires
+    enum-known-a-5
+    count-number-requires
     returns
     returns-2
     returns-3
-    returns-4)
+    returns-4
+    returns-5)
