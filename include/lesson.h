@@ -71,21 +71,27 @@ enum lesson_cause_number {
     LESSON_NO_SUCH_LAYER = 9,       /* driven layer that the book does not have */
     LESSON_NO_SUCH_LAYER_OFF = 19,  /* set of layers with one that the book does not have */
     LESSON_BAD_CANDIDATE = 10,      /* candidate of another length, or a spare bit set */
-    LESSON_NO_SUCH_FACT = 11,       /* fact that the book does not have */
+    LESSON_BAD_CONDITION = 16,      /* condition: empty, over 255 bytes, or outside the grammar */
+    LESSON_TOO_DEEP = 17,           /* condition: brackets nested over 16 deep */
+    LESSON_NO_SUCH_FACT = 11,       /* fact that the book does not have, also one that a condition
+                                       names */
     LESSON_TOO_MANY_BRANCHING = 12, /* more than 20 branching facts */
     LESSON_BUFFER_TOO_SHORT = 13,   /* buffer shorter than what would be written */
     LESSON_NO_STABLE_STATE = 14     /* the book has no stable state at the driven layer */
 };
 
-/* The most facts of a book and the most states of a listing, and the most bytes of
- * a book, a record and a listing: checked against what the engine says by
- * tests/c/bounds_host.c, and the book's by tests/c/stack.c. */
+/* The most facts of a book and the most states of a listing, the most bytes of a
+ * book, a record and a listing, and the most bytes and the deepest brackets of a
+ * condition: checked against what the engine says by tests/c/bounds_host.c, the
+ * book's by tests/c/stack.c, and the condition's by tests/c/count_host.c. */
 enum lesson_bound {
     LESSON_MOST_FACTS = 1024,
     LESSON_MOST_STATES = 1048576,
     LESSON_LARGEST_BOOK = 38372,
     LESSON_LONGEST_RECORD = 128,
-    LESSON_LARGEST_LISTING = 134217739
+    LESSON_LARGEST_LISTING = 134217739,
+    LESSON_LONGEST_CONDITION = 255,
+    LESSON_DEEPEST_BRACKETS = 16
 };
 
 /* The most bytes of stack that each call uses below its caller's frame, whatever
@@ -98,7 +104,8 @@ enum lesson_stack_bytes {
     LESSON_LIST_STACK = 116736,
     LESSON_ONE_STACK = 114688,
     LESSON_PLACE_STACK = 116736,
-    LESSON_NEAREST_STACK = 116736
+    LESSON_NEAREST_STACK = 116736,
+    LESSON_COUNT_STACK = 117760
 };
 
 /* The cause that an answer names; LESSON_GRANTED where there is none. */
@@ -126,10 +133,18 @@ static inline uint32_t lesson_branching_count(uint64_t answer)
     return (uint32_t)(answer >> 8 & 0xFF);
 }
 
-/* lesson_list: the number k of stable states; 0 after a refusal. */
+/* lesson_list and lesson_count: the number k of stable states; 0 after a refusal.
+ * It has 24 bits, as the count of lesson_count stands above it. */
 static inline uint32_t lesson_state_count(uint64_t answer)
 {
-    return (uint32_t)(answer >> 16);
+    return (uint32_t)(answer >> 16 & 0xFFFFFF);
+}
+
+/* lesson_count: the number of stable states in which the condition holds; 0 after
+ * a refusal. */
+static inline uint32_t lesson_fit_count(uint64_t answer)
+{
+    return (uint32_t)(answer >> 40);
 }
 
 /* lesson_nearest: in how many facts the state that was written differs from the
@@ -204,7 +219,7 @@ uint64_t lesson_test(const uint8_t *book, size_t book_len, uint32_t layer, uint3
  * Numbers are big-endian. k is at most 2 to the power g. A buffer of
  * LESSON_LARGEST_LISTING bytes holds every listing.
  *
- * Answers g in bits 8 to 15 (lesson_branching_count) and k from bit 16 on
+ * Answers g in bits 8 to 15 (lesson_branching_count) and k in bits 16 to 39
  * (lesson_state_count), or the first of LESSON_TOO_SHORT to
  * LESSON_NO_SUCH_LAYER, LESSON_NO_SUCH_LAYER_OFF, LESSON_TOO_MANY_BRANCHING and
  * LESSON_BUFFER_TOO_SHORT that applies. The time grows with 2 to the power g.
@@ -276,6 +291,42 @@ uint64_t lesson_place(const uint8_t *book, size_t book_len, uint32_t layer, uint
 uint64_t lesson_nearest(const uint8_t *book, size_t book_len, uint32_t layer, uint32_t off,
                         const uint8_t *candidate, size_t candidate_len, uint8_t *buffer,
                         size_t buffer_len);
+
+/*
+ * Counts the stable states of a book at the driven layer in which a condition
+ * holds. Writes nothing. A book without stable states is not refused here: it has
+ * 0 of 0.
+ *
+ * book, book_len: the book, any bytes.
+ * layer: the driven layer, counted from 0, any number.
+ * off: the set of layers that are switched off, any number.
+ * condition, condition_len: the condition as text, any bytes, without a NUL at its
+ * end. A lawful one has 1 to LESSON_LONGEST_CONDITION bytes, all of them among the
+ * digits and ! & | ( ), and is made so:
+ *
+ *   condition: conjunctions with | between them; it holds where one of them holds
+ *   conjunction: parts with & between them; it holds where all of them hold
+ *   part: a name, or ( condition ), or ! and a part, which holds where the part
+ *         does not
+ *   name: a fact's number, counted from 0, of one to four digits, leading zeros
+ *         allowed; it holds where the fact stands
+ *
+ * So ! binds tightest, then &, then |, and 3&!14|(2&5) holds where fact 3 stands
+ * and fact 14 does not, and where facts 2 and 5 both stand. There are no blanks.
+ * Brackets may be nested LESSON_DEEPEST_BRACKETS deep, and ! repeated as often as
+ * there is room.
+ *
+ * Answers g in bits 8 to 15 (lesson_branching_count), k in bits 16 to 39
+ * (lesson_state_count) and the number of states in which the condition holds in
+ * bits 40 to 63 (lesson_fit_count), or the first of LESSON_TOO_SHORT to
+ * LESSON_NO_SUCH_LAYER, LESSON_NO_SUCH_LAYER_OFF and LESSON_BAD_CONDITION to
+ * LESSON_TOO_MANY_BRANCHING that applies. A condition outside the grammar is that
+ * however deep its brackets are, and one whose brackets are too deep is that
+ * whatever facts it names. The time grows with 2 to the power g; the condition is
+ * read once a call, and then tried on each state.
+ */
+uint64_t lesson_count(const uint8_t *book, size_t book_len, uint32_t layer, uint32_t off,
+                      const uint8_t *condition, size_t condition_len);
 
 #ifdef __cplusplus
 }
