@@ -23,11 +23,11 @@
 /* The first of the facts that stand with the free ones. */
 #define HELPERS (FACTS - 200u)
 
-enum call { EMPTY, CHECK, TEST, LIST, ONE, PLACE, NEAREST, CALLS };
+enum call { EMPTY, CHECK, TEST, LIST, ONE, PLACE, NEAREST, COUNT, CALLS };
 
-static const char *const names[CALLS] = {"empty call",    "lesson_check", "lesson_test",
-                                         "lesson_list",   "lesson_one",   "lesson_place",
-                                         "lesson_nearest"};
+static const char *const names[CALLS] = {"empty call",     "lesson_check", "lesson_test",
+                                         "lesson_list",    "lesson_one",   "lesson_place",
+                                         "lesson_nearest", "lesson_count"};
 
 /* The call that is measured, and its answer. The candidate, or what a call fills, are the first
  * bytes of the buffer; a call that has both fills a record, of which it is lent `room` bytes. */
@@ -37,6 +37,7 @@ static struct {
     size_t length;
     uint32_t layer, off, fact;
     size_t lent, room;
+    const char *condition;
     uint64_t answer;
 } asked;
 
@@ -69,6 +70,9 @@ static uint64_t answer(void)
     case NEAREST:
         return lesson_nearest(asked.book, asked.length, asked.layer, asked.off, buffer, asked.lent,
                               record, asked.room);
+    case COUNT:
+        return lesson_count(asked.book, asked.length, asked.layer, asked.off,
+                            (const uint8_t *)asked.condition, strlen(asked.condition));
     default:
         return empty_call();
     }
@@ -204,6 +208,41 @@ static void lend(const uint8_t *bytes, size_t length, uint32_t layer, uint32_t o
     asked.fact = fact;
     asked.lent = lent;
     asked.room = sizeof record;
+    asked.condition = "0&!1|(2&3)";
+}
+
+/* A condition of so many bytes that begins with these over and over, closes so many brackets, and
+ * names fact 0 between; the brackets that are not closed leave it outside the grammar. */
+static const char *condition_of(const char *part, size_t length, size_t closed)
+{
+    static char text[LESSON_LONGEST_CONDITION + 1];
+    size_t at;
+
+    for (at = 0; at < length - 1 - closed; at++)
+        text[at] = part[at % strlen(part)];
+    text[at] = '0';
+    memset(text + at + 1, ')', closed);
+    text[length] = '\0';
+    return text;
+}
+
+/* Counts with conditions that are read as deep as can be: brackets that stand open, all of them closed or
+ * none, long runs of `!`, and both in turn. The last is the longest lawful one, which is tried on every
+ * state. */
+static uint64_t measure_counts(void)
+{
+    const size_t longest = LESSON_LONGEST_CONDITION, half = longest / 2;
+    const char *const parts[] = {"(", "!", "!(", "(!", "0&(", "0|(", "!!(", "0&!(", "0|0&("};
+    size_t at;
+
+    for (at = 0; at < sizeof parts / sizeof *parts; at++) {
+        asked.condition = condition_of(parts[at], longest, 0);
+        measure(COUNT);
+        asked.condition = condition_of(parts[at], longest, half);
+        measure(COUNT);
+    }
+    asked.condition = condition_of("0|0&", longest, 0);
+    return measure(COUNT);
 }
 
 /* Every call on a book, with a state that lesson_one has left in the buffer as the candidate. The
@@ -222,10 +261,11 @@ static uint64_t measure_every(const uint8_t *bytes, size_t length, uint32_t laye
     measure(NEAREST);
     asked.lent = sizeof buffer;
     measure(PLACE);
+    measure(COUNT);
     return measure(LIST);
 }
 
-/* Causes 1 to 14 and 19, by all calls that give them. */
+/* Causes 1 to 14, 16, 17 and 19, by all calls that give them. */
 static void measure_refusals(void)
 {
     uint8_t damaged[sizeof B];
@@ -247,6 +287,7 @@ static void measure_refusals(void)
     lend(B, sizeof B, 3, 0, 0, 1);
     asked.room = 0;
     measure(NEAREST);
+    measure_counts();
 }
 
 /* The largest books. Where 20 facts branch and all rules are relevant, only what ends early. */
@@ -258,6 +299,8 @@ static void measure_largest(void)
     put_largest(10, 2, false);
     expect_true("10 branching facts, 1,024 rules: list",
                 measure_every(book, end, 31, 0, NEVER, WIDTH) == counts(10, 4));
+    expect_true("10 branching facts, 1,024 rules: count",
+                lesson_state_count(measure_counts()) == 4);
     put_largest(11, 10, false);
     expect_true("11 branching facts, 10 of them free: list",
                 measure_every(book, end, 1, 0, NEVER, WIDTH) == counts(11, 1024));
@@ -266,6 +309,7 @@ static void measure_largest(void)
     put_largest(20, 1, false);
     expect_true("20 branching facts: list",
                 measure_every(book, end, 1, 0, NEVER + 19, WIDTH) == counts(20, 2));
+    expect_true("20 branching facts: count", lesson_state_count(measure_counts()) == 2);
     lend(book, end, 31, 0, NEVER + 19, sizeof buffer);
     expect_true("largest book: check", measure(CHECK) == LESSON_GRANTED);
     expect_true("20 branching facts, 1,024 rules: one", measure(ONE) == counts(20, 0));
@@ -285,6 +329,7 @@ static void measure_constraints(void)
     put_largest(11, 10, true);
     expect_true("11 branching facts, 1,024 rules and constraints: list",
                 measure_every(book, end, 31, 0, NEVER, WIDTH) == counts(11, 1024));
+    expect_true("the same: count", lesson_state_count(measure_counts()) == 1024);
     put_largest(20, 1, true);
     lend(book, end, 31, 0, NEVER + 19, sizeof buffer);
     expect_true("20 branching facts and constraints: check", measure(CHECK) == LESSON_GRANTED);
@@ -332,5 +377,6 @@ int main(void)
     expect_figure(ONE, LESSON_ONE_STACK);
     expect_figure(PLACE, LESSON_PLACE_STACK);
     expect_figure(NEAREST, LESSON_NEAREST_STACK);
+    expect_figure(COUNT, LESSON_COUNT_STACK);
     return report();
 }

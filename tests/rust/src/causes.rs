@@ -7,17 +7,18 @@ use crate::rng::{seed, Rng};
 use crate::shapes::{absent_layers, broken, EVERY_SHAPE, NO_LAYERS};
 use std::fmt;
 
-/// The causes in the order in which they are tested: document 02, (h) puts 19 right after 9.
-pub const IN_ORDER: [u64; 15] = [1, 2, 3, 4, 5, 6, 7, 8, 9, 19, 10, 11, 12, 13, 14];
+/// The causes in the order in which they are tested: document 02, (h) puts 19 right after 9, and (e) puts
+/// 16 and 17 before 11.
+pub const IN_ORDER: [u64; 17] = [1, 2, 3, 4, 5, 6, 7, 8, 9, 19, 10, 16, 17, 11, 12, 13, 14];
 
 /// The answers that a tally of causes has room for, 0 for none.
 pub const ANSWERS: usize = 20;
 
 /// Some of the causes. Bit i is for the one at place i of the order.
 #[derive(Clone, Copy)]
-pub struct Causes(u16);
+pub struct Causes(u32);
 
-fn bit(cause: u64) -> u16 {
+fn bit(cause: u64) -> u32 {
     let place = IN_ORDER.iter().position(|&other| other == cause);
     1 << place.expect("a cause")
 }
@@ -25,7 +26,7 @@ fn bit(cause: u64) -> u16 {
 /// Every set of these causes, the empty one first.
 pub fn every_set(causes: &[u64]) -> impl Iterator<Item = Causes> {
     let all = causes.iter().fold(0, |all, &cause| all | bit(cause));
-    (0..1u16 << IN_ORDER.len())
+    (0..1u32 << IN_ORDER.len())
         .filter(move |set| set & !all == 0)
         .map(Causes)
 }

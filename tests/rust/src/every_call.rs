@@ -2,8 +2,9 @@
 //! known, and against misreadings, which must find others; and on large books whose states are known.
 
 use crate::book::{hex, width, Book, BYTE_ATOMS, MAX_ATOMS};
+use crate::conditions::{self, Tree};
 use crate::drive::Drive;
-use crate::expected::{counts, place_of, yes_or_no, Asked};
+use crate::expected::{counts, fit_counts, place_of, yes_or_no, Asked};
 use crate::ffi;
 use crate::known::{some_facts, Known};
 use crate::listed::{
@@ -17,6 +18,19 @@ pub const FILLER: u8 = 0xA5;
 
 /// Longer than any listing of 8 facts.
 pub const ROOM: usize = 300;
+
+/// Conditions with each operator on the first facts and the last ones, and one that is refused.
+fn conditions_on(atoms: u16) -> [String; 6] {
+    let (last, middle) = (atoms - 1, atoms / 2);
+    [
+        "0".into(),
+        format!("!{last}"),
+        format!("0&!{last}|{middle}"),
+        format!("!(0|{middle})&!{last}"),
+        format!("0|!0&{last}"),
+        format!("0|{atoms}"),
+    ]
+}
 
 /// Every state of so many facts.
 pub fn states(atoms: u16) -> impl Iterator<Item = Vec<bool>> {
@@ -80,6 +94,11 @@ pub fn assert_as_the_oracle(what: &str, book: &Book, drive: Drive) -> u64 {
         let engine = ffi::place(&bytes, drive, fact);
         assert_eq!(engine, asked.place(fact), "{}", told("place"));
     }
+    for condition in conditions_on(book.atoms) {
+        let engine = ffi::count(&bytes, drive, condition.as_bytes());
+        let expected = asked.count(condition.as_bytes());
+        assert_eq!(engine, expected, "{}", told(&condition));
+    }
     answer
 }
 
@@ -110,6 +129,9 @@ pub fn assert_known(what: &str, book: &Book, drive: Drive, records: &[u8], g: us
         let engine = ffi::place(&bytes, drive, fact.into());
         let expected = place_of(g, standing, records.len());
         assert_eq!(engine, expected, "{}", told("place"));
+        let engine = ffi::count(&bytes, drive, fact.to_string().as_bytes());
+        let expected = fit_counts(g, records.len(), standing);
+        assert_eq!(engine, expected, "{}", told("count"));
     }
 }
 
@@ -143,6 +165,8 @@ pub fn assert_refused(what: &str, bytes: &[u8], drive: Drive, cause: u64) {
         for candidate in buffers {
             assert_nearest(what, bytes, drive, [candidate, buffer], &refused);
         }
+        let count = ffi::count(bytes, drive, buffer);
+        assert_eq!(count, cause, "{what}, {drive}\n{}", hex(bytes));
     }
     for fact in [0, 5, BYTE_ATOMS.into(), MAX_ATOMS.into(), u32::MAX] {
         let place = ffi::place(bytes, drive, fact);
@@ -172,6 +196,13 @@ pub fn assert_known_book(what: &str, known: &Known) {
     for fact in some_facts(known.book.atoms) {
         let place = ffi::place(&bytes, drive, fact.into());
         assert_eq!(place, places[usize::from(fact)], "{what}, {fact}");
+    }
+    for condition in conditions_on(known.book.atoms) {
+        let tree = conditions::read_for(condition.as_bytes(), known.book.atoms);
+        let counted = |tree: Tree| fit_counts(known.branching, known.count, tree.fitting_of(known));
+        let expected = tree.map_or_else(|cause| cause, counted);
+        let engine = ffi::count(&bytes, drive, condition.as_bytes());
+        assert_eq!(engine, expected, "{what}: {condition}");
     }
     let buffer = vec![FILLER; width + 1];
     let assert_candidate = |candidate: &[u8]| {

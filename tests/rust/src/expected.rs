@@ -1,6 +1,7 @@
 //! What documents 01 and 02 ask of each call, by the reader and the oracle.
 
 use crate::book::Book;
+use crate::conditions;
 use crate::drive::Drive;
 use crate::oracle::{self, Driven};
 use crate::reader;
@@ -12,6 +13,8 @@ pub const NO_SUCH_FACT: u64 = 11;
 pub const TOO_MANY_BRANCHING: u64 = 12;
 pub const BUFFER_TOO_SHORT: u64 = 13;
 pub const NO_STABLE_STATE: u64 = 14;
+pub const BAD_CONDITION: u64 = 16;
+pub const TOO_DEEP: u64 = 17;
 pub const NO_SUCH_LAYER_OFF: u64 = 19;
 
 pub const MAX_BRANCHING: usize = 20;
@@ -45,6 +48,11 @@ pub const fn place_of(branching: usize, standing: usize, states: usize) -> u64 {
 /// What `lesson_nearest` answers where it is granted: so many facts differ.
 pub const fn differing(branching: usize, facts: usize) -> u64 {
     (branching as u64) << 8 | (facts as u64) << 16
+}
+
+/// What `lesson_count` answers where it is granted.
+pub const fn fit_counts(branching: usize, states: usize, fitting: usize) -> u64 {
+    counts(branching, states) | (fitting as u64) << 40
 }
 
 /// The number of branching facts, or cause 12.
@@ -168,6 +176,17 @@ impl Asked {
             let models = self.models(driven);
             let standing = models.iter().filter(|model| model[fact as usize]);
             Ok(place_of(branching, standing.count(), models.len()))
+        });
+        answer.unwrap_or_else(|cause| cause)
+    }
+
+    /// The answer of `lesson_count`.
+    pub fn count(&self, condition: &[u8]) -> u64 {
+        let answer = self.driven().and_then(|driven| {
+            let tree = conditions::read_for(condition, driven.atoms())?;
+            let branching = searched(driven)?;
+            let models = self.models(driven);
+            Ok(fit_counts(branching, models.len(), tree.fitting(models)))
         });
         answer.unwrap_or_else(|cause| cause)
     }

@@ -44,6 +44,14 @@ extern "C" {
         buffer: *mut u8,
         buffer_len: usize,
     ) -> u64;
+    fn lesson_count(
+        book: *const u8,
+        book_len: usize,
+        layer: u32,
+        off: u32,
+        condition: *const u8,
+        condition_len: usize,
+    ) -> u64;
 }
 
 /// A call, with what it is lent beside the book and the drive. `None` is NULL with length 0,
@@ -56,6 +64,7 @@ pub enum Call<'a> {
     Place(u32),
     /// The candidate, and the buffer.
     Nearest(Option<&'a [u8]>, Option<&'a mut [u8]>),
+    Count(Option<&'a [u8]>),
 }
 
 fn pointer(slice: Option<&[u8]>) -> (*const u8, usize) {
@@ -96,6 +105,10 @@ pub fn answer(book: Option<&[u8]>, drive: Drive, call: Call) -> u64 {
                 lesson_nearest(
                     book, book_len, layer, off, near, near_len, buffer, buffer_len,
                 )
+            }
+            Call::Count(condition) => {
+                let (condition, condition_len) = pointer(condition);
+                lesson_count(book, book_len, layer, off, condition, condition_len)
             }
         }
     }
@@ -253,4 +266,17 @@ pub fn nearest(book: &[u8], drive: Drive, candidate: &[u8], buffer: &[u8]) -> Ou
 pub fn nearest_in_place(book: &[u8], drive: Drive, candidate: &[u8], buffer: &mut [u8]) -> u64 {
     let call = Call::Nearest(Some(candidate), Some(buffer));
     answer(Some(book), drive, call)
+}
+
+/// `lesson_count` on fenced copies.
+pub fn count(book: &[u8], drive: Drive, condition: &[u8]) -> u64 {
+    let call = |[book, condition]: &[Lent; 2], _: &mut Lent| {
+        answer(book.slice(), drive, Call::Count(condition.slice()))
+    };
+    fenced([book, condition], &[], call).0
+}
+
+/// `lesson_count` on the slices themselves.
+pub fn count_in_place(book: &[u8], drive: Drive, condition: &[u8]) -> u64 {
+    answer(Some(book), drive, Call::Count(Some(condition)))
 }

@@ -3,6 +3,7 @@
 
 use crate::book::{hex, Book, BYTE_ATOMS, LONGEST_RECORD, MAX_ATOMS, WIDE};
 use crate::causes::fields;
+use crate::conditions;
 use crate::drive::Drive;
 use crate::expected::yes_or_no;
 use crate::ffi::Outcome;
@@ -15,7 +16,7 @@ use crate::shapes::{self, Layering, EVERY_SHAPE};
 use crate::truth::Truth;
 use std::fmt;
 
-pub const CALLS: [&str; 6] = ["check", "test", "list", "one", "place", "nearest"];
+pub const CALLS: [&str; 7] = ["check", "test", "list", "one", "place", "nearest", "count"];
 
 /// A call, with what it takes beside the book and the drive.
 #[derive(Clone, Debug)]
@@ -26,6 +27,7 @@ pub enum Question {
     One { buffer: Vec<u8> },
     Place { fact: u32 },
     Nearest { candidate: Vec<u8>, buffer: Vec<u8> },
+    Count { condition: Vec<u8> },
 }
 
 impl Question {
@@ -38,13 +40,15 @@ impl Question {
             Question::One { .. } => 3,
             Question::Place { .. } => 4,
             Question::Nearest { .. } => 5,
+            Question::Count { .. } => 6,
         }
     }
 
-    /// The candidate, where the call is lent one.
-    pub fn candidate(&self) -> Option<&[u8]> {
+    /// The candidate or the condition, where the call is lent one.
+    pub fn read(&self) -> Option<&[u8]> {
         match self {
             Question::Test { candidate } | Question::Nearest { candidate, .. } => Some(candidate),
+            Question::Count { condition } => Some(condition),
             _ => None,
         }
     }
@@ -66,8 +70,8 @@ impl fmt::Display for Question {
         if let Question::Place { fact } = self {
             write!(f, ", fact {fact}")?;
         }
-        if let Some(candidate) = self.candidate() {
-            write!(f, ", candidate {}", hex(candidate))?;
+        if let Some(text) = self.read() {
+            write!(f, ", lent {}", hex(text))?;
         }
         if let Some(buffer) = self.buffer() {
             write!(f, ", buffer of {} bytes, {}", buffer.len(), hex(buffer))?;
@@ -322,6 +326,11 @@ fn questions(rng: &mut Rng, book: &[u8], drive: Drive) -> Vec<Asked> {
     ] {
         let wanted = Wanted::answer(truth.place(fact));
         questions.push((Question::Place { fact }, wanted));
+    }
+    for _ in 0..4 {
+        let condition = conditions::any_bytes(rng, (facts as u16).max(1));
+        let wanted = Wanted::answer(truth.count(&condition));
+        questions.push((Question::Count { condition }, wanted));
     }
     questions
 }

@@ -11,6 +11,7 @@ pub mod book;
 pub mod causes;
 #[allow(unsafe_code)]
 pub mod child;
+pub mod conditions;
 pub mod drive;
 pub mod every_call;
 pub mod examples;

@@ -2,9 +2,10 @@
 //! and a second opinion on books that are too large for the oracle to try every state of.
 
 use crate::book::{BYTE_ATOMS, LONGEST_RECORD, MAX_ATOMS};
+use crate::conditions;
 use crate::drive::Drive;
 use crate::expected::{
-    branching, counts, differing, place_of, yes_or_no, BAD_CANDIDATE, BUFFER_TOO_SHORT,
+    branching, counts, differing, fit_counts, place_of, yes_or_no, BAD_CANDIDATE, BUFFER_TOO_SHORT,
     MAX_BRANCHING, NO_STABLE_STATE, NO_SUCH_FACT, NO_SUCH_LAYER, NO_SUCH_LAYER_OFF,
     TOO_MANY_BRANCHING,
 };
@@ -275,6 +276,7 @@ trait Calls {
     fn one(&self, buffer: &mut [u8]) -> Result<u64, u64>;
     fn place(&self, fact: u32) -> Result<u64, u64>;
     fn nearest(&self, candidate: &[u8], buffer: &mut [u8]) -> Result<u64, u64>;
+    fn count(&self, condition: &[u8]) -> Result<u64, u64>;
 }
 
 impl<const N: usize> Calls for Program<N> {
@@ -341,6 +343,19 @@ impl<const N: usize> Calls for Program<N> {
             plain_names.filter(|(name, wanted)| name != wanted).count()
         })?;
         Ok(differing(g, facts))
+    }
+
+    /// The condition is read once, and tried on each state.
+    fn count(&self, condition: &[u8]) -> Result<u64, u64> {
+        let tree = conditions::read_for(condition, self.atoms as u16)?;
+        let branching = self.branching()?;
+        let (mut fitting, mut states) = (0, 0);
+        self.each_stable(&branching, |state| {
+            fitting += usize::from(tree.holds(state));
+            states += 1;
+            ControlFlow::Continue(())
+        });
+        Ok(fit_counts(branching.len(), states, fitting))
     }
 }
 
@@ -473,6 +488,13 @@ pub fn place(book: &[u8], drive: Drive, fact: u32) -> u64 {
 pub fn nearest(book: &[u8], drive: Drive, candidate: &[u8], buffer: &mut [u8]) -> u64 {
     program(book, drive)
         .and_then(|program| program.nearest(candidate, buffer))
+        .unwrap_or_else(|cause| cause)
+}
+
+/// What `lesson_count` answers.
+pub fn count(book: &[u8], drive: Drive, condition: &[u8]) -> u64 {
+    program(book, drive)
+        .and_then(|program| program.count(condition))
         .unwrap_or_else(|cause| cause)
 }
 

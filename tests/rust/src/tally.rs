@@ -5,17 +5,17 @@ use crate::inputs::{Input, Question, CALLS};
 use std::fmt::Display;
 
 /// The slices that a call may be lent.
-const SLICES: [&str; 3] = ["book", "candidate", "buffer"];
+const SLICES: [&str; 3] = ["book", "candidate or condition", "buffer"];
 
 /// The calls that are lent each of them, in the order of `CALLS`.
 const LENT: [[bool; CALLS.len()]; SLICES.len()] = [
     [true; CALLS.len()],
-    [false, true, false, false, false, true],
-    [false, false, true, true, false, true],
+    [false, true, false, false, false, true, true],
+    [false, false, true, true, false, true, false],
 ];
 
 /// Answers that a call is granted with, in the order of `Tally::granted`.
-const GRANTED: [&str; 13] = [
+const GRANTED: [&str; 17] = [
     "test yes",
     "test no",
     "list none",
@@ -29,6 +29,10 @@ const GRANTED: [&str; 13] = [
     "more facts than a byte numbers",
     "nearest is the candidate",
     "nearest differs",
+    "count in none",
+    "count in some",
+    "count in every",
+    "count 0 of 0",
 ];
 
 #[derive(Default)]
@@ -73,6 +77,7 @@ impl Tally {
                 4 => 4 + upper as usize,
                 5 if upper == 0 => 11,
                 5 => 12,
+                6 => count_kind(upper),
                 _ => continue,
             };
             self.granted[kind] += 1;
@@ -153,6 +158,16 @@ impl Tally {
             }
         }
         checks
+    }
+}
+
+/// The place in `GRANTED` of what `lesson_count` says above bit 15.
+fn count_kind(upper: u64) -> usize {
+    match (upper >> 24, upper & 0xFF_FFFF) {
+        (0, 0) => 16,
+        (0, _) => 13,
+        (fitting, states) if fitting < states => 14,
+        _ => 15,
     }
 }
 

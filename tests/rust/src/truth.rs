@@ -73,4 +73,12 @@ impl<'a> Truth<'a> {
             Truth::Plain { book, drive } => plain::place(book, *drive, fact),
         }
     }
+
+    /// The answer of `lesson_count`.
+    pub fn count(&self, condition: &[u8]) -> u64 {
+        match self {
+            Truth::Oracle(asked) => asked.count(condition),
+            Truth::Plain { book, drive } => plain::count(book, *drive, condition),
+        }
+    }
 }

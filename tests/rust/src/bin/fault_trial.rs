@@ -41,7 +41,8 @@ struct Worker {
     notes: Notes,
     /// 0 for the one that works alone, 1 to 4 for the threads.
     number: usize,
-    candidate: Lender,
+    /// For the candidate or the condition.
+    read: Lender,
     buffer: Lender,
     calls: u64,
 }
@@ -77,7 +78,7 @@ impl Worker {
         Worker {
             notes,
             number,
-            candidate: Lender::default(),
+            read: Lender::default(),
             buffer: Lender::default(),
             calls: 0,
         }
@@ -100,7 +101,7 @@ impl Worker {
         self.calls += 1;
         let after = asked.buffer().and(self.buffer.slice()).unwrap_or_default();
         let as_wanted = answer == wanted.answer && wanted.buffer == after;
-        let marks_stand = self.candidate.marks_stand() && self.buffer.marks_stand();
+        let marks_stand = self.read.marks_stand() && self.buffer.marks_stand();
         assert!(
             as_wanted && marks_stand,
             "{}\nengine   {answer:#X}, buffer {}, bytes around the slices untouched: {marks_stand}",
@@ -110,8 +111,8 @@ impl Worker {
     }
 
     fn lay(&mut self, asked: &Question, placement: Placement) {
-        if let Some(candidate) = asked.candidate() {
-            self.candidate.lay(candidate, placement, Access::Read);
+        if let Some(text) = asked.read() {
+            self.read.lay(text, placement, Access::Read);
         }
         if let Some(buffer) = asked.buffer() {
             self.buffer.lay(buffer, placement, Access::ReadAndWrite);
@@ -121,11 +122,12 @@ impl Worker {
     fn answer(&mut self, book: Option<&[u8]>, drive: Drive, asked: &Question) -> u64 {
         let call = match asked {
             Question::Check => Call::Check,
-            Question::Test { .. } => Call::Test(self.candidate.slice()),
+            Question::Test { .. } => Call::Test(self.read.slice()),
             Question::List { .. } => Call::List(self.buffer.buffer()),
             Question::One { .. } => Call::One(self.buffer.buffer()),
             Question::Place { fact } => Call::Place(*fact),
-            Question::Nearest { .. } => Call::Nearest(self.candidate.slice(), self.buffer.buffer()),
+            Question::Nearest { .. } => Call::Nearest(self.read.slice(), self.buffer.buffer()),
+            Question::Count { .. } => Call::Count(self.read.slice()),
         };
         ffi::answer(book, drive, call)
     }
@@ -170,7 +172,7 @@ impl Trial {
                     .put(self.seed, book, input, [question, placement]);
                 self.tally.alone += 1;
                 let worker = &self.worker;
-                let slices = [book, worker.candidate.slice(), worker.buffer.slice()];
+                let slices = [book, worker.read.slice(), worker.buffer.slice()];
                 self.tally.count_lent(asked.call(), slices);
             }
         }
