@@ -76,7 +76,7 @@ macro_rules! second_archive {
                         before_one(book, book_len, layer, $($off,)? buffer, length)
                     }
                     Call::Place(fact) => before_place(book, book_len, layer, $($off,)? fact),
-                    Call::Nearest(..) => unreachable!("no row asks it"),
+                    Call::Nearest(..) | Call::Count(_) => unreachable!("no row asks it"),
                 }
             }
         }

@@ -39,7 +39,7 @@ pub fn answer(book: &[u8], layer: u32, call: Call) -> u64 {
             let [with, without] = ["not ", ""].map(|not| states(&some(not), book.atoms, "1").len());
             place_of(0, with, with + without)
         }
-        Call::Check | Call::Test(_) | Call::Nearest(..) => {
+        Call::Check | Call::Test(_) | Call::Nearest(..) | Call::Count(_) => {
             unreachable!("no row asks clingo for it")
         }
     }

@@ -5,7 +5,8 @@
 //!
 //! Run it with `cargo run --release`; with `-- --full` the books that take long come too, with
 //! `-- --only WORD` only the rows that have the word in their name, and with `-- --constraints` the
-//! second table alone. Five others come alone: with `-- --opening` the one of how long books open, with
+//! second table alone. Six others come alone: with `-- --opening` the one of how long books open, with
+//! `-- --conditions` the one of counts that fit a condition beside the counting pass alone, with
 //! `-- --junctions` the one of books with many facts, with `-- --one` the one of one state wherever the
 //! branching facts are, with `-- --nearest` the one of the state closest to a candidate, and with
 //! `-- --orders` the one of listings whose records come in every order, where `--limit SECONDS` leaves out
@@ -15,6 +16,7 @@
 
 mod before;
 mod clingo;
+mod conditions;
 mod constraints;
 mod junctions;
 mod nearest;
@@ -93,6 +95,7 @@ impl Program {
                     let (candidate, buffer) = slices(candidate, buffer);
                     plain::nearest(book, drive, candidate, buffer)
                 }
+                Call::Count(condition) => plain::count(book, drive, condition.unwrap_or_default()),
             },
             Program::Bits => match call {
                 Call::Check => bitset::check(book),
@@ -104,6 +107,7 @@ impl Program {
                     let (candidate, buffer) = slices(candidate, buffer);
                     bitset::nearest(book, drive, candidate, buffer)
                 }
+                Call::Count(_) => unreachable!("no row asks the bit sets for it"),
             },
         }
     }
@@ -569,13 +573,14 @@ fn main() {
             "--constraints" => constraints_only = true,
             "--junctions" => junctions = true,
             "--opening" => return opening::table(),
+            "--conditions" => return conditions::table(),
             "--one" => one_only = true,
             "--nearest" => nearest_only = true,
             "--orders" => orders = true,
             "--limit" => limit = value().parse().expect("--limit takes seconds"),
             other => panic!(
-                "{other}: the options are --full, --only WORD, --constraints, --junctions, --opening, --one, \
-                 --nearest, --orders and --limit SECONDS"
+                "{other}: the options are --full, --only WORD, --constraints, --junctions, --opening, \
+                 --conditions, --one, --nearest, --orders and --limit SECONDS"
             ),
         }
     }
