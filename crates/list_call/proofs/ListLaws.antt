@@ -129,16 +129,16 @@ module _ {book rows plan : List ℕ} {sizes : Sizes} (ready : Ready book rows pl
 
 -- ---- the program that the table stands for, and the driven layer's
 module _ {P Q : Program} (a : Alike P Q) where
-  room-same : (room : ℕ) → roomTests P room ≡ roomTests Q room
+  pub room-same : (room : ℕ) → roomTests P room ≡ roomTests Q room
   unfolding roomTests
   room-same room = ap (λ (s : List ℕ). record { cause = BufferTooShort; applies = ltb room (length s) } ∷ []) (alike-listing a)
 
-  reply-same : (v : Verdict) → replyOf v P ≡ replyOf v Q
+  pub reply-same : (v : Verdict) → replyOf v P ≡ replyOf v Q
   unfolding replyOf
   reply-same (Refused c) = refl
   reply-same Accepted = ap₂ reply.Listed (ap length (alike-models a)) (alike-count a)
 
-  buffer-same : (v : Verdict) (old : List ℕ) → bufferOf v P old ≡ bufferOf v Q old
+  pub buffer-same : (v : Verdict) (old : List ℕ) → bufferOf v P old ≡ bufferOf v Q old
   unfolding bufferOf
   buffer-same (Refused c) old = refl
   buffer-same Accepted old = ap (λ (s : List ℕ). s ++ drop (length s) old) (alike-listing a)

@@ -1,21 +1,22 @@
 -- Two programs with as many facts, the same rules, the same displacements among them and the same constraints are alike: they have the
--- same stable models, in the same order, and the same branching facts. Neither order nor repetition of rules or constraints counts. Assumes nothing.
+-- same stable models, in the same order, and the same branching facts. Neither order nor repetition counts, of rules, of constraints or of
+-- the literals of a body: a body holds, and its rule leans on itself, by which literals it has. Assumes nothing.
 use mathlib.Core.Path.{_≡_, refl, sym, subst, ap, ap₂, _∙_}
-use mathlib.Core.Bool.{Bool, _&&_, _||_}
+use mathlib.Core.Bool.{Bool, not, _&&_, _||_}
 use mathlib.Core.List.{List, [], _∷_, List·Memᴰ·head, List·Memᴰ·tail}
 use Prim.Native.Nat.{ℕ, _<_}
 use lib.Dec.{T, T-not, not-T, eqb}
 use lib.ListN.{length}
-use Rattle.base.specs.Lists.{consIf, any, filter, upTo}
+use Rattle.base.specs.Lists.{consIf, all, any, filter, upTo}
 use Rattle.format.specs.Book.{Literal, Rule}
 use Rattle.models.specs.Program.{Program}
-use Rattle.models.specs.Alike.{Alike}
-use Rattle.models.specs.StableModels.{Interpretation, positive, sameLiteral, bodyHolds, overrides, rejected, default, stable, Derived, by-default, by-rule, StableModel, WellFormed}
+use Rattle.models.specs.Alike.{SameBody, SameRule, HasRule, HasBody, Alike}
+use Rattle.models.specs.StableModels.{Interpretation, positive, complement, sameLiteral, holds, bodyHolds, leansOnItself, overrides, rejected, default, stable, Derived, by-default, by-rule, StableModel, WellFormed}
 use Rattle.models.specs.Branching.{canReject, branching, branchingAtoms, branchingCount}
 use Rattle.models.specs.Listing.{interpretations, stableModels, listingOf, listing}
 use Rattle.models.proofs.LeastLaws.{stable-sound, stable-complete}
 use Rattle.models.proofs.InterpretationLaws.{agree-same}
-use Rattle.base.proofs.Members.{_∈_, any-at, any-of, same-test}
+use Rattle.base.proofs.Members.{_∈_, all-at, all-of, any-at, any-of, same-test}
 use Rattle.base.proofs.UpTo.{failed}
 
 pub filter-same : {A : Type 0} (p q : A → Bool) → ((x : A) → p x ≡ q x) → (xs : List A) → filter p xs ≡ filter q xs
@@ -34,45 +35,92 @@ unfolding filter consIf
 filter-none p [] h = refl
 filter-none p (x ∷ xs) h = rw (failed (p x) (h x (List·Memᴰ·head refl))) (filter-none p xs (λ y k. h y (List·Memᴰ·tail k)))
 
+-- ---- a rule and the same rule, written otherwise
+-- a member is there as it is
+pub has-rule : {rules : List Rule} (r : Rule) → r ∈ rules → HasRule rules r
+has-rule r k = (r, k, record { layer-same = refl; head-same = refl; body-same = λ l. (λ i. i, λ i. i) })
+
+pub has-body : {bodies : List (List Literal)} (body : List Literal) → body ∈ bodies → HasBody bodies body
+has-body body k = (body, k, λ l. (λ i. i, λ i. i))
+
+back : {r t : Rule} → SameRule r t → SameRule t r
+back s = record { layer-same = sym (s .layer-same); head-same = sym (s .head-same); body-same = λ l. (s .body-same l .1, s .body-same l .0) }
+
+module _ {one other : List Literal} (s : SameBody one other) where
+  any-same : (p : Literal → Bool) → any p one ≡ any p other
+  any-same p =
+      same-test (any p one) (any p other)
+      (λ t. let v = any-at p one t in any-of p (s (v .0) .0 (v .1)) (v .2))
+      (λ t. let v = any-at p other t in any-of p (s (v .0) .1 (v .1)) (v .2))
+
+module _ {r t : Rule} (s : SameRule r t) where
+  holds-same : (m : Interpretation) → bodyHolds m r ≡ bodyHolds m t
+  unfolding bodyHolds
+  holds-same m =
+      same-test (all (holds m) (r .body)) (all (holds m) (t .body))
+      (λ h. all-of (holds m) (t .body) (λ l k. all-at (holds m) h (s .body-same l .1 k)))
+      (λ h. all-of (holds m) (r .body) (λ l k. all-at (holds m) h (s .body-same l .0 k)))
+
+  leans-same : leansOnItself r ≡ leansOnItself t
+  unfolding leansOnItself
+  leans-same = any-same (s .body-same) (sameLiteral (r .head)) ∙ ap (λ (l : Literal). any (sameLiteral l) (t .body)) (s .head-same)
+
+overrides-written : (P : Program) {t u r o : Rule} → SameRule t u → SameRule r o → overrides P t r ≡ overrides P u o
+unfolding overrides
+overrides-written P s e = λ i. P .below (e .layer-same i) (s .layer-same i) && sameLiteral (s .head-same i) (complement (e .head-same i)) && not (leans-same s i)
+
+-- ---- programs that are alike
 pub flip : {P Q : Program} → Alike P Q → Alike Q P
-flip a = record {
+flip {P} {Q} a = record {
   atoms-same = sym (a .atoms-same);
   to = a .from;
   from = a .to;
   constraints-to = a .constraints-from;
   constraints-from = a .constraints-to;
-  overrides-same = λ t r k j. sym (a .overrides-same t r (a .from t k) (a .from r j));
+  overrides-same = λ t r k j.
+      let u : HasRule (P .rules) t = a .from t k in
+      let o : HasRule (P .rules) r = a .from r j in
+      overrides-written Q (u .2) (o .2) ∙ sym (a .overrides-same (u .0) (o .0) (u .1) (o .1)) ∙ sym (overrides-written P (u .2) (o .2));
 }
 
-module _ {P Q : Program} (a : Alike P Q) (m : Interpretation) where
-  rejected-to : (r : Rule) → r ∈ P .rules → T (rejected P m r) → T (rejected Q m r)
-  unfolding rejected
-  rejected-to r k d =
-      let v : (t : Rule) × t ∈ P .rules × T (overrides P t r && bodyHolds m t) = any-at (λ t. overrides P t r && bodyHolds m t) (P .rules) d in
-      any-of (λ t. overrides Q t r && bodyHolds m t) (a .to (v .0) (v .1))
-      (subst (λ (c : Bool). T (c && bodyHolds m (v .0))) (a .overrides-same (v .0) r (v .1) k) (v .2))
+module _ {P Q : Program} (a : Alike P Q) where
+  overrides-over : (t r : Rule) → t ∈ P .rules → r ∈ P .rules → (u o : Rule) → SameRule t u → SameRule r o → overrides P t r ≡ overrides Q u o
+  overrides-over t r k j u o s e = a .overrides-same t r k j ∙ overrides-written Q s e
 
-  default-from : (f : ℕ) → T (default Q m f) → T (default P m f)
-  unfolding default
-  default-from f d =
-      not-T (any (λ r. sameLiteral (r .head) (positive f) && bodyHolds m r) (P .rules))
-      (λ t.
-      let v : (r : Rule) × r ∈ P .rules × T (sameLiteral (r .head) (positive f) && bodyHolds m r) = any-at (λ r. sameLiteral (r .head) (positive f) && bodyHolds m r) (P .rules) t in
-      T-not (any (λ r. sameLiteral (r .head) (positive f) && bodyHolds m r) (Q .rules)) d
-      (any-of (λ r. sameLiteral (r .head) (positive f) && bodyHolds m r) (a .to (v .0) (v .1)) (v .2)))
+  module _ (m : Interpretation) where
+    rejected-to : (r : Rule) → r ∈ P .rules → (o : Rule) → SameRule r o → T (rejected P m r) → T (rejected Q m o)
+    unfolding rejected
+    rejected-to r k o s d =
+        let v : (t : Rule) × t ∈ P .rules × T (overrides P t r && bodyHolds m t) = any-at (λ t. overrides P t r && bodyHolds m t) (P .rules) d in
+        let u : HasRule (Q .rules) (v .0) = a .to (v .0) (v .1) in
+        any-of (λ t. overrides Q t o && bodyHolds m t) (u .1)
+        (subst T (ap₂ _&&_ (overrides-over (v .0) r (v .1) k (u .0) o (u .2) s) (holds-same (u .2) m)) (v .2))
+
+    default-from : (f : ℕ) → T (default Q m f) → T (default P m f)
+    unfolding default
+    default-from f d =
+        not-T (any (λ r. sameLiteral (r .head) (positive f) && bodyHolds m r) (P .rules))
+        (λ t.
+        let v : (r : Rule) × r ∈ P .rules × T (sameLiteral (r .head) (positive f) && bodyHolds m r) = any-at (λ r. sameLiteral (r .head) (positive f) && bodyHolds m r) (P .rules) t in
+        let u : HasRule (Q .rules) (v .0) = a .to (v .0) (v .1) in
+        T-not (any (λ r. sameLiteral (r .head) (positive f) && bodyHolds m r) (Q .rules)) d
+        (any-of (λ r. sameLiteral (r .head) (positive f) && bodyHolds m r) (u .1)
+        (subst T (ap₂ (λ (l : Literal) (c : Bool). sameLiteral l (positive f) && c) (u .2 .head-same) (holds-same (u .2) m)) (v .2))))
 
 module _ {P Q : Program} (a : Alike P Q) (m : Interpretation) where
   derived-to : (l : Literal) → Derived P m l → Derived Q m l
   derived-to l (by-default f h d) = by-default f (subst (λ (n : ℕ). f < n) (a .atoms-same) h) (default-from (flip a) m f d)
   derived-to l (by-rule r k u below) =
-      by-rule r (a .to r k) (not-T (rejected Q m r) (λ d. T-not (rejected P m r) u (rejected-to (flip a) m r (a .to r k) d)))
-      (λ p i. derived-to p (below p i))
+      let o : HasRule (Q .rules) r = a .to r k in
+      subst (Derived Q m) (sym (o .2 .head-same))
+      (by-rule (o .0) (o .1) (not-T (rejected Q m (o .0)) (λ d. T-not (rejected P m r) u (rejected-to (flip a) m (o .0) (o .1) r (back (o .2)) d)))
+      (λ p i. derived-to p (below p (o .2 .body-same p .1 i))))
 
 module _ {P Q : Program} (a : Alike P Q) (m : Interpretation) where
   pub alike-model : StableModel P m → StableModel Q m
   alike-model s = record {
     size = s .size ∙ a .atoms-same;
-    allowed = λ body k. s .allowed body (a .constraints-from body k);
+    allowed = λ body k h. let o : HasBody (P .constraints) body = a .constraints-from body k in s .allowed (o .0) (o .1) (λ l i. h l (o .2 l .1 i));
     exact = λ l h.
         let y : l .atom < P .atoms = subst (λ (n : ℕ). l .atom < n) (sym (a .atoms-same)) h in
         (λ d. s .exact l y .0 (derived-to (flip a) m l d), λ t. derived-to a m l (s .exact l y .1 t));
@@ -90,15 +138,16 @@ module _ {P Q : Program} (a : Alike P Q) where
       agree-same (P .atoms) (stable P) (stable Q) alike-stable ∙ ap (λ (n : ℕ). filter (stable Q) (interpretations n)) (a .atoms-same)
 
 module _ {P Q : Program} (a : Alike P Q) where
-  rejecting-to : (r : Rule) → r ∈ P .rules → T (canReject P r) → T (canReject Q r)
+  rejecting-to : (r : Rule) → r ∈ P .rules → (o : Rule) → SameRule r o → T (canReject P r) → T (canReject Q o)
   unfolding canReject
-  rejecting-to r k t =
-      let v : (o : Rule) × o ∈ P .rules × T (overrides P r o) = any-at (overrides P r) (P .rules) t in
-      any-of (overrides Q r) (a .to (v .0) (v .1)) (subst T (a .overrides-same r (v .0) k (v .1)) (v .2))
+  rejecting-to r k o s t =
+      let v : (x : Rule) × x ∈ P .rules × T (overrides P r x) = any-at (overrides P r) (P .rules) t in
+      let u : HasRule (Q .rules) (v .0) = a .to (v .0) (v .1) in
+      any-of (overrides Q o) (u .1) (subst T (overrides-over a r (v .0) k (v .1) o (u .0) s (u .2)) (v .2))
 
 module _ {P Q : Program} (a : Alike P Q) where
-  rejecting-same : (r : Rule) → r ∈ P .rules → canReject P r ≡ canReject Q r
-  rejecting-same r k = same-test (canReject P r) (canReject Q r) (rejecting-to a r k) (rejecting-to (flip a) r (a .to r k))
+  rejecting-same : (r : Rule) → r ∈ P .rules → (o : Rule) → o ∈ Q .rules → SameRule r o → canReject P r ≡ canReject Q o
+  rejecting-same r k o j s = same-test (canReject P r) (canReject Q o) (rejecting-to a r k o s) (rejecting-to (flip a) o j r (back s))
 
 module _ {P Q : Program} (a : Alike P Q) where
   branching-to : (f : ℕ) → T (branching P f) → T (branching Q f)
@@ -106,8 +155,10 @@ module _ {P Q : Program} (a : Alike P Q) where
   branching-to f t =
       let v : (r : Rule) × r ∈ P .rules × T (any (λ l. eqb (l .atom) f && (l .negated || canReject P r)) (r .body)) =
       any-at (λ r. any (λ l. eqb (l .atom) f && (l .negated || canReject P r)) (r .body)) (P .rules) t in
-      any-of (λ r. any (λ l. eqb (l .atom) f && (l .negated || canReject Q r)) (r .body)) (a .to (v .0) (v .1))
-      (subst (λ (c : Bool). T (any (λ l. eqb (l .atom) f && (l .negated || c)) (v .0 .body))) (rejecting-same a (v .0) (v .1)) (v .2))
+      let o : HasRule (Q .rules) (v .0) = a .to (v .0) (v .1) in
+      any-of (λ r. any (λ l. eqb (l .atom) f && (l .negated || canReject Q r)) (r .body)) (o .1)
+      (subst (λ (c : Bool). T (any (λ l. eqb (l .atom) f && (l .negated || c)) (o .0 .body))) (rejecting-same a (v .0) (v .1) (o .0) (o .1) (o .2))
+      (subst T (any-same (o .2 .body-same) (λ l. eqb (l .atom) f && (l .negated || canReject P (v .0)))) (v .2)))
 
 module _ {P Q : Program} (a : Alike P Q) where
   pub alike-branching : (f : ℕ) → branching P f ≡ branching Q f
@@ -127,6 +178,6 @@ module _ {P Q : Program} (a : Alike P Q) where
 
   pub alike-formed : WellFormed P → WellFormed Q
   alike-formed w = record {
-    heads = λ r k. subst (λ (n : ℕ). r .head .atom < n) (a .atoms-same) (w .heads r (a .from r k));
-    bodies = λ r k l j. subst (λ (n : ℕ). l .atom < n) (a .atoms-same) (w .bodies r (a .from r k) l j);
+    heads = λ r k. let o : HasRule (P .rules) r = a .from r k in subst (λ (n : ℕ). r .head .atom < n) (a .atoms-same) (subst (λ (l : Literal). l .atom < P .atoms) (sym (o .2 .head-same)) (w .heads (o .0) (o .1)));
+    bodies = λ r k l j. let o : HasRule (P .rules) r = a .from r k in subst (λ (n : ℕ). l .atom < n) (a .atoms-same) (w .bodies (o .0) (o .1) l (o .2 .body-same l .0 j));
   }

@@ -1,10 +1,12 @@
 -- What a driven layer sees of a book. Every later definition takes this, and not the whole book: what happens at a layer
 -- follows from the number of facts, the relevant rules, the relevant constraints, and which of the rules' layers lie below which.
 -- Assumes nothing.
+use mathlib.Core.Path.{_≡_}
+use mathlib.Core.Logic.{_⊎_}
 use mathlib.Core.Bool.{Bool, not, _&&_, _||_}
 use mathlib.Core.List.{List, map}
 use Prim.Native.Nat.{ℕ}
-use lib.Dec.{eqb}
+use lib.Dec.{T, eqb}
 use Rattle.base.specs.Lists.{filter}
 use Rattle.layers.specs.Layers as layers
 use Rattle.layers.specs.Masks.{bitOf}
@@ -22,6 +24,10 @@ pub record Program : Type 0 where
 -- Document 02, (h): bit i of the set is layer i's, and a layer whose bit is set is switched off for one drive.
 unfoldable pub inSet : ℕ → ℕ → Bool
 inSet off i = eqb (bitOf off i) 1
+
+-- the driven layer, or one below it
+abbrev pub AtOrBelow : Book → ℕ → ℕ → Type 0
+AtOrBelow b layer i = (i ≡ layer) ⊎ T (layers.below (b .arrows) i layer)
 
 -- Document 01: a rule is relevant at the driven layer if its layer is that layer or below it; document 02, (h): and is not switched
 -- off. Paths through a layer that is switched off still count.

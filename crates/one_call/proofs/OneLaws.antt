@@ -114,17 +114,17 @@ module _ {P Q : Program} (a : Alike P Q) where
   unfolding hasNoStableState
   none-same = ap (λ (ms : List Interpretation). eqb (length ms) 0) (alike-models a)
 
-  room-same : (room : ℕ) → roomTests P room ≡ roomTests Q room
+  pub room-same : (room : ℕ) → roomTests P room ≡ roomTests Q room
   unfolding roomTests
   room-same room =
       ap₂ (λ (n : ℕ) (b : Bool). record { cause = BufferTooShort; applies = ltb room (recordSize n) } ∷ record { cause = NoStableState; applies = b } ∷ []) (a .atoms-same) none-same
 
-  reply-same : (v : Verdict) → replyOf v P ≡ replyOf v Q
+  pub reply-same : (v : Verdict) → replyOf v P ≡ replyOf v Q
   unfolding replyOf
   reply-same (Refused c) = refl
   reply-same Accepted = ap reply.Written (alike-count a)
 
-  buffer-same : (v : Verdict) (old : List ℕ) → bufferOf v P old ≡ bufferOf v Q old
+  pub buffer-same : (v : Verdict) (old : List ℕ) → bufferOf v P old ≡ bufferOf v Q old
   unfolding bufferOf
   buffer-same (Refused c) old = refl
   buffer-same Accepted old = ap₂ (λ (n : ℕ) (ms : List Interpretation). flat (map (recordOf n) (take 1 ms)) ++ drop (recordSize n) old) (a .atoms-same) (alike-models a)

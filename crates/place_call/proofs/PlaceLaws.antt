@@ -170,7 +170,7 @@ module _ {book rows plan : List ℕ} {sizes : Sizes} (ready : Ready book rows pl
 
 -- ---- the program that the table stands for, and the driven layer's
 module _ {P Q : Program} (a : Alike P Q) (fact : ℕ) where
-  state-same : stateTests P ≡ stateTests Q
+  pub state-same : stateTests P ≡ stateTests Q
   unfolding stateTests hasNoStableState
   state-same = ap (λ (ms : List Interpretation). record { cause = NoStableState; applies = eqb (length ms) 0 } ∷ []) (alike-models a)
 
@@ -178,7 +178,7 @@ module _ {P Q : Program} (a : Alike P Q) (fact : ℕ) where
   unfolding placeIn
   place-same = ap (λ (ms : List Interpretation). placeBy (all (λ m. atomHolds m fact) ms) (any (λ m. atomHolds m fact) ms)) (alike-models a)
 
-  reply-same : (v : Verdict) → replyOf v P fact ≡ replyOf v Q fact
+  pub reply-same : (v : Verdict) → replyOf v P fact ≡ replyOf v Q fact
   unfolding replyOf
   reply-same (Refused c) = refl
   reply-same Accepted = ap₂ reply.Placed place-same (alike-count a)

@@ -14,6 +14,7 @@ use Rattle.format.specs.Book.{Literal, Rule}
 use Rattle.models.specs.Program.{Program, constrained}
 use Rattle.models.specs.StableModels.{overrides}
 use Rattle.models.specs.Alike.{Alike}
+use Rattle.models.proofs.AlikeLaws.{has-rule, has-body}
 use Rattle.models.proofs.ConstraintLaws.{constrained-overrides}
 use Rattle.models.proofs.SelfLeaningLaws.{overrides-asks, overrides-of}
 use Rattle.table.specs.Rows.{rowSize, rowCount, rowLayer, overridden, rowAt, rowsOf}
@@ -74,10 +75,10 @@ module _ {P : Program} {book rows : List ℕ} (w : Tabulates P book rows) where
   unfolding tabled constrained
   tabled-alike bodies e = record {
     atoms-same = refl;
-    to = λ r k. subst (λ (rs : List Rule). r ∈ rs) (sym (w .rules)) k;
-    from = λ r k. subst (λ (rs : List Rule). r ∈ rs) (w .rules) k;
-    constraints-to = λ b k. subst (λ (bs : List (List Literal)). b ∈ bs) (sym e) k;
-    constraints-from = λ b k. subst (λ (bs : List (List Literal)). b ∈ bs) e k;
+    to = λ r k. has-rule r (subst (λ (rs : List Rule). r ∈ rs) (sym (w .rules)) k);
+    from = λ r k. has-rule r (subst (λ (rs : List Rule). r ∈ rs) (w .rules) k);
+    constraints-to = λ b k. has-body b (subst (λ (bs : List (List Literal)). b ∈ bs) (sym e) k);
+    constraints-from = λ b k. has-body b (subst (λ (bs : List (List Literal)). b ∈ bs) e k);
     overrides-same = λ t r k j. overrides-same t r k j ∙ sym (constrained-overrides Q bodies t r);
   }
 
