@@ -19,7 +19,7 @@ use std::fmt;
 pub const CALLS: [&str; 7] = ["check", "test", "list", "one", "place", "nearest", "count"];
 
 /// A call, with what it takes beside the book and the drive.
-#[derive(Clone, Debug)]
+#[derive(Clone, Debug, PartialEq, Eq)]
 pub enum Question {
     Check,
     Test { candidate: Vec<u8> },
@@ -281,7 +281,7 @@ fn too_many_branching(rng: &mut Rng) -> Book {
 }
 
 /// Every call is asked, and so that where the book is lawful each of its own causes comes up.
-fn questions(rng: &mut Rng, book: &[u8], drive: Drive) -> Vec<Asked> {
+pub fn questions(rng: &mut Rng, book: &[u8], drive: Drive) -> Vec<Asked> {
     let truth = Truth::new(book, drive);
     let (facts, _) = fields(book);
     let width = facts.div_ceil(8);

@@ -13,6 +13,7 @@ pub mod causes;
 pub mod child;
 pub mod conditions;
 pub mod drive;
+pub mod elsewhere;
 pub mod every_call;
 pub mod examples;
 pub mod expected;

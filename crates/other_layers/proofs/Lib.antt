@@ -1,0 +1,3 @@
+pub mod SameTestsLaws
+pub mod OtherLayersLaws
+pub mod ExampleLaws

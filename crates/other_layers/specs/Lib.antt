@@ -1,0 +1,2 @@
+pub mod OtherLayers
+pub mod Examples
