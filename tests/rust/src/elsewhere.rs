@@ -55,10 +55,14 @@ impl Lesson {
         Lesson { book, drive }
     }
 
-    /// The driven layer and those below it. The driven layer must be below 32.
+    /// The layers below the driven one, which must be one of the 32 that there can be.
+    fn below(&self) -> u32 {
+        below(&self.book.arrows, self.drive.layer as u8)
+    }
+
+    /// The driven layer and those below it.
     pub fn lower(&self) -> u32 {
-        let layer = self.drive.layer as u8;
-        below(&self.book.arrows, layer) | 1 << layer
+        self.below() | 1 << self.drive.layer
     }
 
     /// All other layers of the book.
@@ -93,7 +97,7 @@ impl Lesson {
     }
 }
 
-/// What document 02, (n) asks of two drives of one layer.
+/// What document 02, (n) asks of two drives.
 #[derive(Clone, Copy, Debug, PartialEq, Eq)]
 pub enum Hypothesis {
     /// "two accepted books"
@@ -104,7 +108,9 @@ pub enum Hypothesis {
     DrivenLayer,
     /// "or 19"
     LayersOff,
-    /// "the same driven layer with the same layers below it"
+    /// "the same driven layer"
+    SameLayer,
+    /// "with the same layers below it"
     Below,
     /// "the same set of layers switched off among those at or below it"
     Off,
@@ -118,11 +124,12 @@ pub enum Hypothesis {
 
 pub use Hypothesis::*;
 
-pub const EVERY_HYPOTHESIS: [Hypothesis; 9] = [
+pub const EVERY_HYPOTHESIS: [Hypothesis; 10] = [
     Accepted,
     Facts,
     DrivenLayer,
     LayersOff,
+    SameLayer,
     Below,
     Off,
     RulesKept,
@@ -133,13 +140,13 @@ pub const EVERY_HYPOTHESIS: [Hypothesis; 9] = [
 impl Hypothesis {
     fn holds(self, one: &Lesson, other: &Lesson) -> bool {
         let lower = one.lower();
-        let layer = one.drive.layer as u8;
         match self {
             Accepted => one.is_accepted() && other.is_accepted(),
             Facts => one.book.atoms == other.book.atoms,
             DrivenLayer => one.has_driven_layer() && other.has_driven_layer(),
             LayersOff => one.has_layers_off() && other.has_layers_off(),
-            Below => below(&one.book.arrows, layer) == below(&other.book.arrows, layer),
+            SameLayer => one.drive.layer == other.drive.layer,
+            Below => one.below() == other.below(),
             Off => (one.drive.off ^ other.drive.off) & lower == 0,
             RulesKept => one.rules_in(&other.book),
             NoMoreRules => other.rules_in(&one.book),
@@ -148,9 +155,8 @@ impl Hypothesis {
     }
 }
 
-/// The hypotheses that two drives of one layer, which is below 32, do not meet.
+/// The hypotheses that two drives do not meet.
 pub fn broken(one: &Lesson, other: &Lesson) -> Vec<Hypothesis> {
-    assert_eq!(one.drive.layer, other.drive.layer, "they drive two layers");
     let mut broken = EVERY_HYPOTHESIS.to_vec();
     broken.retain(|hypothesis| !hypothesis.holds(one, other));
     broken

@@ -321,6 +321,11 @@ fn broken_alone() -> Vec<(Hypothesis, Lesson, Lesson)> {
             lesson(&line, at(1)),
         ),
         (
+            Hypothesis::SameLayer,
+            lesson(&loose, at(0)),
+            lesson(&loose, at(1)),
+        ),
+        (
             Hypothesis::Below,
             lesson(&loose, at(1)),
             lesson(&line, at(1)),
