@@ -9,6 +9,6 @@ pub mod LeafLaws
 pub mod ListingLaws
 pub mod ExampleLaws
 pub mod AlikeLaws
-pub mod OtherLayersLaws
+pub mod AlikeAtLaws
 pub mod SwitchedOffLaws
 pub mod ConstraintLaws

@@ -2,12 +2,12 @@
 -- sound, and for the two books of specs/Examples.antt each passes by computation. Assumes nothing.
 use mathlib.Core.Path.{_≡_, refl, ap, sym, subst}
 use mathlib.Core.Logic.{_⊎_, inl, inr}
-use mathlib.Core.Bool.{Bool, true, false, not, _&&_, _||_, Bool·beq}
-use mathlib.Core.List.{List, [], _∷_, _++_, map, List·Memᴰ·head, List·Memᴰ·tail}
+use mathlib.Core.Bool.{Bool, not, _&&_, _||_, Bool·beq}
+use mathlib.Core.List.{List, _∷_, List·Memᴰ·head, List·Memᴰ·tail}
 use Prim.Native.Nat.{ℕ}
 use native.Mathlib.Omega.{arith}
 use lib.Dec.{T, T-not, eqb, eqb-refl, eqb→eq}
-use lib.ListN.{length, getD}
+use lib.ListN.{getD}
 use Rattle.base.specs.Lists.{consIf, all, any, filter, flat, upTo}
 use Rattle.base.specs.Closure.{member, fires, extend, saturate, closure}
 use Rattle.base.proofs.Members.{_∈_, and-left, and-right, or-cases, all-at, any-at, same-test}
@@ -17,12 +17,11 @@ use Rattle.format.specs.Book.{Literal, Rule, Book, u16At, u32At, recordsIn, rec
 use Rattle.format.specs.Sections.{wholeSection, hasBrokenSection}
 use Rattle.models.specs.Program.{inSet, AtOrBelow}
 use Rattle.models.specs.StableModels.{sameLiteral}
-use Rattle.models.specs.Alike.{SameBody, SameRule, HasRule}
+use Rattle.models.specs.Alike.{SameRule, HasRule}
 use Rattle.models.specs.Examples.{framed, section, bytesOf, p, notP, q, notQ, never, ruleIn, arrow}
 use Rattle.models.proofs.LeastLaws.{beq-same, literal-same}
 use Rattle.book.specs.Causes.{within, arrowOk, ruleLength, atomBelow, headOk, ruleOk, isTooShort, hasWrongVersion, hasWrongLength, isOutOfRange, hasBadRecord, repeatsArrow, hasCycle, tests, verdictIf, firstOf, verdict}
 use Rattle.accepted.specs.Driven.{isNoSuchLayer, hasAbsentLayer, drivenTests}
-use Rattle.other_layers.specs.OtherLayers.{SameLesson}
 use Rattle.other_layers.specs.Examples.{before, after, Edited}
 
 -- ---- the same rule

@@ -10,13 +10,15 @@ use Rattle.models.specs.Program.{Program, programAt}
 use Rattle.models.specs.StableModels.{stable}
 use Rattle.models.specs.Listing.{interpretationOf}
 use Rattle.models.specs.Alike.{Alike}
-use Rattle.models.proofs.OtherLayersLaws.{alike-at}
+use Rattle.models.proofs.AlikeAtLaws.{alike-at}
 use Rattle.book.specs.Causes.{Test, tests, firstOf, verdict}
+use Rattle.book.specs.declared.Cause.the-variants.{BadCandidate}
 use Rattle.book.specs.declared.Verdict.{Verdict}
 use Rattle.book.specs.declared.Verdict.the-variants.{Accepted}
 use Rattle.accepted.specs.Accepted.{IsAccepted}
 use Rattle.accepted.specs.Driven.{drivenTests, layerTests}
 use Rattle.accepted.proofs.FirstLaws.{first-append}
+use Rattle.candidate.specs.Candidate.{isBadCandidate}
 use Rattle.test_call.specs.Reply as test
 use Rattle.list_call.specs.Reply as list
 use Rattle.list_call.proofs.ListLaws as list-laws
@@ -25,8 +27,8 @@ use Rattle.one_call.proofs.OneLaws as one-laws
 use Rattle.place_call.specs.Reply as place
 use Rattle.place_call.proofs.PlaceLaws as place-laws
 use Rattle.lesson.specs.Answers.{testAnswer, listAnswer, oneAnswer, placeAnswer}
-use Rattle.other_layers.specs.OtherLayers.{SameLesson, SameAnswers, OtherLayers}
-use Rattle.other_layers.proofs.SameTestsLaws.{list-tests, one-tests, place-tests, candidate-tests, candidate-stable}
+use Rattle.other_layers.specs.OtherLayers.{SameLesson, OtherLayers}
+use Rattle.other_layers.proofs.SameTestsLaws.{list-tests, one-tests, place-tests, candidate-stable}
 
 -- only a call's own tests are left
 own-tests : (book : List ℕ) (layer off : ℕ) → IsAccepted book → firstOf (drivenTests (layerCount book) layer off) ≡ Accepted
@@ -57,8 +59,8 @@ module _ (one other : List ℕ) (layer off off′ : ℕ) (s : SameLesson one oth
   unfolding test.testReply test.testTests programAt
   same-test candidate =
       made (λ v R. test.replyOf v (stable R (interpretationOf (R .atoms) candidate)))
-      (λ v. ap (test.replyOf v) (candidate-stable programs (bookOf one .atoms) (bookOf other .atoms) (s .facts-same) refl candidate)) _ _
-      (candidate-tests programs (bookOf one .atoms) (bookOf other .atoms) (s .facts-same) refl candidate)
+      (λ v. ap (test.replyOf v) (candidate-stable programs (bookOf one .atoms) (bookOf other .atoms) refl (s .facts-same) candidate)) _ _
+      (ap (λ (n : ℕ). record { cause = BadCandidate; applies = isBadCandidate n candidate } ∷ []) (s .facts-same))
 
   same-listing : (old : List ℕ) → list.listReply one layer off old ≡ list.listReply other layer off′ old
   unfolding list.listReply list.listTests

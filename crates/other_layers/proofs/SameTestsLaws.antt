@@ -1,8 +1,8 @@
 -- Over programs that are alike, each call makes the same tests behind those of the driven layer, and the test of a candidate tests the same
 -- state: all of it goes by n, the stable models and g. That the replies and buffers are the same stands with each call. Assumes nothing.
-use mathlib.Core.Path.{_≡_, ap, ap₂, sym, _∙_}
-use mathlib.Core.Bool.{Bool, not}
-use mathlib.Core.List.{List, [], _∷_}
+use mathlib.Core.Path.{_≡_, ap, ap₂, _∙_}
+use mathlib.Core.Bool.{not}
+use mathlib.Core.List.{List, _∷_}
 use Prim.Native.Nat.{ℕ}
 use lib.Dec.{ltb}
 use Rattle.base.specs.Bounds.{maxBranching}
@@ -12,8 +12,7 @@ use Rattle.models.specs.Listing.{interpretationOf}
 use Rattle.models.specs.Alike.{Alike}
 use Rattle.models.proofs.AlikeLaws.{alike-stable, alike-count}
 use Rattle.book.specs.Causes.{Test}
-use Rattle.book.specs.declared.Cause.the-variants.{BadCandidate, NoSuchFact, TooManyBranching}
-use Rattle.candidate.specs.Candidate.{isBadCandidate}
+use Rattle.book.specs.declared.Cause.the-variants.{NoSuchFact, TooManyBranching}
 use Rattle.candidate.proofs.CandidateLaws.{read-length}
 use Rattle.passes.specs.Limit.{hasTooManyBranching}
 use Rattle.list_call.specs.Reply as list
@@ -44,10 +43,7 @@ module _ {P Q : Program} (a : Alike P Q) where
       ap₂ (λ (n : ℕ) (ts : List Test). record { cause = NoSuchFact; applies = not (ltb fact n) } ∷ ts) (a .atoms-same)
       (limited (place.stateTests P) (place.stateTests Q) (place-laws.state-same a fact))
 
-  -- a candidate of n facts
-  module _ (n k : ℕ) (e : n ≡ k) (size : n ≡ P .atoms) (candidate : List ℕ) where
-    pub candidate-tests : (record { cause = BadCandidate; applies = isBadCandidate n candidate } ∷ []) ≡ (record { cause = BadCandidate; applies = isBadCandidate k candidate } ∷ [])
-    candidate-tests = ap (λ (x : ℕ). record { cause = BadCandidate; applies = isBadCandidate x candidate } ∷ []) e
-
-    pub candidate-stable : stable P (interpretationOf n candidate) ≡ stable Q (interpretationOf k candidate)
-    candidate-stable = alike-stable a (interpretationOf n candidate) (read-length n candidate ∙ size) ∙ ap (λ (x : ℕ). stable Q (interpretationOf x candidate)) e
+  -- the state that a candidate of n facts gives
+  pub candidate-stable : (n k : ℕ) → n ≡ P .atoms → n ≡ k → (candidate : List ℕ) → stable P (interpretationOf n candidate) ≡ stable Q (interpretationOf k candidate)
+  candidate-stable n k size e candidate =
+      alike-stable a (interpretationOf n candidate) (read-length n candidate ∙ size) ∙ ap (λ (x : ℕ). stable Q (interpretationOf x candidate)) e

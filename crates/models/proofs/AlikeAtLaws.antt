@@ -8,10 +8,10 @@ use mathlib.Core.List.{List, map, Memᴰ·map, Memᴰ·of-map}
 use Prim.Native.Nat.{ℕ}
 use lib.Dec.{T, eqb, eqb→eq}
 use Rattle.base.specs.Lists.{filter}
-use Rattle.base.proofs.Members.{_∈_, and-left, and-right, and-both, or-cases, filter-from, filter-into, same-test}
+use Rattle.base.proofs.Members.{_∈_, and-left, and-right, and-both, or-cases, filter-from, filter-into}
 use Rattle.layers.specs.Layers.{below}
 use Rattle.format.specs.Book.{Literal, Rule, Book, isFalsity, isConstraint}
-use Rattle.models.specs.Program.{Program, inSet, AtOrBelow, relevant, programAt}
+use Rattle.models.specs.Program.{inSet, AtOrBelow, relevant, programAt}
 use Rattle.models.specs.StableModels.{complement, sameLiteral, leansOnItself, overrides}
 use Rattle.models.specs.Alike.{SameRule, HasRule, HasBody, Alike}
 
