@@ -242,35 +242,14 @@ impl Edit {
             MoreLayers => book.layers = rng.range(book.layers.into(), MOST_LAYERS.into()) as u8,
             FewerLayers => without_the_last(lesson, others),
             Renumbered => renumbered(rng, lesson, lower, &elsewhere),
-            RulesAdded if !elsewhere.is_empty() => {
-                for _ in 0..rng.range(1, 4) {
-                    let rule = any_rule(rng, book, &elsewhere);
-                    book.rules.push(rule);
-                }
-                book.rules.truncate(MOST_RULES);
-            }
+            RulesAdded => add_rules(rng, book, &elsewhere),
             RulesTaken => book
                 .rules
                 .retain(|rule| lower >> rule.layer & 1 == 1 || rng.chance(50)),
-            RulesChanged => {
-                for at in 0..book.rules.len() {
-                    let layer = book.rules[at].layer;
-                    if others >> layer & 1 == 1 && rng.chance(50) {
-                        book.rules[at] = any_rule(rng, book, &[layer]);
-                    }
-                }
-            }
-            ArrowElsewhere => {
-                let arrow = any_arrow(rng, &elsewhere, &elsewhere);
-                book.arrows
-                    .extend(arrow.filter(|arrow| may_join(book, arrow)));
-            }
-            ArrowUpward => {
-                let arrow = any_arrow(rng, &within, &elsewhere);
-                book.arrows
-                    .extend(arrow.filter(|arrow| may_join(book, arrow)));
-            }
+            RulesChanged => change_rules(rng, book, others),
+            ArrowElsewhere => add_arrow(rng, book, &elsewhere, &elsewhere),
             ArrowElsewhereTaken => take_arrow(rng, book, others, others),
+            ArrowUpward => add_arrow(rng, book, &within, &elsewhere),
             ArrowUpwardTaken => take_arrow(rng, book, lower, others),
             SamePaths => same_paths(rng, book, &within),
             SetElsewhere => drive.off ^= rng.word() as u32 & others,
@@ -278,19 +257,12 @@ impl Edit {
                 rng.shuffle(&mut book.rules);
                 rng.shuffle(&mut book.arrows);
             }
-            RulesRepeated if !book.rules.is_empty() => {
-                for _ in 0..rng.range(1, 3) {
-                    let rule = book.rules[rng.below(book.rules.len())].clone();
-                    book.rules.push(rule);
-                }
-                book.rules.truncate(MOST_RULES);
-            }
+            RulesRepeated => repeat_rules(rng, book),
             BodiesRewritten => {
                 for rule in &mut book.rules {
                     rewrite(rng, &mut rule.body);
                 }
             }
-            RulesAdded | RulesRepeated => {}
         }
     }
 }
@@ -361,12 +333,49 @@ fn any_rule(rng: &mut Rng, book: &Book, layers: &[u8]) -> Rule {
     }
 }
 
-/// An arrow from one of some layers to one of others.
-fn any_arrow(rng: &mut Rng, from: &[u8], to: &[u8]) -> Option<Arrow> {
-    (!from.is_empty() && !to.is_empty()).then(|| Arrow {
-        earlier: rng.pick(from),
-        later: rng.pick(to),
-    })
+/// Some rules more in these layers, if there are any.
+fn add_rules(rng: &mut Rng, book: &mut Book, layers: &[u8]) {
+    if !layers.is_empty() {
+        for _ in 0..rng.range(1, 4) {
+            let rule = any_rule(rng, book, layers);
+            book.rules.push(rule);
+        }
+        book.rules.truncate(MOST_RULES);
+    }
+}
+
+/// Other rules in place of some of these layers'.
+fn change_rules(rng: &mut Rng, book: &mut Book, layers: u32) {
+    for at in 0..book.rules.len() {
+        let layer = book.rules[at].layer;
+        if layers >> layer & 1 == 1 && rng.chance(50) {
+            book.rules[at] = any_rule(rng, book, &[layer]);
+        }
+    }
+}
+
+/// Some rules once more.
+fn repeat_rules(rng: &mut Rng, book: &mut Book) {
+    if !book.rules.is_empty() {
+        for _ in 0..rng.range(1, 3) {
+            let rule = book.rules[rng.below(book.rules.len())].clone();
+            book.rules.push(rule);
+        }
+        book.rules.truncate(MOST_RULES);
+    }
+}
+
+/// An arrow more from one of some layers to one of others, where the book stays lawful with it.
+fn add_arrow(rng: &mut Rng, book: &mut Book, from: &[u8], to: &[u8]) {
+    if !from.is_empty() && !to.is_empty() {
+        let arrow = Arrow {
+            earlier: rng.pick(from),
+            later: rng.pick(to),
+        };
+        if may_join(book, &arrow) {
+            book.arrows.push(arrow);
+        }
+    }
 }
 
 /// Whether the book stays lawful with an arrow more.

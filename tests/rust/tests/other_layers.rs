@@ -5,7 +5,7 @@
 use lesson_tests::book::{hex, not, plain, Book, MAX_ATOMS};
 use lesson_tests::drive::{at, Drive};
 use lesson_tests::elsewhere::{
-    broken, edited, put, Edit, Hypothesis, Lesson, EVERY_EDIT, EVERY_HYPOTHESIS,
+    broken, edited, put, Edit, Hypothesis, Hypothesis::*, Lesson, EVERY_EDIT, EVERY_HYPOTHESIS,
 };
 use lesson_tests::every_call::{assert_known_book, states, FILLER};
 use lesson_tests::expected::{counts, MAX_BRANCHING, TOO_MANY_BRANCHING};
@@ -265,91 +265,41 @@ fn rules_elsewhere_make_no_fact_branch() {
         assert_eq!(listed(&other).0, counts(MAX_BRANCHING, 1));
         let here = other.book.clone().rule(0, plain(P), &[not(spare)]);
         let here = Lesson::new(here, at(0));
-        assert_eq!(broken(&one, &here), [Hypothesis::NoMoreRules]);
+        assert_eq!(broken(&one, &here), [NoMoreRules]);
         assert_eq!(listed(&here).0, TOO_MANY_BRANCHING);
     }
 }
 
 /// For each hypothesis, two drives that break it alone.
 fn broken_alone() -> Vec<(Hypothesis, Lesson, Lesson)> {
-    let lesson = |book: &Book, drive: Drive| Lesson::new(book.clone(), drive);
-    let line = Book::new(2, 2).arrow(0, 1).rule(0, plain(P), &[]);
+    let drive = |book: &Book, drive: Drive| Lesson::new(book.clone(), drive);
     let loose = Book::new(2, 2).rule(0, plain(P), &[]);
+    let line = loose.clone().arrow(0, 1);
+    let twice = line.clone().arrow(0, 1);
+    let single = Book::new(2, 1).rule(0, plain(P), &[]);
+    let wider = Book::new(3, 2).arrow(0, 1).rule(0, plain(P), &[]);
+    let choice = line.clone().rule(1, plain(Q), &[not(P)]);
+    let banned = line.clone().never(0, &[]);
     let quarrel = Book::new(1, 3)
         .arrow(0, 2)
         .arrow(1, 2)
         .rule(0, plain(P), &[])
         .rule(1, not(P), &[]);
-    let twice = line.clone().arrow(0, 1);
-    let single = Book::new(2, 1).rule(0, plain(P), &[]);
-    let mut more = line.clone();
-    more.atoms = 3;
+    let settled = quarrel.clone().arrow(0, 1);
     vec![
-        (
-            Hypothesis::Accepted,
-            lesson(&line, at(1)),
-            lesson(&twice, at(1)),
-        ),
-        (
-            Hypothesis::Accepted,
-            lesson(&twice, at(1)),
-            lesson(&line, at(1)),
-        ),
-        (
-            Hypothesis::Facts,
-            lesson(&line, at(1)),
-            lesson(&more, at(1)),
-        ),
-        (
-            Hypothesis::DrivenLayer,
-            lesson(&loose, at(1)),
-            lesson(&single, at(1)),
-        ),
-        (
-            Hypothesis::DrivenLayer,
-            lesson(&single, at(1)),
-            lesson(&loose, at(1)),
-        ),
-        (
-            Hypothesis::LayersOff,
-            lesson(&line, at(1)),
-            lesson(&line, at(1).off(4)),
-        ),
-        (
-            Hypothesis::LayersOff,
-            lesson(&line, at(1).off(4)),
-            lesson(&line, at(1)),
-        ),
-        (
-            Hypothesis::SameLayer,
-            lesson(&loose, at(0)),
-            lesson(&loose, at(1)),
-        ),
-        (
-            Hypothesis::Below,
-            lesson(&loose, at(1)),
-            lesson(&line, at(1)),
-        ),
-        (
-            Hypothesis::Off,
-            lesson(&line, at(1)),
-            lesson(&line, at(1).off(1)),
-        ),
-        (
-            Hypothesis::RulesKept,
-            lesson(&line.clone().rule(1, plain(Q), &[not(P)]), at(1)),
-            lesson(&line, at(1)),
-        ),
-        (
-            Hypothesis::NoMoreRules,
-            lesson(&line, at(1)),
-            lesson(&line.clone().never(0, &[]), at(1)),
-        ),
-        (
-            Hypothesis::Order,
-            lesson(&quarrel, at(2)),
-            lesson(&quarrel.clone().arrow(0, 1), at(2)),
-        ),
+        (Accepted, drive(&line, at(1)), drive(&twice, at(1))),
+        (Accepted, drive(&twice, at(1)), drive(&line, at(1))),
+        (Facts, drive(&line, at(1)), drive(&wider, at(1))),
+        (DrivenLayer, drive(&loose, at(1)), drive(&single, at(1))),
+        (DrivenLayer, drive(&single, at(1)), drive(&loose, at(1))),
+        (LayersOff, drive(&line, at(1)), drive(&line, at(1).off(4))),
+        (LayersOff, drive(&line, at(1).off(4)), drive(&line, at(1))),
+        (SameLayer, drive(&loose, at(0)), drive(&loose, at(1))),
+        (Below, drive(&loose, at(1)), drive(&line, at(1))),
+        (Off, drive(&line, at(1)), drive(&line, at(1).off(1))),
+        (RulesKept, drive(&choice, at(1)), drive(&line, at(1))),
+        (NoMoreRules, drive(&line, at(1)), drive(&banned, at(1))),
+        (Order, drive(&quarrel, at(2)), drive(&settled, at(2))),
     ]
 }
 
@@ -365,7 +315,7 @@ fn each_hypothesis_is_needed() {
     }
 }
 
-/// The books of crates/other_layers/specs/Examples.antt: the depot, layer 3, is edited while layer 2 is
+/// The books of crates/other_layers/specs/TwoBooks.antt: the depot, layer 3, is edited while layer 2 is
 /// driven.
 #[test]
 fn the_proved_example_is_one_lesson() {
