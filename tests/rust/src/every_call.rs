@@ -1,4 +1,4 @@
-//! All five calls on a driven layer at once: on small books against the oracle, against states that are
+//! All calls on a driven layer at once: on small books against the oracle, against states that are
 //! known, and against misreadings, which must find others; and on large books whose states are known.
 
 use crate::book::{hex, width, Book, BYTE_ATOMS, MAX_ATOMS};
@@ -59,7 +59,7 @@ fn assert_nearest_in_place(
     );
 }
 
-/// All five calls come to what the oracle says, for every state and every fact of a small book, and
+/// All calls come to what the oracle says, for every state and every fact of a small book, and
 /// in buffers with room and without. What `lesson_list` answers is returned.
 pub fn assert_as_the_oracle(what: &str, book: &Book, drive: Drive) -> u64 {
     let bytes = book.bytes();
@@ -102,7 +102,7 @@ pub fn assert_as_the_oracle(what: &str, book: &Book, drive: Drive) -> u64 {
     answer
 }
 
-/// By all five calls, the stable states of a book of at most 8 facts are those of the one-byte
+/// By all calls, the stable states of a book of at most 8 facts are those of the one-byte
 /// records, which rise, and g is this.
 pub fn assert_known(what: &str, book: &Book, drive: Drive, records: &[u8], g: usize) {
     let bytes = book.bytes();
@@ -152,7 +152,7 @@ pub fn assert_trap(book: &Book, drive: Drive, records: &[u8], branching: usize, 
     assert!(shown, "the book does not show {wrong:?} at {drive}");
 }
 
-/// All five calls are refused, and leave every byte.
+/// All calls are refused, and leave every byte.
 pub fn assert_refused(what: &str, bytes: &[u8], drive: Drive, cause: u64) {
     let buffers: [&[u8]; 3] = [&[], &[FILLER; 1], &[FILLER; 40]];
     for buffer in buffers {
@@ -174,7 +174,7 @@ pub fn assert_refused(what: &str, bytes: &[u8], drive: Drive, cause: u64) {
     }
 }
 
-/// All five calls on a book of any size whose states are known, in buffers around the listing's length,
+/// All calls on a book of any size whose states are known, in buffers around the listing's length,
 /// and with candidates that are stable and neighbours of these.
 pub fn assert_known_book(what: &str, known: &Known) {
     let (bytes, drive) = (known.book.bytes(), known.layer.into());

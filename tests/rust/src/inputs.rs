@@ -1,4 +1,4 @@
-//! The fault trial's inputs: a drive of a book, and questions to all six calls, each with what must
+//! The fault trial's inputs: a drive of a book, and questions to all calls, each with what must
 //! come of it. Seed and number give the input, so that one of them can be tried again alone.
 
 use crate::book::{hex, Book, BYTE_ATOMS, LONGEST_RECORD, MAX_ATOMS, WIDE};

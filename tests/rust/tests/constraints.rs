@@ -1,6 +1,6 @@
 //! Constraints (document 02, c): a rule that carries 32,767 as its head says what must never hold. It
 //! displaces nothing, is never displaced, reaches no name and makes no fact branch, and a state in which
-//! the body of a relevant one holds is not stable. All five calls, against the oracle, which has this
+//! the body of a relevant one holds is not stable. All calls, against the oracle, which has this
 //! from that document; against books whose states are known; and against books from which the
 //! constraints were taken.
 
@@ -395,7 +395,7 @@ fn one_record(atoms: u16, literals: &[u16]) -> Vec<u8> {
     draft.bytes()
 }
 
-/// Engine and reader accept the book, or both refuse it 6 by all five calls.
+/// Engine and reader accept the book, or both refuse it 6 by all calls.
 fn assert_accepted(what: &str, bytes: &[u8], accepted: bool) {
     let cause = if accepted { 0 } else { 6 };
     assert_eq!(ffi::check(bytes), cause, "{what}\n{}", hex(bytes));

@@ -1,4 +1,4 @@
-//! Runs all six calls on random, damaged and hostile inputs against the oracle, with every slice
+//! Runs all calls on random, damaged and hostile inputs against the oracle, with every slice
 //! against an unreadable page on either side, misaligned, and in a heap block of its own; and from
 //! four threads at once on shared books.
 //!
