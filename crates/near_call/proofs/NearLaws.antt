@@ -44,6 +44,7 @@ use Rattle.passes.specs.Limit.{hasTooManyBranching, hasNoStableState}
 use Rattle.passes.specs.Nearest.{chosen, Nearest}
 use Rattle.passes.proofs.FirstLaws.{chosen-some}
 use Rattle.one_call.specs.Reply.{roomTests, searchTests}
+use Rattle.one_call.proofs.OneLaws.{room-same}
 use Rattle.near_call.specs.declared.NearReply.{NearReply}
 use Rattle.near_call.specs.declared.NearReply.the-variants as reply
 use Rattle.near_call.specs.Reply.{candidateTests, nearTests, nearest, leastDistance, replyOf, bufferOf, nearReply, nearBuffer, Answers}
@@ -157,32 +158,23 @@ module _ {book rows plan : List ℕ} {sizes : Sizes} (ready : Ready book rows pl
 
 -- ---- the program that the table stands for, and the driven layer's
 module _ {P Q : Program} (a : Alike P Q) where
-  none-same : hasNoStableState P ≡ hasNoStableState Q
-  unfolding hasNoStableState
-  none-same = ap (λ (ms : List Interpretation). eqb (length ms) 0) (alike-models a)
-
-  room-same : (room : ℕ) → roomTests P room ≡ roomTests Q room
-  unfolding roomTests
-  room-same room =
-      ap₂ (λ (n : ℕ) (b : Bool). record { cause = BufferTooShort; applies = ltb room (recordSize n) } ∷ record { cause = NoStableState; applies = b } ∷ []) (a .atoms-same) none-same
-
   nearest-same : (c : Interpretation) → nearest P c ≡ nearest Q c
   unfolding nearest
   nearest-same c = ap₂ (λ (n : ℕ) (ms : List Interpretation). take 1 (closest n c ms)) (a .atoms-same) (alike-models a)
 
-  reply-same : (v : Verdict) (c : Interpretation) → replyOf v P c ≡ replyOf v Q c
+  pub reply-same : (v : Verdict) (c : Interpretation) → replyOf v P c ≡ replyOf v Q c
   unfolding replyOf leastDistance
   reply-same (Refused cause) c = refl
   reply-same Accepted c = ap₂ reply.Written (ap₂ (λ (n : ℕ) (ms : List Interpretation). distance n c (getD ms 0 [])) (a .atoms-same) (nearest-same c)) (alike-count a)
 
-  buffer-same : (v : Verdict) (c : Interpretation) (old : List ℕ) → bufferOf v P c old ≡ bufferOf v Q c old
+  pub buffer-same : (v : Verdict) (c : Interpretation) (old : List ℕ) → bufferOf v P c old ≡ bufferOf v Q c old
   unfolding bufferOf
   buffer-same (Refused cause) c old = refl
   buffer-same Accepted c old = ap₂ (λ (n : ℕ) (ms : List Interpretation). flat (map (recordOf n) ms) ++ drop (recordSize n) old) (a .atoms-same) (nearest-same c)
 
   pub answers-over : (c : Interpretation) {old new : List ℕ} {r : NearReply} → Answers (firstOf (roomTests Q (length old))) Q c old r new → Answers (firstOf (roomTests P (length old))) P c old r new
   answers-over c {old} x =
-      let e : firstOf (roomTests Q (length old)) ≡ firstOf (roomTests P (length old)) = sym (ap firstOf (room-same (length old))) in
+      let e : firstOf (roomTests Q (length old)) ≡ firstOf (roomTests P (length old)) = sym (ap firstOf (room-same a (length old))) in
       record {
         reply-is = x .reply-is ∙ ap (λ (v : Verdict). replyOf v Q c) e ∙ sym (reply-same (firstOf (roomTests P (length old))) c);
         buffer-is = x .buffer-is ∙ ap (λ (v : Verdict). bufferOf v Q c old) e ∙ sym (buffer-same (firstOf (roomTests P (length old))) c old);

@@ -24,11 +24,16 @@ use Rattle.list_call.specs.Reply as list
 use Rattle.list_call.proofs.ListLaws as list-laws
 use Rattle.one_call.specs.Reply as one-state
 use Rattle.one_call.proofs.OneLaws as one-laws
+use Rattle.near_call.specs.Reply as near
+use Rattle.near_call.proofs.NearLaws as near-laws
 use Rattle.place_call.specs.Reply as place
 use Rattle.place_call.proofs.PlaceLaws as place-laws
-use Rattle.lesson.specs.Answers.{testAnswer, listAnswer, oneAnswer, placeAnswer}
+use Rattle.count_call.specs.Reply as count
+use Rattle.count_call.proofs.CountLaws as count-laws
+use Rattle.condition.specs.Causes.{fitsText}
+use Rattle.lesson.specs.Answers.{testAnswer, listAnswer, oneAnswer, placeAnswer, nearAnswer, countAnswer}
 use Rattle.other_layers.specs.OtherLayers.{SameLesson, OtherLayers}
-use Rattle.other_layers.proofs.SameTestsLaws.{list-tests, one-tests, place-tests, candidate-stable}
+use Rattle.other_layers.proofs.SameTestsLaws.{list-tests, one-tests, place-tests, near-tests, count-tests, candidate-stable}
 
 -- only a call's own tests are left
 own-tests : (book : List ℕ) (layer off : ℕ) → IsAccepted book → firstOf (drivenTests (layerCount book) layer off) ≡ Accepted
@@ -82,6 +87,25 @@ module _ (one other : List ℕ) (layer off off′ : ℕ) (s : SameLesson one oth
   unfolding place.placeReply place.placeTests
   same-place fact = made (λ v R. place.replyOf v R fact) (place-laws.reply-same programs fact) _ _ (place-tests programs fact)
 
+  same-count : (condition : List ℕ) → count.countReply one layer off condition ≡ count.countReply other layer off′ condition
+  unfolding count.countReply count.countTests
+  same-count condition =
+      made (λ v R. count.replyOf v R (fitsText condition)) (λ v. count-laws.reply-over programs v (fitsText condition)) _ _ (count-tests programs condition)
+
+  same-near : (candidate old : List ℕ) → near.nearReply one layer off candidate old ≡ near.nearReply other layer off′ candidate old
+  unfolding near.nearReply near.nearTests programAt
+  same-near candidate old =
+      made (λ v R. near.replyOf v R (interpretationOf (R .atoms) candidate))
+      (λ v. near-laws.reply-same programs v (interpretationOf (bookOf one .atoms) candidate) ∙ ap (λ (n : ℕ). near.replyOf v Q (interpretationOf n candidate)) (s .facts-same)) _ _
+      (near-tests programs candidate (length old))
+
+  same-neared : (candidate old : List ℕ) → near.nearBuffer one layer off candidate old ≡ near.nearBuffer other layer off′ candidate old
+  unfolding near.nearBuffer near.nearTests programAt
+  same-neared candidate old =
+      made (λ v R. near.bufferOf v R (interpretationOf (R .atoms) candidate) old)
+      (λ v. near-laws.buffer-same programs v (interpretationOf (bookOf one .atoms) candidate) old ∙ ap (λ (n : ℕ). near.bufferOf v Q (interpretationOf n candidate) old) (s .facts-same)) _ _
+      (near-tests programs candidate (length old))
+
 pub other-layers : OtherLayers
 other-layers one other layer off off′ s = record {
   test-answer = λ candidate. ap testAnswer (same-test one other layer off off′ s candidate);
@@ -90,4 +114,7 @@ other-layers one other layer off off′ s = record {
   one-answer = λ buffer. ap oneAnswer (same-one one other layer off off′ s buffer);
   one-bytes = same-written one other layer off off′ s;
   place-answer = λ fact. ap placeAnswer (same-place one other layer off off′ s fact);
+  count-answer = λ condition. ap countAnswer (same-count one other layer off off′ s condition);
+  near-answer = λ candidate buffer. ap nearAnswer (same-near one other layer off off′ s candidate buffer);
+  near-bytes = same-neared one other layer off off′ s;
 }

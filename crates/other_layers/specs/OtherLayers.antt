@@ -16,8 +16,10 @@ use Rattle.accepted.specs.Driven.{drivenTests}
 use Rattle.test_call.specs.Reply.{testReply}
 use Rattle.list_call.specs.Reply.{listReply, listBuffer}
 use Rattle.one_call.specs.Reply.{oneReply, oneBuffer}
+use Rattle.near_call.specs.Reply.{nearReply, nearBuffer}
 use Rattle.place_call.specs.Reply.{placeReply}
-use Rattle.lesson.specs.Answers.{testAnswer, listAnswer, oneAnswer, placeAnswer}
+use Rattle.count_call.specs.Reply.{countReply}
+use Rattle.lesson.specs.Answers.{testAnswer, listAnswer, oneAnswer, placeAnswer, nearAnswer, countAnswer}
 
 -- two calls: a book and a set of layers switched off each, and the driven layer of both
 module _ (one other : List ℕ) (layer off off′ : ℕ) where
@@ -55,6 +57,12 @@ module _ (one other : List ℕ) (layer off off′ : ℕ) where
     pub one-bytes : (buffer : List ℕ) → oneBuffer one layer off buffer ≡ oneBuffer other layer off′ buffer
     -- "fact's place"
     pub place-answer : (fact : ℕ) → placeAnswer (placeReply one layer off fact) ≡ placeAnswer (placeReply other layer off′ fact)
+    -- "condition"
+    pub count-answer : (condition : List ℕ) → countAnswer (countReply one layer off condition) ≡ countAnswer (countReply other layer off′ condition)
+    -- "nearest state"
+    pub near-answer : (candidate buffer : List ℕ)
+        → nearAnswer (nearReply one layer off candidate buffer) ≡ nearAnswer (nearReply other layer off′ candidate buffer)
+    pub near-bytes : (candidate buffer : List ℕ) → nearBuffer one layer off candidate buffer ≡ nearBuffer other layer off′ candidate buffer
 
 abbrev pub OtherLayers : Type 0
 OtherLayers = (one other : List ℕ) (layer off off′ : ℕ) → SameLesson one other layer off off′ → SameAnswers one other layer off off′
