@@ -1,3 +1,3 @@
 pub mod SameTestsLaws
 pub mod OtherLayersLaws
-pub mod ExampleLaws
+pub mod TwoBooksLaws

@@ -1,2 +1,2 @@
 pub mod OtherLayers
-pub mod Examples
+pub mod TwoBooks

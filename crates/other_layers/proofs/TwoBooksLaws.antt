@@ -1,5 +1,5 @@
 -- The hypotheses of `SameLesson` can be tested: the layers at or below the driven one are a list, and so are a book's rules. Each test is
--- sound, and for the two books of specs/Examples.antt each passes by computation. Assumes nothing.
+-- sound, and for the two books of specs/TwoBooks.antt each passes by computation. Assumes nothing.
 use mathlib.Core.Path.{_≡_, refl, ap, sym, subst}
 use mathlib.Core.Logic.{_⊎_, inl, inr}
 use mathlib.Core.Bool.{Bool, not, _&&_, _||_, Bool·beq}
@@ -22,7 +22,7 @@ use Rattle.models.specs.Examples.{framed, section, bytesOf, p, notP, q, notQ, n
 use Rattle.models.proofs.LeastLaws.{beq-same, literal-same}
 use Rattle.book.specs.Causes.{within, arrowOk, ruleLength, atomBelow, headOk, ruleOk, isTooShort, hasWrongVersion, hasWrongLength, isOutOfRange, hasBadRecord, repeatsArrow, hasCycle, tests, verdictIf, firstOf, verdict}
 use Rattle.accepted.specs.Driven.{isNoSuchLayer, hasAbsentLayer, drivenTests}
-use Rattle.other_layers.specs.Examples.{before, after, Edited}
+use Rattle.other_layers.specs.TwoBooks.{before, after, Edited}
 
 -- ---- the same rule
 hasAll : List Literal → List Literal → Bool

@@ -1,5 +1,5 @@
 -- `SameLesson` is met by books that differ in all that it leaves free: a lesson's book, and the same book after edits elsewhere. Layers 0
--- and 1 are the network and the line, 2 is the lesson, which is driven, and 3 is the depot. proofs/ExampleLaws.antt proves `Edited`. Assumes
+-- and 1 are the network and the line, 2 is the lesson, which is driven, and 3 is the depot. proofs/TwoBooksLaws.antt proves `Edited`. Assumes
 -- nothing.
 use mathlib.Core.Path.{_≡_}
 use mathlib.Core.List.{List, [], _∷_}
