@@ -439,6 +439,8 @@ pub fn put(question: &Question, lesson: &Lesson) -> Wanted {
         Question::List { buffer } => ffi::list(&book, drive, buffer),
         Question::One { buffer } => ffi::one(&book, drive, buffer),
         Question::Place { fact } => (ffi::place(&book, drive, *fact), Vec::new()),
+        Question::Nearest { candidate, buffer } => ffi::nearest(&book, drive, candidate, buffer),
+        Question::Count { condition } => (ffi::count(&book, drive, condition), Vec::new()),
     };
     Wanted { answer, buffer }
 }
