@@ -1,4 +1,4 @@
--- Every code of a condition is below n exactly if every name is. Used by `code_below`, `names_below` and `prepare`. Assumes nothing.
+-- Every code of a condition is below n exactly if every name is. Used by `code_below`, `names_below` and `read_condition`. Assumes nothing.
 use mathlib.Core.Path.{_≡_, refl, sym, ap, _∙_}
 use mathlib.Core.Bool.{Bool, true, false, _&&_}
 use mathlib.Core.List.{List, [], _∷_, _++_}

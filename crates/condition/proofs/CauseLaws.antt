@@ -1,4 +1,4 @@
--- Causes 16, 17 and 11 from what was read, and what the code of a condition is good for where none applies. Used by `prepare`.
+-- Causes 16, 17 and 11 from what was read, and what the code of a condition is good for where none applies. Used by `read_condition`.
 -- Assumes nothing.
 use mathlib.Core.Path.{_≡_, refl, sym, ap, _∙_}
 use mathlib.Core.Bool.{Bool, true, false, not, _||_}
@@ -17,7 +17,7 @@ use Rattle.book.specs.declared.Cause.the-variants.{BadCondition, TooDeep, NoSuc
 use Rattle.book.specs.declared.Verdict.the-variants.{Refused}
 use Rattle.condition.specs.Code.{codesOf, lentCode, odd, run, codeHolds, StackFits, deepest, codesBelow, peak}
 use Rattle.condition.specs.Causes.{maxCondition, maxDepth, isUnread, isDeep, namesOther, fitsIn, isBadCondition, isTooDeep, namesNoFact, conditionTests, fitsText}
-use Rattle.condition.specs.Outcome.{NoReading, CompiledTo, ReadyTo}
+use Rattle.condition.specs.Outcome.{NoReading, CompiledTo, CodedTo}
 use Rattle.condition.proofs.PlaceLaws.{part-all}
 use Rattle.condition.proofs.DepthLaws.{deepest-depth}
 use Rattle.condition.proofs.BelowLaws.{codes-names}
@@ -65,7 +65,7 @@ module _ {s code : List ℕ} {u : ℕ} (h : CompiledTo s code u) (n : ℕ) where
       unfolding conditionTests firstOf verdictIf
       unknown-name g = rw (good, shallow, names-are ∙ ap not (sym f ∙ g)) refl
 
-      pub all-ready : b ≡ true → ReadyTo s n code u
+      pub all-ready : b ≡ true → CodedTo s n code u
       unfolding conditionTests firstOf verdictIf StackFits codeHolds fitsText fitsIn
       all-ready g = record {
         size = h .size;

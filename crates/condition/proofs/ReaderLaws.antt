@@ -10,7 +10,7 @@ use Rattle.grammar.specs.Conditions.{Condition, Atom, Not, Bracket}
 use Rattle.grammar.specs.Reader.{Operator, disjunction, conjunction, byteOf, Before, nothing, after, joined, Task, from, on, bracket, operand, Stops, Took, operand-took, operator-stop, operator-go, not-took, shut-took, name-took}
 use Rattle.grammar.proofs.OneReadingLaws.{first-same, rest-same, begins, once}
 use Rattle.condition.specs.Code.{postfix, codesIn, codeOf, codeBefore, isFirst, pending, joint}
-use Rattle.condition.specs.Outcome.{Joined, Room, Written, ReadTo, NothingRead, Outcome, NameTo, NameRead}
+use Rattle.condition.specs.Outcome.{Joined, CodeRoom, Written, ReadTo, NothingRead, Outcome, NameTo, NameRead}
 use Rattle.condition.specs.declared.Got.{Got}
 use Rattle.condition.specs.declared.Got.the-variants.{At, Outside}
 use Rattle.condition.specs.declared.Name.{Name}
@@ -31,19 +31,19 @@ pub no-name : (s : List ℕ) (at : ℕ) (r : Name) → r ≡ Absent → NameRead
 no-name s at r e h = subst (λ (x : Name). NameRead s at x) e h
 
 -- the room that calls ask for
-pub room-first : {s code : List ℕ} {at used : ℕ} {first : Bool} → Room s at code used first → Room s at code used true
+pub room-first : {s code : List ℕ} {at used : ℕ} {first : Bool} → CodeRoom s at code used first → CodeRoom s at code used true
 room-first r = record { fits = r .fits; free = omega (arith, r .free) }
 
-pub room-inner : {s code : List ℕ} {at used : ℕ} → Room s at code used true → Room s (at + 1) code used true
+pub room-inner : {s code : List ℕ} {at used : ℕ} → CodeRoom s at code used true → CodeRoom s (at + 1) code used true
 room-inner r = record { fits = r .fits; free = omega (arith, r .free) }
 
-pub room-join : {k : Before → Task} {s old new : List ℕ} {at used i u : ℕ} {first : Bool} → Room s at old used first → ReadTo k s at old used true new i u → 2 * (u + pending first) ≤ length new
+pub room-join : {k : Before → Task} {s old new : List ℕ} {at used i u : ℕ} {first : Bool} → CodeRoom s at old used first → ReadTo k s at old used true new i u → 2 * (u + pending first) ≤ length new
 room-join r h = omega (arith, r .fits, r .free, h .free, h .within, h .size)
 
-pub not-room : {s old new : List ℕ} {at used i u : ℕ} → Room s at old used true → ReadTo (λ _. bracket) s (at + 1) old used true new i u → 2 * (u + pending false) ≤ length new
+pub not-room : {s old new : List ℕ} {at used i u : ℕ} → CodeRoom s at old used true → ReadTo (λ _. bracket) s (at + 1) old used true new i u → 2 * (u + pending false) ≤ length new
 not-room r h = omega (arith, r .fits, r .free, h .free, h .within, h .size)
 
-pub room-next : {k : Before → Task} {s old new code : List ℕ} {at used i u c v : ℕ} {first : Bool} → Room s at old used first → ReadTo k s at old used true new i u → Joined new u c first code v → Room s (i + 1) code v false
+pub room-next : {k : Before → Task} {s old new code : List ℕ} {at used i u c v : ℕ} {first : Bool} → CodeRoom s at old used first → ReadTo k s at old used true new i u → Joined new u c first code v → CodeRoom s (i + 1) code v false
 room-next r h j = record { fits = omega (arith, r .fits, h .size, j .size); free = omega (arith, r .free, h .free, j .count) }
 
 -- the code of an operand, behind what stands before it
@@ -200,7 +200,7 @@ name-read h j = record {
   written = only-base (record { tree = Atom _; took = h .took; wrote = j .wrote });
 }
 
-pub name-room : {s old : List ℕ} {at used i f : ℕ} → Room s at old used true → NameTo s at i f → 2 * (used + pending false) ≤ length old
+pub name-room : {s old : List ℕ} {at used i f : ℕ} → CodeRoom s at old used true → NameTo s at i f → 2 * (used + pending false) ≤ length old
 name-room r h = omega (arith, r .fits, r .free, h .behind, h .within)
 
 pub name-none : (s old : List ℕ) (at : ℕ) → (getD s at 0 ≡ 33 → ⊥) → (getD s at 0 ≡ 40 → ⊥) → NameRead s at Absent → NothingRead (λ _. bracket) s at old old

@@ -1,4 +1,4 @@
--- Running postfix code on a stack of bits comes to the condition's value. Used by `run_code`, `evaluate` and `prepare`. Assumes nothing.
+-- Running postfix code on a stack of bits comes to the condition's value. Used by `run_code`, `evaluate` and `read_condition`. Assumes nothing.
 use mathlib.Core.Path.{_≡_, refl, sym, ap, ap₂, subst, _∙_}
 use mathlib.Core.Bool.{Bool, true, false, not, _&&_, _||_, cond}
 use mathlib.Core.List.{List, [], _∷_, _++_, append-assoc, append-nil}

@@ -1,4 +1,4 @@
--- How high the stack of a condition's code gets: two bits for each bracket that is open, and three more. Used by `prepare`.
+-- How high the stack of a condition's code gets: two bits for each bracket that is open, and three more. Used by `read_condition`.
 -- Assumes nothing.
 use mathlib.Core.Path.{_≡_, refl, sym, ap, _∙_}
 use mathlib.Core.List.{List, [], _∷_, _++_, append-assoc, append-nil}

@@ -7,7 +7,7 @@ use lib.Dec.{ltb}
 use lib.ListN.{length}
 use Rattle.models.specs.StableModels.{Interpretation}
 use Rattle.grammar.specs.Conditions.{fits, depth, namesBelow}
-use Rattle.grammar.specs.Parse.{Reading, Read, Unread, readingOf}
+use Rattle.grammar.specs.Parse.{TextRead, Read, Unread, readingOf}
 use Rattle.book.specs.Causes.{Test}
 use Rattle.book.specs.declared.Cause.the-variants.{BadCondition, TooDeep, NoSuchFact}
 
@@ -24,22 +24,22 @@ abbrev pub maxDepth : ℕ
 maxDepth = 16
 
 -- of a text's reading: there is none
-unfoldable pub isUnread : Reading → Bool
+unfoldable pub isUnread : TextRead → Bool
 isUnread (Read a) = false
 isUnread Unread = true
 
 -- its brackets are nested too deep
-unfoldable pub isDeep : Reading → Bool
+unfoldable pub isDeep : TextRead → Bool
 isDeep (Read a) = ltb maxDepth (depth a)
 isDeep Unread = false
 
 -- it names something that is not a fact below n
-unfoldable pub namesOther : ℕ → Reading → Bool
+unfoldable pub namesOther : ℕ → TextRead → Bool
 namesOther n (Read a) = not (namesBelow n a)
 namesOther n Unread = false
 
 -- it holds in the state
-unfoldable pub fitsIn : Interpretation → Reading → Bool
+unfoldable pub fitsIn : Interpretation → TextRead → Bool
 fitsIn m (Read a) = fits m a
 fitsIn m Unread = false
 

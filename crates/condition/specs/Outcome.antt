@@ -18,7 +18,7 @@ use Rattle.condition.specs.declared.Got.the-variants.{At, Outside}
 use Rattle.condition.specs.declared.Compiled.{Compiled}
 use Rattle.condition.specs.declared.Compiled.the-variants.{Codes, Ungrammatical}
 use Rattle.condition.specs.declared.Prepared.{Prepared}
-use Rattle.condition.specs.declared.Prepared.the-variants.{Ready, Refused}
+use Rattle.condition.specs.declared.Prepared.the-variants.{Coded, Refused}
 
 -- below 10 the value of the digit c, and 10 where c is none
 pub record DigitOf (c r : ℕ) : Type 0 where
@@ -44,7 +44,7 @@ pub record Joined (old : List ℕ) (used c : ℕ) (first : Bool) (new : List ℕ
   pub wrote : codesIn r new ≡ codesIn used old ++ joint first c
 
 -- there is a place for every code: at most as many as bytes before `at`, and one less where an operator is due
-pub record Room (s : List ℕ) (at : ℕ) (code : List ℕ) (used : ℕ) (first : Bool) : Type 0 where
+pub record CodeRoom (s : List ℕ) (at : ℕ) (code : List ℕ) (used : ℕ) (first : Bool) : Type 0 where
   pub fits : 2 * length s ≤ length code
   pub free : used + pending first ≤ at
 
@@ -88,12 +88,12 @@ Compiles s code (Codes u) = CompiledTo s code u
 Compiles s code Ungrammatical = NoReading s
 
 -- none of the condition's causes applies, and the first u codes say of every state whether it holds there
-pub record ReadyTo (s : List ℕ) (n : ℕ) (code : List ℕ) (u : ℕ) : Type 0 where
+pub record CodedTo (s : List ℕ) (n : ℕ) (code : List ℕ) (u : ℕ) : Type 0 where
   pub size : 2 * u ≤ length code
   pub none : firstOf (conditionTests n s) ≡ verdict.Accepted
   pub stack : StackFits (lentCode code u)
   pub value : (m : Interpretation) → codeHolds (lentCode code u) m ≡ fitsText s m
 
 abbrev pub Prepares : List ℕ → ℕ → List ℕ → Prepared → Type 0
-Prepares s n code (Ready u) = ReadyTo s n code u
+Prepares s n code (Coded u) = CodedTo s n code u
 Prepares s n code (Refused c) = firstOf (conditionTests n s) ≡ verdict.Refused c

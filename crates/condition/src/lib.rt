@@ -6,7 +6,7 @@ ghost use lib.ListN.{length, getD};
 ghost use Rattle.grammar.specs.Reader.{from, bracket, disjunction, conjunction};
 ghost use Rattle.condition.specs.Code.{pending, nameCode, codesOf, step, codeHolds, StackFits, opened, deepest, codeBelow, codesBelow};
 ghost use Rattle.condition.specs.Causes.{codeBytes};
-ghost use Rattle.condition.specs.Outcome.{DigitOf, NameRead, Joined, Room, Outcome, Compiles, Prepares};
+ghost use Rattle.condition.specs.Outcome.{DigitOf, NameRead, Joined, CodeRoom, Outcome, Compiles, Prepares};
 use base::wide;
 use book::Cause;
 use format::be16;
@@ -106,7 +106,7 @@ fn join(code: &mut [u8], used: usize, operator: usize, first: bool) -> usize
 
 // Operands of `|`, from the left; `first` where none stands before them.
 fn or_level(s: &[u8], at: usize, code: &mut [u8], used: usize, first: bool) -> Got
-    requires { ⌜ Room (now s) at (now code) used first ⌝ }
+    requires { ⌜ CodeRoom (now s) at (now code) used first ⌝ }
     ensures { λ r. ⌜ Outcome (from disjunction) (now (s .entry)) at (now (code .entry)) used first (now (code .exit)) r ⌝ }
 {
     let a = and_level(s, at, code, used, true);
@@ -125,7 +125,7 @@ fn or_level(s: &[u8], at: usize, code: &mut [u8], used: usize, first: bool) -> G
 
 // Operands of `&`, from the left.
 fn and_level(s: &[u8], at: usize, code: &mut [u8], used: usize, first: bool) -> Got
-    requires { ⌜ Room (now s) at (now code) used first ⌝ }
+    requires { ⌜ CodeRoom (now s) at (now code) used first ⌝ }
     ensures { λ r. ⌜ Outcome (from conjunction) (now (s .entry)) at (now (code .entry)) used first (now (code .exit)) r ⌝ }
 {
     let a = bracket_level(s, at, code, used);
@@ -144,7 +144,7 @@ fn and_level(s: &[u8], at: usize, code: &mut [u8], used: usize, first: bool) -> 
 
 // An operand of `&`: a name, a bracket, or either behind `!`.
 fn bracket_level(s: &[u8], at: usize, code: &mut [u8], used: usize) -> Got
-    requires { ⌜ Room (now s) at (now code) used true ⌝ }
+    requires { ⌜ CodeRoom (now s) at (now code) used true ⌝ }
     ensures { λ r. ⌜ Outcome (λ _. bracket) (now (s .entry)) at (now (code .entry)) used true (now (code .exit)) r ⌝ }
 {
     let b = byte_at(s, at);
@@ -280,12 +280,12 @@ fn names_below(code: &[u8], n: usize) -> bool
 
 // The number of codes written, or the first of causes 16, 17 and 11 that applies.
 pub enum Prepared {
-    Ready(usize),
+    Coded(usize),
     Refused(Cause),
 }
 
 // Reads a condition over n facts into `code`.
-pub fn prepare(s: &[u8], n: usize, code: &mut [u8]) -> Prepared
+pub fn read_condition(s: &[u8], n: usize, code: &mut [u8]) -> Prepared
     requires { ⌜ codeBytes ≤ length (now code) ⌝ }
     ensures { λ r. ⌜ Prepares (now (s .entry)) n (now (code .exit)) r ⌝ }
 {
@@ -296,7 +296,7 @@ pub fn prepare(s: &[u8], n: usize, code: &mut [u8]) -> Prepared
                 return Prepared::Refused(Cause::TooDeep);
             }
             if names_below(&code[0..2 * u], n) {
-                Prepared::Ready(u)
+                Prepared::Coded(u)
             } else {
                 Prepared::Refused(Cause::NoSuchFact)
             }

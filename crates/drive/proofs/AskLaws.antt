@@ -36,7 +36,7 @@ use Rattle.place_call.specs.Reply as place
 use Rattle.count_call.specs.Reply as count
 use Rattle.condition.specs.Code.{codeHolds, lentCode, StackFits}
 use Rattle.condition.specs.Causes.{conditionTests, fitsText}
-use Rattle.condition.specs.Outcome.{ReadyTo, Prepares}
+use Rattle.condition.specs.Outcome.{CodedTo, Prepares}
 use Rattle.condition.specs.declared.Prepared.{Prepared}
 use Rattle.condition.specs.declared.Prepared.the-variants as prepared
 use Rattle.list_call.specs.declared.ListReply.{ListReply}
@@ -239,8 +239,8 @@ module _ (book : List ℕ) (layer off : ℕ) (candidate old : List ℕ) (v : Ver
 -- ---- the count
 -- the condition's reading, by its case
 module _ (s : List ℕ) (n : ℕ) (code : List ℕ) (r : Prepared) where
-  pub read-ready : {u : ℕ} → r ≡ prepared.Ready u → Prepares s n code r → ReadyTo s n code u
-  read-ready e h = subst (λ (x : Prepared). Prepares s n code x) e h
+  pub read-coded : {u : ℕ} → r ≡ prepared.Coded u → Prepares s n code r → CodedTo s n code u
+  read-coded e h = subst (λ (x : Prepared). Prepares s n code x) e h
 
   pub read-refused : {c : Cause} → r ≡ prepared.Refused c → Prepares s n code r → firstOf (conditionTests n s) ≡ Refused c
   read-refused e h = subst (λ (x : Prepared). Prepares s n code x) e h
@@ -251,7 +251,7 @@ module _ (P : Program) (n : ℕ) (size : n ≡ P .atoms) (condition : List ℕ) 
   unfolding refusalOf count.replyOf
   condition-refused c h e = e ∙ sym (ap (λ (v : Verdict). Counting (count.replyOf v P (fitsText condition))) (count-laws.condition-first P condition c (ap (λ (k : ℕ). firstOf (conditionTests k condition)) (sym size) ∙ h)))
 
-  pub condition-read : (code : List ℕ) (u : ℕ) → ReadyTo condition n code u → {r : Answer} {old new : List ℕ} → Answers question.Count (lentCode code u) (firstOf (askedTests question.Count P (length old))) P old r new
+  pub condition-read : (code : List ℕ) (u : ℕ) → CodedTo condition n code u → {r : Answer} {old new : List ℕ} → Answers question.Count (lentCode code u) (firstOf (askedTests question.Count P (length old))) P old r new
       → r ≡ Counting (count.replyOf (firstOf (count.fitTests P condition)) P (fitsText condition))
   unfolding askedTests replyBy
   condition-read code u h a =

@@ -25,7 +25,7 @@ use book::Verdict;
 use candidate::bad_candidate;
 use condition::CODE_BYTES;
 use condition::Prepared;
-use condition::prepare;
+use condition::read_condition;
 use count_call::CountReply;
 use count_call::count_found;
 use list_call::ListReply;
@@ -229,10 +229,10 @@ fn count_at(
 {
     let n = atom_count(book);
     let mut code: [u8; CODE_BYTES] = [0; CODE_BYTES];
-    let read = prepare(condition, n, &mut code);
+    let read = read_condition(condition, n, &mut code);
     match read {
         Prepared::Refused(c) => refusal(Question::Count, c),
-        Prepared::Ready(u) => {
+        Prepared::Coded(u) => {
             let mut none: [u8; 0] = [];
             drive(
                 book,

@@ -10,7 +10,7 @@ use lib.Dec.{eqb, leb}
 use lib.ListN.{length, length-append}
 use Rattle.grammar.specs.Conditions.{Condition, Atom, Not, Bracket, Digit, Digits, none, more, maxDigits, Reads, or-level}
 use Rattle.grammar.specs.Reader.{Operator, disjunction, conjunction, byteOf, Before, nothing, after, joined, Task, from, on, bracket, operand, NoDigit, Took, operand-took, operator-stop, operator-go, not-took, shut-took, name-took}
-use Rattle.grammar.specs.Parse.{Parsed, Taken, Outside, follow, isDigit, isNameLength, nameOf, nameFrom, shut, parse, steps, Reading, Read, Unread, whole, readingOf, ReadExactly}
+use Rattle.grammar.specs.Parse.{Parsed, Taken, Outside, follow, isDigit, isNameLength, nameOf, nameFrom, shut, parse, steps, TextRead, Read, Unread, whole, readingOf, ReadExactly}
 use Rattle.grammar.proofs.OneReadingLaws as reading
 use Rattle.grammar.proofs.SoundLaws.{read-whole}
 
@@ -236,6 +236,6 @@ unread-none s e a h = let f = sym e ∙ read-exactly s a .1 h in let z : _≡_ {
 pub none-unread : (s : List ℕ) → ((a : Condition) → Reads or-level a s → ⊥) → readingOf s ≡ Unread
 none-unread s n = go (readingOf s) refl
   where
-    go : (r : Reading) → readingOf s ≡ r → r ≡ Unread
+    go : (r : TextRead) → readingOf s ≡ r → r ≡ Unread
     go (Read a) e = absurd (n a (read-exactly s a .0 e))
     go Unread e = refl

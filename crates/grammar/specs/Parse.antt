@@ -58,18 +58,18 @@ abbrev pub steps : List ℕ → ℕ
 steps s = 3 * length s + 3
 
 -- a text's one reading, or that it has none
-pub data Reading : Type 0 where
-  Read : Condition → Reading
-  Unread : Reading
+pub data TextRead : Type 0 where
+  Read : Condition → TextRead
+  Unread : TextRead
 
 -- read to its end
-unfoldable pub whole : Parsed → Reading
+unfoldable pub whole : Parsed → TextRead
 whole (Taken a []) = Read a
 whole (Taken a (c ∷ u)) = Unread
 whole Outside = Unread
 
 -- the reading of a text
-unfoldable pub readingOf : List ℕ → Reading
+unfoldable pub readingOf : List ℕ → TextRead
 readingOf s = whole (parse (steps s) (from disjunction nothing) s)
 
 -- a text is read, and as this condition, exactly if the grammar reads it so

@@ -1,10 +1,10 @@
--- `prepare` meets its contract: 16 where there is no reading, and else 17 by the brackets and 11 by the code's names. Assumes nothing.
+-- `read_condition` meets its contract: 16 where there is no reading, and else 17 by the brackets and 11 by the code's names. Assumes nothing.
 use Rattle.condition.proofs.CompileLaws.{compiled-to, ungrammatical}
 use Rattle.condition.proofs.CauseLaws.{bad-condition, too-deep, unknown-name, all-ready}
 use native.Mathlib.Omega.{arith}
 use borrow.Author.Needs.{needs}
-use Rattle.condition.proofs.prepare.Statement.{statement}
-use Rattle.condition.proofs.prepare.Tie as tie
+use Rattle.condition.proofs.read_condition.Statement.{statement}
+use Rattle.condition.proofs.read_condition.Tie as tie
 
 compile-requires : tie.Need-compile-requires
 compile-requires c κs = search needs
@@ -80,8 +80,8 @@ returns-4 c =
     let q = c .before .before .before .before .compile in
     bad-condition (a .n) (a .s .now) (ungrammatical (a .s .now) (q .last .1 .0) (q .result) (c .enum-told .given .1) (q .ensures))
 
-pub prepare-spec : {M : Type 1} → statement M
-prepare-spec =
+pub read-condition-spec : {M : Type 1} → statement M
+read-condition-spec =
     tie.close
     (tie.spec
     compile-requires
