@@ -6,7 +6,7 @@ use Prim.Native.Nat.{ℕ, _-_, _<_, _≤_}
 use native.Mathlib.Omega.{arith}
 use borrow.Author.Tests.{lt-ltb, le-ltb, ltb-true, ltb-false, not-true, not-false}
 use borrow.Rule.Slice.PartMut.{putMid}
-use lib.Dec.{eqb, ltb}
+use lib.Dec.{ltb}
 use lib.ListN.{length, getD, take, drop, take-append-drop}
 use lib.Seq.{length-take-le}
 use Rattle.base.specs.Bounds.{maxAtoms, maxBranching}

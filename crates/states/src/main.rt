@@ -1,6 +1,5 @@
 // The program `states` of document 01: reads a book from standard input, drives its last layer, and prints its stable states, or
 // `refused N`. What is printed is the listing's bytes as text; the listing itself is proved.
-ghost use Prim.Native.Nat.{_≤_};
 use base::MAX_ATOMS;
 use base::wide;
 use book::cause_number;
