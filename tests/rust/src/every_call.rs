@@ -8,7 +8,8 @@ use crate::expected::{counts, fit_counts, place_of, yes_or_no, Asked};
 use crate::ffi;
 use crate::known::{some_facts, Known};
 use crate::listed::{
-    assert_nearest, assert_one, assert_outcome, nearest_of, nearest_outcome, one_outcome, outcome,
+    assert_nearest, assert_nearest_in_place, assert_one, assert_outcome, nearest_of,
+    nearest_outcome, one_outcome, outcome,
 };
 use crate::misreadings::{Misread, Misreading};
 use crate::oracle;
@@ -37,28 +38,6 @@ pub fn states(atoms: u16) -> impl Iterator<Item = Vec<bool>> {
     (0..1u32 << atoms).map(move |number| (0..atoms).map(|atom| number >> atom & 1 == 1).collect())
 }
 
-/// `lesson_nearest` comes to this for a candidate, in its own buffer, which is a byte longer than a record.
-fn assert_nearest_in_place(
-    what: &str,
-    book: &[u8],
-    drive: Drive,
-    candidate: &[u8],
-    expected: &ffi::Outcome,
-) {
-    let mut buffer = vec![FILLER; candidate.len() + 1];
-    let answer = ffi::nearest_in_place(book, drive, candidate, &mut buffer);
-    let right = (answer, &buffer) == (expected.0, &expected.1);
-    assert!(
-        right,
-        "{what}, {drive}, nearest to {}: engine {answer:#X}, {}, expected {:#X}, {}\n{}",
-        hex(candidate),
-        hex(&buffer),
-        expected.0,
-        hex(&expected.1),
-        hex(book)
-    );
-}
-
 /// All calls come to what the oracle says, for every state and every fact of a small book, and
 /// in buffers with room and without. What `lesson_list` answers is returned.
 pub fn assert_as_the_oracle(what: &str, book: &Book, drive: Drive) -> u64 {
@@ -74,7 +53,7 @@ pub fn assert_as_the_oracle(what: &str, book: &Book, drive: Drive) -> u64 {
         };
         assert_eq!(engine, expected, "{}", told(&hex(&record)));
         let nearest = asked.nearest(&record, &[FILLER; 2]);
-        assert_nearest_in_place(what, &bytes, drive, &record, &nearest);
+        assert_nearest_in_place(what, &bytes, drive, [&record, &[FILLER; 2]], &nearest);
     }
     let (answer, _) = asked.list(&[FILLER; ROOM]);
     let exact = 11 + (answer >> 16) as usize;
@@ -211,7 +190,7 @@ pub fn assert_known_book(what: &str, known: &Known) {
         assert_eq!(answer, yes_or_no(stable), "{what}: {}", hex(candidate));
         let nearest = nearest_of(&records, candidate);
         let expected = nearest_outcome(nearest, width, known.branching, &buffer);
-        assert_nearest_in_place(what, &bytes, drive, candidate, &expected);
+        assert_nearest_in_place(what, &bytes, drive, [candidate, &buffer], &expected);
     };
     assert_candidate(&vec![0; width]);
     for record in records.iter().take(8) {

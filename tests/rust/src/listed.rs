@@ -148,6 +148,22 @@ pub fn assert_nearest(
     assert_same(&what, book, drive, buffer, [&engine, expected]);
 }
 
+/// The same of the call on a copy of the buffer alone, for what is asked often or takes long.
+pub fn assert_nearest_in_place(
+    what: &str,
+    book: &[u8],
+    drive: Drive,
+    [candidate, buffer]: [&[u8]; 2],
+    expected: &ffi::Outcome,
+) {
+    let mut after = buffer.to_vec();
+    let answer = ffi::nearest_in_place(book, drive, candidate, &mut after);
+    if (answer, &after) != (expected.0, &expected.1) {
+        let what = format!("{what}, candidate {}", hex(candidate));
+        assert_same(&what, book, drive, buffer, [&(answer, after), expected]);
+    }
+}
+
 fn assert_same(
     what: &str,
     book: &[u8],

@@ -12,7 +12,9 @@ use lesson_tests::every_call::{states, FILLER};
 use lesson_tests::expected::{differing, yes_or_no, BAD_CANDIDATE, TOO_MANY_BRANCHING};
 use lesson_tests::ffi::{self, Outcome};
 use lesson_tests::known::{self, Front, Known, EVERY_FOLLOWING};
-use lesson_tests::listed::{assert_nearest, nearest_listed, nearest_of_models, nearest_outcome};
+use lesson_tests::listed::{
+    assert_nearest, assert_nearest_in_place, nearest_listed, nearest_of_models, nearest_outcome,
+};
 use lesson_tests::oracle::{self, Driven};
 use lesson_tests::orders::{Order, Ordered};
 use lesson_tests::rng::{seed, Rng};
@@ -282,12 +284,10 @@ fn every_numbering_of_two_choices_for_every_candidate() {
             models.sort();
             for candidate in states(6) {
                 let record = oracle::record(&candidate);
-                let mut after = [FILLER; 2];
-                let expected = nearest_of_models(&models, &candidate, 2, &after);
-                let answer = ffi::nearest_in_place(&bytes, at(1), &record, &mut after);
-                let right = (answer, &after[..]) == (expected.0, &expected.1[..]);
-                assert!(right, "{}: {}\n{}", hex(&record), hex(&after), hex(&bytes));
-                let facts = (answer >> 16) as usize;
+                let lent = [&record[..], &[FILLER; 2]];
+                let expected = nearest_of_models(&models, &candidate, 2, lent[1]);
+                assert_nearest_in_place("moved", &bytes, at(1), lent, &expected);
+                let facts = (expected.0 >> 16) as usize;
                 let closest = models.iter();
                 let closest = closest.filter(|model| oracle::distance(model, &candidate) == facts);
                 let met = closest.map(|model| setting(model, &branches).collect());
@@ -445,19 +445,11 @@ fn assert_known_for_some(what: &str, rng: &mut Rng, known: &Known) {
 /// One call for a candidate, for long searches.
 fn assert_known_once(what: &str, known: &Known, candidate: &[bool]) {
     let (bytes, record) = (known.book.bytes(), oracle::record(candidate));
-    let mut after = vec![FILLER; record.len() + 2];
+    let buffer = vec![FILLER; record.len() + 2];
     let nearest = known.nearest(candidate);
-    let expected = nearest_outcome(nearest, record.len(), known.branching, &after);
-    let answer = ffi::nearest_in_place(&bytes, known.layer.into(), &record, &mut after);
-    let right = (answer, &after) == (expected.0, &expected.1);
-    assert!(
-        right,
-        "{what}, candidate {}: engine {answer:#X}, {}, expected {:#X}, {}",
-        hex(&record),
-        hex(&after),
-        expected.0,
-        hex(&expected.1)
-    );
+    let expected = nearest_outcome(nearest, record.len(), known.branching, &buffer);
+    let lent = [&record[..], &buffer];
+    assert_nearest_in_place(what, &bytes, known.layer.into(), lent, &expected);
 }
 
 /// The same, for one that differs in few facts from a stable state, in half of all, and in all.
@@ -568,12 +560,10 @@ fn every_distance_up_to_the_number_of_facts() {
             rng.shuffle(&mut order);
             let mut candidate = state.clone();
             for facts in 0..=usize::from(atoms) {
-                let lent = oracle::record(&candidate);
-                let mut after = vec![FILLER; record.len()];
-                let answer = ffi::nearest_in_place(&bytes, at(0), &lent, &mut after);
-                let told = format!("seed {seed}, {atoms} facts, {facts} differ");
-                assert_eq!(answer, differing(0, facts), "{told}");
-                assert_eq!(hex(&after), hex(&record), "{told}");
+                let lent = [&oracle::record(&candidate)[..], &vec![FILLER; record.len()]];
+                let what = format!("seed {seed}, {atoms} facts, {facts} differ");
+                let expected = (differing(0, facts), record.clone());
+                assert_nearest_in_place(&what, &bytes, at(0), lent, &expected);
                 if let Some(&fact) = order.get(facts) {
                     candidate[fact] = !candidate[fact];
                 }
