@@ -131,14 +131,27 @@ fn assert_refused(tally: &Tally, causes: &[(&'static str, u64)], least: usize) {
     }
 }
 
-const GRANTED: [(&str, u64); 4] = [("test", 0), ("list", 0), ("one", 0), ("place", 0)];
-const LATER: [(&str, u64); 6] = [
+const GRANTED: [(&str, u64); 6] = [
+    ("test", 0),
+    ("list", 0),
+    ("one", 0),
+    ("place", 0),
+    ("nearest", 0),
+    ("count", 0),
+];
+const LATER: [(&str, u64); 12] = [
     ("test", 10),
+    ("nearest", 10),
+    ("count", 16),
+    ("count", 17),
     ("place", 11),
+    ("count", 11),
     ("list", 13),
     ("one", 13),
+    ("nearest", 13),
     ("one", 14),
     ("place", 14),
+    ("nearest", 14),
 ];
 
 #[test]
@@ -147,7 +160,7 @@ fn edits_elsewhere_leave_lessons_in_chains() {
         shapes::layered(rng, Layering::Chain)
     });
     assert_telling(&tally, 300, [500, 120, 20, 400, 20], 400);
-    assert_refused(&tally, &[GRANTED.as_slice(), &LATER].concat(), 2_000);
+    assert_refused(&tally, &[GRANTED.as_slice(), &LATER].concat(), 1_000);
 }
 
 #[test]
@@ -155,7 +168,7 @@ fn edits_elsewhere_leave_lessons_in_diamonds() {
     let tally = sweep("elsewhere, diamonds", 2_000, |rng| {
         shapes::layered(rng, Layering::Diamond)
     });
-    assert_telling(&tally, 700, [1_500, 400, 30, 900, 100], 1_200);
+    assert_telling(&tally, 700, [1_500, 400, 30, 900, 100], 1_000);
 }
 
 #[test]
@@ -216,7 +229,7 @@ fn edits_elsewhere_leave_lessons_of_many_facts() {
         }
         last_layers += usize::from(lesson.book.layers == 32);
     }
-    assert!(last_layers >= 5, "{last_layers} books of 32 layers");
+    assert!(last_layers >= 1, "{last_layers} books of 32 layers");
     println!("seed {seed}, elsewhere, many facts: 480 books, 32 layers {last_layers}");
 }
 
@@ -234,8 +247,9 @@ fn edits_elsewhere_leave_refusals_for_branching_facts() {
             assert_alike(&what, &one, &other, rng.word(), &mut tally);
         }
     }
-    let refused = ["list", "one", "place"].map(|call| (call, TOO_MANY_BRANCHING));
-    assert_refused(&tally, &refused, 48);
+    let calls = ["list", "one", "place", "nearest", "count"];
+    let refused = calls.map(|call| (call, TOO_MANY_BRANCHING));
+    assert_refused(&tally, &refused, 40);
     println!("seed {seed}, elsewhere, too many: 48 books, {tally:?}");
 }
 
