@@ -1,5 +1,7 @@
 // What an accepted book gives to the calls above: the number of its facts, and the table of the rules that count at a layer. Its
 // bytes are believed because the check has walked them.
+#![tactic(auto)]
+
 ghost use Rattle.std.specs.Prelude.{◌≡◌, ◌*◌, ◌<◌, ◌≤◌, length};
 ghost use Rattle.base.specs.Bounds.{max_atoms, max_rules};
 ghost use Rattle.layers.specs.Masks.{LowerMasks};

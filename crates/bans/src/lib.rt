@@ -1,5 +1,7 @@
 // The constraints that count at a layer: each relevant one's body as one number, made in one walk over the rules' records, and whether
 // some body holds in a finished state. Bodies stay where they are in the book.
+#![tactic(auto)]
+
 ghost use Rattle.std.specs.Prelude.{◌≡◌, ◌&&◌, map, ◌<◌, ◌≤◌, eqb, length, get_or, drop};
 ghost use Rattle.base.specs.Bounds.{max_layers, max_rules};
 ghost use Rattle.base.specs.Lists.{all, any, filter};

@@ -1,4 +1,6 @@
 // The bounds of document 01 as the code uses them (specs/Bounds.antt has the same names), and widening casts.
+#![tactic(auto)]
+
 ghost use Rattle.std.specs.Prelude.{◌≡◌, ◌<◌};
 
 pub const MAX_ATOMS: usize = 1024;

@@ -1,4 +1,6 @@
 // The check of a book: the first of causes 1 to 8 that applies, or accepted, with each layer's mask of the layers below it.
+#![tactic(auto)]
+
 ghost use Rattle.std.specs.Prelude.{◌≡◌, not, true, false, map, ℕ, drop};
 ghost use Rattle.base.specs.Bounds.{max_layers};
 ghost use Rattle.base.specs.Lists.{all, any};
@@ -15,7 +17,7 @@ use base::{MAX_ARROWS, MAX_ATOMS, MAX_BODY, MAX_LAYERS, MAX_RULES, wide};
 use format::{be16, be32, broken_section, is_falsity, literal_value, record_end};
 
 // The causes of documents 01 and 02, in the order of test; specs/Numbers.antt has their numbers.
-#[derive(Drop)]
+#[derive(Clone, Copy)]
 pub enum Cause {
     TooShort,
     WrongVersion,
@@ -36,7 +38,7 @@ pub enum Cause {
     NoStableState,
 }
 
-#[derive(Drop)]
+#[derive(Clone, Copy)]
 pub enum Verdict {
     Accepted,
     Refused(Cause),
@@ -181,7 +183,7 @@ fn outside(low: usize, high: usize, x: usize) -> bool
 }
 
 // What the header says: the number of facts, the number of layers, and where the rule section starts.
-#[derive(Drop)]
+#[derive(Clone, Copy)]
 pub struct Header {
     pub atoms: usize,
     pub layers: usize,
@@ -286,7 +288,7 @@ fn lower_masks(book: &[u8], header: Header) -> [u32; MAX_LAYERS]
 
 // The verdict on a book and, where it is accepted, each layer's mask of the layers below it: the test of cause 8 needs these
 // masks, and so does every call that drives a layer.
-#[derive(Drop)]
+#[derive(Clone, Copy)]
 pub struct Checked {
     pub verdict: Verdict,
     pub lower: [u32; MAX_LAYERS],

@@ -1,4 +1,6 @@
 // The branching facts of a program, from its table: by both grounds, each once, rising.
+#![tactic(auto)]
+
 ghost use Rattle.std.specs.Prelude.{◌≡◌, false, ◌&&◌, ◌||◌, ◌%◌, ◌<◌, ◌≤◌, leb, ltb, length, set, replicate};
 ghost use Rattle.base.specs.Bounds.{max_atoms, max_branching};
 ghost use Rattle.table.specs.Table.{Tabulates};

@@ -1,4 +1,6 @@
 // A candidate's bytes: whether they have the form of one record (cause 10), and the state that they give.
+#![tactic(auto)]
+
 ghost use Rattle.std.specs.Prelude.{◌≡◌, ◌/◌, ◌<◌, ◌≤◌, length, take};
 ghost use Rattle.base.specs.Bounds.{max_atoms};
 ghost use Rattle.models.specs.Listing.{record_size, bit_at, interpretation_of};

@@ -1,4 +1,6 @@
 // Conditions such as 3&!14|(2&5): read once a call into postfix code, judged by their brackets and names, and evaluated at each state.
+#![tactic(auto)]
+
 ghost use Rattle.std.specs.Prelude.{◌≡◌, true, false, ◌+◌, ◌*◌, ◌^◌, ◌≤◌, ◌<◌, max, length, get_or};
 ghost use Rattle.grammar.specs.Reader.{from, bracket, disjunction, conjunction};
 ghost use Rattle.condition.specs.Code.{pending, name_code, codes_of, step, code_holds, StackFits, opened, deepest, code_below, codes_below};
@@ -33,14 +35,14 @@ const OR_CODE: usize = 2;
 const NAME_CODE: usize = 3;
 
 // The place behind a name and its number, or that no name of one to four digits stands there.
-#[derive(Drop)]
+#[derive(Clone, Copy)]
 enum Name {
     Ends(usize, usize),
     Absent,
 }
 
 // The place behind what was read and the number of codes written, or that what stands there is outside the grammar.
-#[derive(Drop)]
+#[derive(Clone, Copy)]
 enum Got {
     At(usize, usize),
     Outside,
@@ -227,7 +229,7 @@ fn bracket_depth(s: &[u8]) -> usize
 }
 
 // The number of codes written, or that the text is empty, over 255 bytes long or outside the grammar.
-#[derive(Drop)]
+#[derive(Clone, Copy)]
 enum Compiled {
     Codes(usize),
     Ungrammatical,
@@ -283,7 +285,7 @@ fn names_below(code: &[u8], n: usize) -> bool
 }
 
 // The number of codes written, or the first of causes 16, 17 and 11 that applies.
-#[derive(Drop)]
+#[derive(Clone, Copy)]
 pub enum Prepared {
     Coded(usize),
     Refused(Cause),

@@ -1,5 +1,7 @@
 // The call that counts the states that fit a condition, once its table and plan are made and the condition is read: k, g, and in how
 // many stable states of the driven layer the condition holds.
+#![tactic(auto)]
+
 ghost use Rattle.std.specs.Prelude.{◌≡◌};
 ghost use Rattle.plan.specs.Plan.{planned_program};
 ghost use Rattle.book.specs.declared.Verdict.TheVariants.{Accepted};
@@ -12,7 +14,7 @@ use passes::tally;
 use plan::Sizes;
 use search::Goal;
 
-#[derive(Drop)]
+#[derive(Clone, Copy)]
 pub enum CountReply {
     // k, g and the count
     Counted(usize, usize, usize),

@@ -1,5 +1,6 @@
 // The drive of every call that searches: it owns the table and the plan, makes them once, and names the causes that all such calls
 // have. A call adds its question, which has its own crate: its last causes, its pass and its reply.
+#![tactic(auto)]
 ghost use Rattle.std.specs.Prelude.{◌≡◌, false, ◌<◌, length};
 ghost use Rattle.layers.specs.Masks.{LowerMasks};
 ghost use Rattle.format.specs.Book.{arrows_of, book_of};
@@ -28,7 +29,7 @@ use place_call::{PlaceReply, place_found};
 use plan::{PLAN, Sizes};
 use table::ROW_SIZE;
 
-#[derive(Drop)]
+#[derive(Clone, Copy)]
 pub enum Question {
     // every state
     List,
@@ -42,7 +43,7 @@ pub enum Question {
     Count,
 }
 
-#[derive(Drop)]
+#[derive(Clone, Copy)]
 pub enum Answer {
     Listing(ListReply),
     State(OneReply),

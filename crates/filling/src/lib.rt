@@ -3,6 +3,8 @@
 // The arrays are lent, with a place for each fact of the book, so that no step grows with the bound on facts.
 // `hints` is what one filling leaves for the next, the literal that each row watches and the trail, and then the waiting lists. Nothing
 // rests on it but speed, so contracts say of it only how long it is.
+#![tactic(auto)]
+
 ghost use Rattle.std.specs.Prelude.{◌≡◌, false, ◌<◌, ◌≤◌, length, replicate};
 ghost use Rattle.base.specs.Bounds.{max_atoms, max_names, max_rules};
 ghost use Rattle.base.specs.Lists.{all};
@@ -385,7 +387,7 @@ fn propagate(
 }
 
 // What a pass came to: whether it added a mark, and whether it met a fact that is reached both ways.
-#[derive(Drop)]
+#[derive(Clone, Copy)]
 pub struct PassResult {
     pub added: bool,
     pub conflict: bool,

@@ -1,5 +1,7 @@
 // The search for the state that is closest to a wanted one, and of equals the first of the listing: a recursion through the settings of the
 // branching facts with the best so far in hand. Where nothing is wanted, the wanted state has no facts: the first of the listing is found.
+#![tactic(auto)]
+
 ghost use Rattle.std.specs.Prelude.{◌≡◌, true, false, not, ◌&&◌, [], ◌∷◌, ◌<◌, ◌≤◌, T, ltb, length, get_or, replicate};
 ghost use Rattle.std.specs.Bool.{beq};
 ghost use Rattle.base.specs.Bounds.{max_atoms, max_branching, max_names};
@@ -26,7 +28,7 @@ use search::{Turn, find_model, promising};
 // What is in hand: whether a state is, whose record stands in the lent part, and its distance to the wanted state. Of the branching facts,
 // bit i for the i-th, those that stand in it, and those before which no other fact stands in it; and whether no other fact stands in it at
 // all. Facts that are sure do not count as others.
-#[derive(Drop)]
+#[derive(Clone, Copy)]
 pub struct Held {
     pub found: bool,
     pub distance: usize,

@@ -1,5 +1,7 @@
 // The book's bytes: big-endian fields, records by length byte, and whether both sections are whole (cause 4).
 // Every count and length is compared with what the walk over the records finds before anything uses it.
+#![tactic(auto)]
+
 ghost use Rattle.std.specs.Prelude.{◌≡◌, ◌&&◌, ◌+◌, ◌*◌, ◌≤◌, ◌<◌, eqb, length};
 ghost use Rattle.format.specs.Book.{u16_at, u32_at, records, meets_end, record_end, literal_of, is_falsity};
 ghost use Rattle.format.specs.Sections.{whole_section, has_broken_section};

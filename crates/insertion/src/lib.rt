@@ -1,4 +1,6 @@
 // Records as byte strings: their order, and one written at its place.
+#![tactic(auto)]
+
 ghost use Rattle.std.specs.Prelude.{◌≡◌, ◌++◌, ◌+◌, ◌≤◌, length, take, drop};
 ghost use Rattle.insertion.specs.Runs.{bytes_before};
 

@@ -1,5 +1,7 @@
 // Relations between at most MAX_LAYERS layers as masks: one bit more, the closure, and whether a layer is related to itself. The check
 // of a book closes its arrows with them.
+#![tactic(auto)]
+
 ghost use Rattle.std.specs.Prelude.{◌≡◌, ◌||◌, ℕ, ◌<◌, ◌≤◌, length};
 ghost use Rattle.base.specs.Bounds.{max_layers};
 ghost use Rattle.base.specs.Lists.{any, up_to};

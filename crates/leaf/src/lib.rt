@@ -1,5 +1,7 @@
 // The stable model of one setting of the branching facts, if there is one: what follows from the facts that the setting denies is the
 // only state that can be stable there.
+#![tactic(auto)]
+
 ghost use Rattle.std.specs.Prelude.{◌≡◌, true, false, [], ◌<◌, eqb, length};
 ghost use Rattle.filling.specs.Marks.{hint_size};
 ghost use Rattle.base.specs.Bounds.{max_names, max_branching};

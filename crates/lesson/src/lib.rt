@@ -1,5 +1,6 @@
 // The calls of the C host (include/lesson.h). Each is thin: it calls the engine and turns the answer into document 01's number.
 // None has a `requires`: every input has an outcome.
+#![tactic(auto)]
 ghost use Rattle.std.specs.Prelude.{◌≡◌, ◌≤◌};
 ghost use Rattle.book.specs.Causes.{verdict};
 ghost use Rattle.test_call.specs.Reply.{test_reply};

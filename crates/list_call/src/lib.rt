@@ -1,4 +1,6 @@
 // The listing call, once its table and plan are made: cause 13, or every stable model's record in rising order, with k and g.
+#![tactic(auto)]
+
 ghost use Rattle.std.specs.Prelude.{length};
 ghost use Rattle.book.specs.Causes.{first_of};
 ghost use Rattle.plan.specs.Plan.{planned_program};
@@ -10,7 +12,7 @@ use passes::{most_records, write_all};
 use plan::Sizes;
 use records::{HEAD_SIZE, put_head, record_size};
 
-#[derive(Drop)]
+#[derive(Clone, Copy)]
 pub enum ListReply {
     // k and g
     Listed(usize, usize),

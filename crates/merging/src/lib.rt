@@ -1,10 +1,12 @@
 // In-place merging of two rising runs of records of one width, one behind the other in a lent part, without other memory.
+#![tactic(auto)]
+
 ghost use Rattle.std.specs.Prelude.{◌≡◌, true, ◌++◌, ◌+◌, ◌-◌, ◌*◌, ◌≤◌, ◌<◌, length, take, drop};
 ghost use Rattle.insertion.specs.Runs.{bytes_before};
 ghost use Rattle.merging.specs.Merging.{swapped, GoesIn, Parted, Merged};
 
 // In records: how many of the first run, and how many of the second, come into the lower half.
-#[derive(Drop)]
+#[derive(Clone, Copy)]
 pub struct Cut {
     pub first: usize,
     pub second: usize,

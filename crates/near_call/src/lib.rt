@@ -1,5 +1,7 @@
 // The call for the state closest to a candidate, once its table and plan are made: cause 13 or 14, or that state's record, with the number of
 // facts that differ and g.
+#![tactic(auto)]
+
 ghost use Rattle.std.specs.Prelude.{◌≡◌, false, length};
 ghost use Rattle.models.specs.Listing.{interpretation_of};
 ghost use Rattle.book.specs.Causes.{first_of};
@@ -15,7 +17,7 @@ use passes::write_nearest;
 use plan::Sizes;
 use records::record_size;
 
-#[derive(Drop)]
+#[derive(Clone, Copy)]
 pub enum NearReply {
     // how many facts differ, and g
     Written(usize, usize),

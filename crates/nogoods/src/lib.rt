@@ -1,5 +1,7 @@
 // Nogoods: a rule that nothing can reject, with a body that holds and a head that does not, is in no stable model, nor is a constraint
 // with a body that holds. Where all atoms branch, two masks say it, and the search leaves out every group of settings that has them decided so.
+#![tactic(auto)]
+
 ghost use Rattle.std.specs.Prelude.{◌≡◌, true, ◌*◌, ◌/◌, ◌<◌, length, get_or};
 ghost use Rattle.base.specs.Bounds.{max_names};
 ghost use Rattle.table.specs.Rows.{row_count, row_at, RowsBounded, RowsFit};
@@ -16,7 +18,7 @@ use table::{ROW_SIZE, opposite, row_alive, row_head, row_overridden};
 pub const MAX_NOGOODS: usize = 512;
 
 // Two masks over the branching atoms, and whether they say all that they should.
-#[derive(Drop)]
+#[derive(Clone, Copy)]
 pub struct Nogood {
     pub standing: u32,
     pub denied: u32,

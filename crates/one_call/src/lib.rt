@@ -1,4 +1,6 @@
 // The call that hands out one state, once its table and plan are made: cause 13 or 14, or the first record of the listing, with g.
+#![tactic(auto)]
+
 ghost use Rattle.std.specs.Prelude.{length};
 ghost use Rattle.book.specs.Causes.{first_of};
 ghost use Rattle.plan.specs.Plan.{planned_program};
@@ -10,7 +12,7 @@ use passes::write_first;
 use plan::Sizes;
 use records::record_size;
 
-#[derive(Drop)]
+#[derive(Clone, Copy)]
 pub enum OneReply {
     // g
     Written(usize),

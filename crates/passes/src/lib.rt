@@ -1,6 +1,8 @@
 // What a call works out before it searches, and passes of the search: two that count, one that writes every record and two that write one
 // of them: the closest to a wanted state, and the first. Document 01: "a listing may take one such pass to count and one to write"; where
 // there is room for a record of every setting it takes one.
+#![tactic(auto)]
+
 ghost use Rattle.std.specs.Prelude.{◌≡◌, not, [], map, ◌++◌, ◌*◌, ◌<◌, ◌≤◌, length, take, drop};
 ghost use Rattle.base.specs.Bounds.{max_rules};
 ghost use Rattle.base.specs.Lists.{flat};
@@ -29,7 +31,7 @@ use search::{Goal, Turn, Visit, search};
 use table::ROW_SIZE;
 
 // What a call works out before its passes: how many rules count at the layer, whether few enough facts branch, and the sizes of the plan.
-#[derive(Drop)]
+#[derive(Clone, Copy)]
 pub struct Driven {
     pub rules: usize,
     pub few: bool,
@@ -101,7 +103,7 @@ pub fn set_up(
     }
 }
 
-#[derive(Drop)]
+#[derive(Clone, Copy)]
 pub struct Counts {
     pub count: usize,
     pub weight: usize,

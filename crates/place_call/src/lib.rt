@@ -1,5 +1,7 @@
 // The call that asks for a fact's place, once its table and plan are made: cause 14, or whether the fact stands in every stable state of
 // the driven layer, in some or in none, with g.
+#![tactic(auto)]
+
 ghost use Rattle.std.specs.Prelude.{◌≡◌, ◌<◌};
 ghost use Rattle.base.specs.Bounds.{max_atoms};
 ghost use Rattle.book.specs.Causes.{first_of};
@@ -12,14 +14,14 @@ use passes::tally;
 use plan::Sizes;
 use search::Goal;
 
-#[derive(Drop)]
+#[derive(Clone, Copy)]
 pub enum Place {
     Every,
     InSome,
     Nowhere,
 }
 
-#[derive(Drop)]
+#[derive(Clone, Copy)]
 pub enum PlaceReply {
     // the place and g
     Placed(Place, usize),

@@ -1,6 +1,8 @@
 // What a search reads besides the table, made once a call and in one array: the branching facts, then the masks of the rules' heads and
 // bodies, of the nogoods and of the rows that reject, and the numbers of the constraints, which are there before. One pass over the rows,
 // which reads each body once.
+#![tactic(auto)]
+
 ghost use Rattle.std.specs.Prelude.{◌≡◌, ◌<◌, ◌≤◌, length};
 ghost use Rattle.base.specs.Bounds.{max_names, max_rules, max_branching};
 ghost use Rattle.table.specs.Rows.{row_count, RowsFit};
@@ -26,7 +28,7 @@ pub const BANS: usize = REJECTING + 4 * MAX_RULES;
 pub const PLAN: usize = BANS + MAX_RULES;
 
 // How many facts there are, how many of them branch, and how many entries of each kind.
-#[derive(Drop)]
+#[derive(Clone, Copy)]
 pub struct Sizes {
     pub n: usize,
     pub branching: usize,

@@ -1,4 +1,6 @@
 // States as bytes in a lent part: a record, the listing's head, and sums by fact.
+#![tactic(auto)]
+
 ghost use Rattle.std.specs.Prelude.{◌≡◌, ◌∷◌, ◌++◌, ◌+◌, ◌*◌, ◌≤◌, length, take, drop};
 ghost use Rattle.base.specs.Bounds.{max_atoms, max_record};
 ghost use Rattle.models.specs.StableModels.{atom_holds};

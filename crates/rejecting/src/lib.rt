@@ -1,5 +1,7 @@
 // Which rules are rejected at a setting, by masks over the branching facts. All facts of a body that can reject branch, so two masks say
 // at which settings it holds: they are made once a call, and no body is read at a setting.
+#![tactic(auto)]
+
 ghost use Rattle.std.specs.Prelude.{◌≡◌, ◌+◌, ◌*◌, ◌/◌, ◌<◌, ◌≤◌, length, replicate};
 ghost use Rattle.base.specs.Bounds.{max_names};
 ghost use Rattle.rejecting.specs.Rejecting.{RejectingPut, Named, RejectsAt, Uncleared};

@@ -1,4 +1,6 @@
 // The search through the settings of the branching facts: one recursion, which the listing and a fact's place share.
+#![tactic(auto)]
+
 ghost use Rattle.std.specs.Prelude.{◌≡◌, ◌⊎◌, false, [], ◌∷◌, ◌+◌, ◌/◌, ◌^◌, ◌<◌, ◌≤◌, length, replicate};
 ghost use Rattle.base.specs.Bounds.{max_atoms, max_names, max_rules};
 ghost use Rattle.base.specs.Lists.{cons_if, all, any};
@@ -30,7 +32,7 @@ use setting::headed;
 
 // What the search is for: every record, how many models there are, whether the asked fact stands in some but not in all, in how many
 // models each fact stands, or in how many the asked condition holds.
-#[derive(Drop)]
+#[derive(Clone, Copy)]
 pub enum Goal {
     List,
     // no further than one more than this
@@ -41,7 +43,7 @@ pub enum Goal {
 }
 
 // What the search keeps: the models met and what they weigh together.
-#[derive(Drop)]
+#[derive(Clone, Copy)]
 pub struct Visit {
     pub goal: Goal,
     pub count: usize,
@@ -50,7 +52,7 @@ pub struct Visit {
 
 // How far the search is: how many branching facts are left to decide, and of the others the bits of those that stand and of those that
 // do not.
-#[derive(Drop)]
+#[derive(Clone, Copy)]
 pub struct Turn {
     pub left: usize,
     pub standing: u32,

@@ -1,6 +1,8 @@
 // A quick test of what is decided about the branching facts, before anything is filled: a fact that stands has to be the head of a
 // rule of whose body no literal is denied. It reads masks over the branching facts, three a rule, made once a call. Other tests read
 // the masks of bodies too.
+#![tactic(auto)]
+
 ghost use Rattle.std.specs.Prelude.{◌≡◌, true, ◌+◌, ◌*◌, ◌/◌, ◌<◌, ◌≤◌, length, get_or};
 ghost use Rattle.base.specs.Bounds.{max_atoms, max_branching};
 ghost use Rattle.format.specs.Book.{literals_of};
@@ -46,7 +48,7 @@ pub fn bits_of(bits: &[u32], f: usize) -> u32
 }
 
 // The masks of a body's bytes: its plain atoms and its negated ones; whole where all of them branch.
-#[derive(Drop)]
+#[derive(Clone, Copy)]
 pub struct BodyMasks {
     pub plain: u32,
     pub negated: u32,

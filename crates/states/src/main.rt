@@ -1,5 +1,6 @@
 // The program `states` of document 01: reads a book from standard input, drives its last layer, and prints its stable states, or
 // `refused N`. What is printed is the listing's bytes as text; the listing itself is proved.
+#![tactic(auto)]
 use base::{MAX_ATOMS, wide};
 use book::cause_number;
 use drive::{Answer, Question, ask};

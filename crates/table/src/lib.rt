@@ -1,5 +1,7 @@
 // The table of the rules that count at a layer, as the test and the search read it: six numbers a rule, in rows of eight, in one flat
 // array, with the mask of the layers in which it overrides rules. Made once a call; bodies stay where they are in the book.
+#![tactic(auto)]
+
 ghost use Rattle.std.specs.Prelude.{◌≡◌, ◌*◌, ◌<◌, ◌≤◌, length, drop, not, ◌&&◌, eqb};
 ghost use Rattle.base.specs.Bounds.{max_atoms, max_names, max_layers, max_rules};
 ghost use Rattle.base.specs.Lists.{all, any};

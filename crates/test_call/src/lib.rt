@@ -1,5 +1,7 @@
 // The call that tests a candidate: the first of causes 1 to 10 and 19 that applies, or whether the candidate's state is stable at the
 // driven layer. It writes nothing.
+#![tactic(auto)]
+
 ghost use Rattle.std.specs.Prelude.{◌≡◌, false, ◌<◌, ◌≤◌};
 ghost use Rattle.base.specs.Bounds.{max_atoms};
 ghost use Rattle.layers.specs.Masks.{LowerMasks};
@@ -24,7 +26,7 @@ use tester::is_stable;
 // The numbers of the rows of all rules.
 const ROWS: usize = ROW_SIZE * MAX_RULES;
 
-#[derive(Drop)]
+#[derive(Clone, Copy)]
 pub enum TestReply {
     Stable,
     NotStable,

@@ -1,6 +1,8 @@
 // The candidate test: is this interpretation a stable model of the table's program? What depends on the candidate alone
 // (which rows are rejected, which atoms are supported) is worked out once; then the marks are filled from the defaults and compared
 // with the candidate.
+#![tactic(auto)]
+
 ghost use Rattle.std.specs.Prelude.{◌≡◌, false, cond, ◌<◌, ◌≤◌, length, replicate};
 ghost use Rattle.filling.specs.Marks.{hint_size};
 ghost use Rattle.base.specs.Bounds.{max_atoms, max_names};
