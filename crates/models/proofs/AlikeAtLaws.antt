@@ -65,7 +65,7 @@ module _ (b c : Book) (layer off off' : ℕ)
   body-to body k =
       let v = Memᴰ.of_map (λ r. r.body) (filter (λ r. relevant b layer off r && is_constraint r) b.rules) k in
       let o = rule_to is_constraint (λ r t s. constraint_written s) v.0 v.1 in
-      (o.0.body, Memᴰ.map (λ r. r.body) o.1, λ l. subst (λ (x : List Literal). (l ∈ x → l ∈ o.0.body) × (l ∈ o.0.body → l ∈ x)) v.2 (o.2.Body-same l))
+      (o.0.body, Memᴰ.map (λ r. r.body) o.1, λ l. subst (λ (x : List Literal). (l ∈ x → l ∈ o.0.body) × (l ∈ o.0.body → l ∈ x)) v.2 (o.2.body_same l))
 
 -- ---- the two programs
 module _ (b c : Book) (layer off off' : ℕ) (atoms_same : b.atoms ≡ c.atoms)
