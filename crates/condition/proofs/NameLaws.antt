@@ -66,7 +66,7 @@ too_long : {v w : ℕ} (c : ℕ) (u x q t : List ℕ) → Digits v q w → Digit
 too_long c u x q [] (none v) k e h n = n c x (sym e) k
 too_long c u x q (y ∷ t) (none v) k e h n = omega arith
 too_long c u x q [] (more {c = b} {s = r} j d) k e h n = n b (r ++ (c ∷ x)) (sym e) j
-too_long c u x q (y ∷ t) (more {s = r} j d) k e h n = too_long c u x r t d k (rest-same e) (omega arith) n
+too_long {v = v} {w = w} c u x _ (y ∷ t) (more {c = b} {s = r} j d) k e h n = too_long {v = v * 10 + (b - 48)} c u x r t d k (rest-same e) (omega arith) n
 
 -- a name as the reader took it
 record NameText (x : List ℕ) (f : ℕ) (u : List ℕ) : Type 0 where

@@ -1,0 +1,14 @@
+-- What `fill_on` makes of the start's negations and no fact is the filling from the start: they follow from it, and no fact is marked.
+use lib.ListN.{length}
+use Rattle.filling.proofs.MarkLaws.{room-same}
+use Rattle.filling.proofs.FillingLaws.{filled-from-start}
+use borrow.Author.Rules.{rules}
+use Rattle.filling.proofs.fill.Goals as goal
+
+pub fill_on-requires : goal.fill_on-requires
+fill_on-requires c =
+    record { rows_fit = c.requires.rows_fit; rejects_len = c.requires.rejects_len; room = room-same c.requires.room _ _ (search rules) (search rules); hints_len = search rules }
+
+pub returns : goal.returns
+returns c =
+    filled-from-start (length c.args.positive.now) c.clear_marks.ensures c.fill_on.ensures

@@ -1,0 +1,14 @@
+-- Every turn that marks marks what follows (`settle`), and no other touches the marks; the turns left fall.
+use mathlib.Core.Path.{◌≡◌}
+use Prim.Native.Nat.{◌/◌, ◌≤◌}
+use lib.ListN.{length}
+use Rattle.table.specs.Rows.{row_size}
+use Rattle.base.specs.Bounds.{max_rules}
+use Rattle.filling.proofs.WaitingLaws.{Turn}
+use Rattle.filling.proofs.propagate.Given as goal
+
+abbrev pub invariant-loop-turns : goal.invariant-loop-turns
+invariant-loop-turns l = (l.count ≡ length l.rows / row_size) × (l.count ≤ max_rules) × Turn l.book l.rows l.rejects l.initial.positive l.initial.negative l.positive l.negative l.hints l.top
+
+abbrev pub decreases-loop-turns : goal.decreases-loop-turns
+decreases-loop-turns l = l.turns
