@@ -1,0 +1,21 @@
+-- The marks passed are kept. Those left fall.
+use mathlib.Core.Path.{◌≡◌, refl}
+use mathlib.Core.Bool.{false}
+use Prim.Native.Nat.{ℕ, ◌-◌, ◌<◌}
+use lib.ListN.{length, get_or, length-set}
+use Rattle.leaf.proofs.ModelLaws.{copied_more, copied_all}
+use borrow.Author.Rules.{rules}
+use native.Mathlib.Omega.{arith}
+use Rattle.leaf.proofs.copy_marks.Goals as goal
+
+pub loop-f-init : goal.loop-f-init
+loop-f-init c =
+    (refl, λ g h. absurd (omega arith))
+
+pub loop-f-preserved : goal.loop-f-preserved
+loop-f-preserved c =
+    (simp length-set c.loop-f.invariant.0, copied_more c.args.marks.now c.loop-f.kept c.loop-f.f (search rules) c.loop-f.invariant.1)
+
+pub returns : goal.returns
+returns c =
+    copied_all c.args.marks.now c.loop-f.kept c.loop-f.f (search rules) (search rules) c.loop-f.invariant.1

@@ -1,0 +1,15 @@
+-- The marks passed are kept. Those left fall.
+use mathlib.Core.Path.{◌≡◌, refl}
+use mathlib.Core.Bool.{false}
+use Prim.Native.Nat.{ℕ, ◌-◌, ◌<◌}
+use lib.ListN.{length, get_or, length-set}
+use Rattle.leaf.proofs.ModelLaws.{copied_more, copied_all}
+use borrow.Author.Rules.{rules}
+use native.Mathlib.Omega.{arith}
+use Rattle.leaf.proofs.copy_marks.Given as goal
+
+abbrev pub invariant-loop-f : goal.invariant-loop-f
+invariant-loop-f l = (length l.kept ≡ length l.initial.kept) × ((g : ℕ) → g < l.f → get_or l.kept g false ≡ get_or l.marks g false)
+
+abbrev pub decreases-loop-f : goal.decreases-loop-f
+decreases-loop-f l = length l.initial.kept - l.f

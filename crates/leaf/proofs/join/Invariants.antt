@@ -1,0 +1,17 @@
+-- Of the facts passed, those that the setting denies are marked. The facts left fall.
+use mathlib.Core.Path.{◌≡◌, refl, sym, ◌∙◌}
+use mathlib.Core.Logic.{⊎_elim}
+use Prim.Native.Nat.{◌-◌, ◌≤◌}
+use lib.ListN.{length, length-set}
+use Rattle.leaf.specs.Searchable.{denied_of, Joined}
+use Rattle.leaf.proofs.ModelLaws.{choices_low, denied_is}
+use Rattle.leaf.proofs.GoingOnLaws.{joined-start, joined_skip, joined-more}
+use borrow.Author.Rules.{rules}
+use native.Mathlib.Omega.{arith}
+use Rattle.leaf.proofs.join.Given as goal
+
+abbrev pub invariant-loop-i : goal.invariant-loop-i
+invariant-loop-i l = (length l.negative ≡ length l.initial.negative) × (l.i ≤ length l.atoms) × Joined l.atoms (denied_of l.atoms l.standing) l.initial.negative l.negative l.i
+
+abbrev pub decreases-loop-i : goal.decreases-loop-i
+decreases-loop-i l = length l.atoms - l.i

@@ -1,0 +1,24 @@
+-- A violated row or a conflict rules stability out; else what is filled from the defaults is what is derived, and the comparison
+-- decides.
+use mathlib.Core.Path.{subst, ◌∙◌}
+use Rattle.table.proofs.TabledLaws.{tabled-free}
+use Rattle.tester.specs.Masks.{Others}
+use Rattle.tester.proofs.TestLaws.{room_for, violated_unstable, conflict_unstable, agree_stable}
+use borrow.Author.Rules.{rules}
+use Rattle.tester.proofs.settles.Goals as goal
+
+pub returns-then-supported : goal.returns-then-supported
+returns-then-supported c =
+    violated_unstable c.requires.tabulates c.requires.rejected_masks c.requires.well_formed (c.requires.m_len ∙ c.requires.n_value) (c.supported.ensures.violation c.if-supported.true)
+
+pub fill-requires : goal.fill-requires
+fill-requires c =
+    record { rows_fit = c.requires.tabulates.fits; rejects_len = c.requires.rejected_masks.size; room = room_for c.requires.tabulates c.requires.well_formed c.requires.n_value c.requires.n_le_max_atoms _ _ (search rules) (search rules); hints_len = search rules }
+
+pub returns-then-fill : goal.returns-then-fill
+returns-then-fill c =
+    conflict_unstable c.requires.tabulates c.requires.rejected_masks c.requires.well_formed c.requires.n_value (search rules) (c.supported.ensures.support c.if-supported.false) (subst (Others _ _) {y = c.args.n} (search rules) c.mark_defaults.ensures) c.fill.ensures c.requires.m_len c.if-fill.true
+
+pub returns : goal.returns
+returns c =
+    agree_stable c.requires.tabulates c.requires.rejected_masks c.requires.well_formed c.requires.n_value (search rules) (c.supported.ensures.support c.if-supported.false) (subst (Others _ _) {y = c.args.n} (search rules) c.mark_defaults.ensures) c.fill.ensures c.requires.m_len c.if-fill.false (tabled-free c.args.book.now c.args.rows.now c.args.n) c.marks_agree.result c.marks_agree.ensures
