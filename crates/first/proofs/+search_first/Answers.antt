@@ -2,7 +2,6 @@
 -- nothing can be found (`none_promised`), a leaf, and two halves with the first fact that is left decided each way (TurnLaws, ApartLaws).
 use mathlib.Core.Path.{refl, sym, ◌∙◌}
 use Prim.Native.Nat.{◌-◌}
-use borrow.Author.Tests.{not-true}
 use Rattle.plan.specs.Plan.{plan_atoms, plan_bans}
 use Rattle.search.proofs.AllowedLaws.{barred-size}
 use Rattle.search.proofs.TurnLaws.{atoms-count, shift_is, none_promised, leaf_is, turned_first, turned_second, halves_are}
@@ -11,7 +10,6 @@ use Rattle.first.proofs.LaterLaws.{takes_skipped}
 use Rattle.first.proofs.ApartLaws.{step_small, atom_read, apart_first, apart_second}
 use borrow.Author.Rules.{rules}
 use native.Mathlib.Omega.{arith}
-use Prim.Native.Nat.{ℕ, ◌<◌}
 use Rattle.first.proofs.+search_first.Goals as goal
 
 pub returns-then-behind : goal.returns-then-behind

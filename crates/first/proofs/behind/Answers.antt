@@ -2,7 +2,6 @@
 use mathlib.Core.Bool.{false≢true}
 use Rattle.first.specs.InHand.{farther, as_far}
 use native.Mathlib.Omega.{arith}
-use borrow.Author.Rules.{rules}
 use Rattle.first.proofs.behind.Goals as goal
 
 pub returns-then-apart-held : goal.returns-then-apart-held

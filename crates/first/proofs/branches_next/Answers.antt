@@ -1,7 +1,6 @@
 -- The i-th entry is compared, if there is one.
 use mathlib.Core.Bool.{false≢true}
 use borrow.Author.Tests.{eqb-true}
-use borrow.Author.Rules.{rules}
 use Rattle.first.proofs.branches_next.Goals as goal
 
 pub returns-then-i-atoms : goal.returns-then-i-atoms

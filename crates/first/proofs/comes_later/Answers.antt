@@ -3,7 +3,6 @@ use mathlib.Core.Path.{refl}
 use mathlib.Core.Bool.{false≢true}
 use borrow.Author.Tests.{not-false}
 use Rattle.first.proofs.LaterLaws.{not-zero, later_at_the_end, later_at_a_fact}
-use borrow.Author.Rules.{rules}
 use Rattle.first.proofs.comes_later.Goals as goal
 
 pub returns-then-not-held : goal.returns-then-not-held

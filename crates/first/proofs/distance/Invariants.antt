@@ -1,14 +1,9 @@
 -- The distance over the facts passed so far is counted. The facts left fall.
-use mathlib.Core.Path.{◌≡◌, ap, ◌∙◌}
-use mathlib.Core.Logic.{⊎_elim}
-use Prim.Native.Nat.{ℕ, ◌-◌, ◌≤◌}
+use mathlib.Core.Path.{◌≡◌}
+use Prim.Native.Nat.{◌-◌, ◌≤◌}
 use lib.ListN.{length}
-use Rattle.models.specs.StableModels.{atom_holds}
 use Rattle.base.specs.Bounds.{max_atoms}
 use Rattle.first.specs.Nearest.{distance}
-use Rattle.first.proofs.ApartLaws.{distance_none, distance_le, distance-more, distance-same}
-use borrow.Author.Rules.{rules}
-use native.Mathlib.Omega.{arith}
 use Rattle.first.proofs.distance.Given as goal
 
 abbrev pub invariant-loop-f : goal.invariant-loop-f

@@ -1,12 +1,6 @@
 -- Of the facts passed, those that branch are ahead, and every one that stands is known (`OutlinedTo`). The facts left fall.
 use mathlib.Core.Path.{refl}
-use mathlib.Core.Logic.{⊎_elim}
-use Prim.Native.Nat.{◌-◌, ◌≤◌}
-use lib.ListN.{length}
-use Rattle.base.specs.Bounds.{max_atoms, max_branching}
-use Rattle.first.proofs.OutlineLaws.{OutlinedTo, outlined_start, outlined_branching, outlined_other, outlined_part, outlined_whole}
-use mathlib.Core.Path.{◌≡◌}
-use borrow.Author.Rules.{rules}
+use Rattle.first.proofs.OutlineLaws.{outlined_start, outlined_branching, outlined_other, outlined_part, outlined_whole}
 use native.Mathlib.Omega.{arith}
 use Rattle.first.proofs.outline.Goals as goal
 use Rattle.first.proofs.outline.Goals.{else-branches_next+else-unsure, then-branches_next}

@@ -1,10 +1,7 @@
 -- The answer is that of the bytes from j on, and each turn takes their first bytes away or ends on them. The bytes left fall.
-use mathlib.Core.Path.{◌≡◌, refl}
-use Prim.Native.Nat.{◌-◌, ◌≤◌}
+use mathlib.Core.Path.{refl}
 use lib.ListN.{length}
-use Rattle.base.specs.Bounds.{max_atoms}
-use Rattle.models.specs.Listing.{record_size}
-use Rattle.first.proofs.PrecedesLaws.{size_few, From, at_end, precedes_here, follows_here, goes_on}
+use Rattle.first.proofs.PrecedesLaws.{size_few, at_end, precedes_here, follows_here, goes_on}
 use borrow.Author.Rules.{rules}
 use native.Mathlib.Omega.{arith}
 use Rattle.first.proofs.precedes.Goals as goal

@@ -1,10 +1,7 @@
 -- The distances decide; where they are the same, the records are compared; where nothing is in hand, nothing stays.
-use mathlib.Core.Bool.{not}
-use mathlib.Core.Path.{ap}
 use lib.ListN.{length}
 use Rattle.models.specs.Listing.{record_of}
 use Rattle.first.proofs.PrecedesLaws.{none_stays, stays_as_far, stays_by_distance}
-use borrow.Author.Rules.{rules}
 use Rattle.first.proofs.stays.Goals as goal
 
 pub returns-then-not-held : goal.returns-then-not-held

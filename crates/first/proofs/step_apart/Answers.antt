@@ -3,7 +3,6 @@ use lib.ListN.{length}
 use Rattle.models.specs.StableModels.{atom_holds}
 use Rattle.first.proofs.ApartLaws.{step_one, step-none, step_past}
 use native.Mathlib.Omega.{arith}
-use borrow.Author.Rules.{rules}
 use Rattle.first.proofs.step_apart.Goals as goal
 
 pub returns-then-wanted-f : goal.returns-then-wanted-f

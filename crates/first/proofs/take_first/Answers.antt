@@ -2,7 +2,6 @@
 use mathlib.Core.Path.{refl, ◌∙◌}
 use lib.ListN.{length}
 use Rattle.first.proofs.InHandLaws.{takes_later, takes_first, put_fits, whole_put}
-use borrow.Author.Rules.{rules}
 use Rattle.first.proofs.take_first.Goals as goal
 
 pub distance-d-requires : goal.distance-d-requires

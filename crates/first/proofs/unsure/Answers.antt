@@ -3,7 +3,6 @@ use mathlib.Core.Path.{subst}
 use lib.Dec.{T}
 use Rattle.first.proofs.OutlineLaws.{not_unsure}
 use Rattle.models.specs.StableModels.{atom_holds}
-use borrow.Author.Rules.{rules}
 use Rattle.first.proofs.unsure.Goals as goal
 
 pub returns-then-m-f : goal.returns-then-m-f

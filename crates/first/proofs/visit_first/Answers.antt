@@ -5,7 +5,6 @@ use Rattle.plan.specs.Plan.{plan_atoms, plan_bans}
 use Rattle.first.proofs.InHandLaws.{takes_found, takes_missed}
 use Rattle.first.proofs.OutlineLaws.{found_has, found_size}
 use native.Mathlib.Omega.{arith}
-use borrow.Author.Rules.{rules}
 use Rattle.first.proofs.visit_first.Goals as goal
 
 pub find_model-requires : goal.find_model-requires

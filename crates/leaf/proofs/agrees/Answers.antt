@@ -1,9 +1,6 @@
 -- The invariant: the atoms left decide. They fall.
-use Prim.Native.Nat.{◌-◌, ◌≤◌}
-use lib.ListN.{length}
 use Rattle.setting.specs.Setting.{setting_of}
-use Rattle.leaf.proofs.ModelLaws.{choices_low, stands_is, AgreeFrom, agree_start, agree_fails, agree_more, agree_end}
-use borrow.Author.Rules.{rules}
+use Rattle.leaf.proofs.ModelLaws.{choices_low, stands_is, agree_start, agree_fails, agree_more, agree_end}
 use native.Mathlib.Omega.{arith}
 use Rattle.leaf.proofs.agrees.Goals as goal
 

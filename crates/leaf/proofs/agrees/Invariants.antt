@@ -2,9 +2,7 @@
 use Prim.Native.Nat.{◌-◌, ◌≤◌}
 use lib.ListN.{length}
 use Rattle.setting.specs.Setting.{setting_of}
-use Rattle.leaf.proofs.ModelLaws.{choices_low, stands_is, AgreeFrom, agree_start, agree_fails, agree_more, agree_end}
-use borrow.Author.Rules.{rules}
-use native.Mathlib.Omega.{arith}
+use Rattle.leaf.proofs.ModelLaws.{AgreeFrom}
 use Rattle.leaf.proofs.agrees.Given as goal
 
 abbrev pub invariant-loop-i : goal.invariant-loop-i

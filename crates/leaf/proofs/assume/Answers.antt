@@ -1,11 +1,7 @@
 -- Of the facts passed those are marked that the setting denies and of which no rule is rejected. The facts left fall.
-use mathlib.Core.Path.{◌≡◌, refl}
-use mathlib.Core.Logic.{⊎_elim}
-use Prim.Native.Nat.{◌-◌}
+use mathlib.Core.Path.{refl}
 use lib.ListN.{length, length-set}
-use Rattle.leaf.specs.Searchable.{denied_of, Undisputed}
 use Rattle.leaf.proofs.ModelLaws.{choices_low, denied_is, undisputed-start, undisputed-more}
-use borrow.Author.Rules.{rules}
 use native.Mathlib.Omega.{arith}
 use Rattle.leaf.proofs.assume.Goals as goal
 use Rattle.leaf.proofs.assume.Goals.{else-rejects-f-eq0, then-rejects-f-eq0}

@@ -1,12 +1,8 @@
 -- Of the facts passed those are marked that the setting denies and of which no rule is rejected. The facts left fall.
-use mathlib.Core.Path.{◌≡◌, refl}
-use mathlib.Core.Logic.{⊎_elim}
+use mathlib.Core.Path.{◌≡◌}
 use Prim.Native.Nat.{◌-◌}
-use lib.ListN.{length, length-set}
+use lib.ListN.{length}
 use Rattle.leaf.specs.Searchable.{denied_of, Undisputed}
-use Rattle.leaf.proofs.ModelLaws.{choices_low, denied_is, undisputed-start, undisputed-more}
-use borrow.Author.Rules.{rules}
-use native.Mathlib.Omega.{arith}
 use Rattle.leaf.proofs.assume.Given as goal
 
 abbrev pub invariant-loop-i : goal.invariant-loop-i

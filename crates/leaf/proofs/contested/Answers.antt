@@ -2,15 +2,9 @@
 -- or where its body does not hold.
 use mathlib.Core.Path.{ap}
 use mathlib.Core.Bool.{not}
-use mathlib.Core.Path.{◌≡◌, refl}
-use mathlib.Core.Logic.{⊎_elim}
+use mathlib.Core.Path.{refl}
 use mathlib.Core.Bool.{true≢false}
-use Prim.Native.Nat.{◌-◌, ◌/◌, ◌≤◌}
-use lib.ListN.{length}
-use Rattle.table.specs.Rows.{row_size}
-use Rattle.leaf.specs.Contested.{Uncontested}
 use Rattle.leaf.proofs.ContestedLaws.{uncontested_alive, uncontested_answered, uncontested_not}
-use borrow.Author.Rules.{rules}
 use native.Mathlib.Omega.{arith}
 use Rattle.leaf.proofs.contested.Goals as goal
 use Rattle.leaf.proofs.contested.Goals.{else-not-row_alive, then-not-row_alive+else-undecided, then-not-row_alive+then-undecided+else-row_holds}

@@ -1,15 +1,10 @@
 -- The invariant: none of the rows passed is contested. The rows left fall. A row is not where it is alive, where its head is answered
 -- or where its body does not hold.
-use mathlib.Core.Path.{◌≡◌, refl}
-use mathlib.Core.Logic.{⊎_elim}
-use mathlib.Core.Bool.{true≢false}
+use mathlib.Core.Path.{◌≡◌}
 use Prim.Native.Nat.{◌-◌, ◌/◌, ◌≤◌}
 use lib.ListN.{length}
 use Rattle.table.specs.Rows.{row_size}
 use Rattle.leaf.specs.Contested.{Uncontested}
-use Rattle.leaf.proofs.ContestedLaws.{uncontested_alive, uncontested_answered, uncontested_not}
-use borrow.Author.Rules.{rules}
-use native.Mathlib.Omega.{arith}
 use Rattle.leaf.proofs.contested.Given as goal
 
 abbrev pub invariant-loop-j : goal.invariant-loop-j

@@ -1,8 +1,6 @@
 -- The marks passed are kept. Those left fall.
-use mathlib.Core.Path.{◌≡◌, refl}
-use mathlib.Core.Bool.{false}
-use Prim.Native.Nat.{ℕ, ◌-◌, ◌<◌}
-use lib.ListN.{length, get_or, length-set}
+use mathlib.Core.Path.{refl}
+use lib.ListN.{length-set}
 use Rattle.leaf.proofs.ModelLaws.{copied_more, copied_all}
 use borrow.Author.Rules.{rules}
 use native.Mathlib.Omega.{arith}

@@ -1,11 +1,8 @@
 -- The marks passed are kept. Those left fall.
-use mathlib.Core.Path.{◌≡◌, refl}
+use mathlib.Core.Path.{◌≡◌}
 use mathlib.Core.Bool.{false}
 use Prim.Native.Nat.{ℕ, ◌-◌, ◌<◌}
-use lib.ListN.{length, get_or, length-set}
-use Rattle.leaf.proofs.ModelLaws.{copied_more, copied_all}
-use borrow.Author.Rules.{rules}
-use native.Mathlib.Omega.{arith}
+use lib.ListN.{length, get_or}
 use Rattle.leaf.proofs.copy_marks.Given as goal
 
 abbrev pub invariant-loop-f : goal.invariant-loop-f

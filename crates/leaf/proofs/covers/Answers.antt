@@ -2,13 +2,9 @@
 use mathlib.Core.Path.{ap}
 use mathlib.Core.Bool.{not}
 use mathlib.Core.Path.{sym, subst, ◌∙◌}
-use mathlib.Core.Logic.{⊎_elim}
 use mathlib.Core.Bool.{false≢true}
-use Prim.Native.Nat.{◌-◌, ◌≤◌}
 use lib.Dec.{T}
-use lib.ListN.{length}
-use borrow.Author.Tests.{not-false}
-use Rattle.leaf.specs.Searchable.{denied_of, Covered}
+use Rattle.leaf.specs.Searchable.{denied_of}
 use Rattle.leaf.proofs.ModelLaws.{choices_low, denied_is, covered_more}
 use borrow.Author.Rules.{rules}
 use native.Mathlib.Omega.{arith}

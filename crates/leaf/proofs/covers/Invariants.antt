@@ -1,15 +1,7 @@
 -- The invariant: of the atoms passed, those of the start are marked. The atoms left fall.
-use mathlib.Core.Path.{sym, subst, ◌∙◌}
-use mathlib.Core.Logic.{⊎_elim}
-use mathlib.Core.Bool.{false≢true}
 use Prim.Native.Nat.{◌-◌, ◌≤◌}
-use lib.Dec.{T}
 use lib.ListN.{length}
-use borrow.Author.Tests.{not-false}
 use Rattle.leaf.specs.Searchable.{denied_of, Covered}
-use Rattle.leaf.proofs.ModelLaws.{choices_low, denied_is, covered_more}
-use borrow.Author.Rules.{rules}
-use native.Mathlib.Omega.{arith}
 use Rattle.leaf.proofs.covers.Given as goal
 
 abbrev pub invariant-loop-i : goal.invariant-loop-i

@@ -3,7 +3,6 @@
 use mathlib.Core.Bool.{not}
 use mathlib.Core.Path.{ap}
 use Rattle.leaf.proofs.ModelLaws.{choices, model_apart, model_tested, model_masks, model_uncontested}
-use borrow.Author.Rules.{rules}
 use Rattle.leaf.proofs.decide.Goals as goal
 
 pub agrees-requires : goal.agrees-requires

@@ -1,11 +1,8 @@
 -- Of the facts passed, those that the setting denies are marked. The facts left fall.
 use mathlib.Core.Path.{ap}
 use mathlib.Core.Bool.{not}
-use mathlib.Core.Path.{◌≡◌, refl, sym, ◌∙◌}
-use mathlib.Core.Logic.{⊎_elim}
-use Prim.Native.Nat.{◌-◌, ◌≤◌}
-use lib.ListN.{length, length-set}
-use Rattle.leaf.specs.Searchable.{denied_of, Joined}
+use mathlib.Core.Path.{refl, sym, ◌∙◌}
+use lib.ListN.{length-set}
 use Rattle.leaf.proofs.ModelLaws.{choices_low, denied_is}
 use Rattle.leaf.proofs.GoingOnLaws.{joined-start, joined_skip, joined-more}
 use borrow.Author.Rules.{rules}

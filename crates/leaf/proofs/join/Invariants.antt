@@ -1,13 +1,8 @@
 -- Of the facts passed, those that the setting denies are marked. The facts left fall.
-use mathlib.Core.Path.{◌≡◌, refl, sym, ◌∙◌}
-use mathlib.Core.Logic.{⊎_elim}
+use mathlib.Core.Path.{◌≡◌}
 use Prim.Native.Nat.{◌-◌, ◌≤◌}
-use lib.ListN.{length, length-set}
+use lib.ListN.{length}
 use Rattle.leaf.specs.Searchable.{denied_of, Joined}
-use Rattle.leaf.proofs.ModelLaws.{choices_low, denied_is}
-use Rattle.leaf.proofs.GoingOnLaws.{joined-start, joined_skip, joined-more}
-use borrow.Author.Rules.{rules}
-use native.Mathlib.Omega.{arith}
 use Rattle.leaf.proofs.join.Given as goal
 
 abbrev pub invariant-loop-i : goal.invariant-loop-i

@@ -3,7 +3,6 @@ use mathlib.Core.Path.{ap}
 use Prim.Native.Nat.{ℕ}
 use lib.Dec.{eqb}
 use Rattle.layers.proofs.WarshallLaws.{test_bit}
-use borrow.Author.Rules.{rules}
 use Rattle.leaf.proofs.stands.Goals as goal
 
 pub returns : goal.returns

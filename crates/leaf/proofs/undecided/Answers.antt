@@ -1,6 +1,5 @@
 -- A negated name is no fact; else one of the two tests decides.
 use Rattle.leaf.proofs.ContestedLaws.{answered_negated, answered_holds, answered_marked}
-use borrow.Author.Rules.{rules}
 use Rattle.leaf.proofs.undecided.Goals as goal
 
 pub returns-then-h-ge-MAX_ATOMS : goal.returns-then-h-ge-MAX_ATOMS

@@ -1,7 +1,6 @@
 -- `one_found` meets its contract: room for a record, then the first record that a pass writes. Assumes nothing.
 use Rattle.one_call.proofs.OneLaws.{room_refused, part_sized, state_refused, state_written_lem}
 use native.Mathlib.Omega.{arith}
-use borrow.Author.Rules.{rules}
 use Rattle.one_call.proofs.one_found.Goals as goal
 
 pub record_size-size-requires : goal.record_size-size-requires

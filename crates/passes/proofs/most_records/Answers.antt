@@ -5,7 +5,6 @@ use Rattle.plan.specs.Plan.{plan_bans}
 use Rattle.search.proofs.TurnLaws.{atoms-count}
 use Rattle.passes.proofs.PassLaws.{asks-count, count_room, every_setting, counted_past}
 use native.Mathlib.Omega.{arith}
-use borrow.Author.Rules.{rules}
 use Rattle.passes.proofs.most_records.Goals as goal
 
 pub overflow_cast-settings : goal.overflow_cast-settings

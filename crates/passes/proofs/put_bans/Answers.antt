@@ -1,6 +1,5 @@
 -- The constraints have a part of the plan to themselves.
 use Rattle.passes.proofs.SetUpLaws.{bans_listed}
-use borrow.Author.Rules.{rules}
 use Rattle.passes.proofs.put_bans.Goals as goal
 
 pub returns : goal.returns

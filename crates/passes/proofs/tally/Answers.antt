@@ -1,7 +1,6 @@
 -- One pass, which writes nothing (`tallied`).
 use Rattle.plan.specs.Plan.{plan_bans}
 use Rattle.passes.proofs.PassLaws.{tallied}
-use borrow.Author.Rules.{rules}
 use Rattle.passes.proofs.tally.Goals as goal
 
 pub pass-end-requires : goal.pass-end-requires

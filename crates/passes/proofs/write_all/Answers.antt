@@ -5,7 +5,6 @@ use mathlib.Core.List.{[]}
 use Rattle.models.specs.Listing.{stable_models}
 use Rattle.plan.specs.Plan.{plan_bans, planned_program}
 use Rattle.passes.proofs.PassLaws.{asks_list, list_room, none_written, all_counted, all-written}
-use borrow.Author.Rules.{rules}
 use Rattle.passes.proofs.write_all.Goals as goal
 
 pub returns-then-part-eq0 : goal.returns-then-part-eq0

@@ -5,7 +5,6 @@ use Rattle.models.specs.StableModels.{Interpretation}
 use Rattle.first.specs.InHand.{record_held}
 use Rattle.passes.proofs.FirstLaws.{none_wanted}
 use native.Mathlib.Omega.{arith}
-use borrow.Author.Rules.{rules}
 use Rattle.passes.proofs.write_first.Goals as goal
 
 pub write_nearest-end-requires : goal.write_nearest-end-requires

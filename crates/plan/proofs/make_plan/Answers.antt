@@ -1,13 +1,12 @@
 -- The invariant (`PlanTo`): the entries of the rows passed are there, and the branching facts in front and the constraints behind are as they
 -- were. The rows left fall. The constraints' nogoods come last.
-use mathlib.Core.Path.{◌≡◌, refl, sym, subst, ap, ◌∙◌}
+use mathlib.Core.Path.{refl, sym, subst, ap, ◌∙◌}
 use mathlib.Core.List.{List}
-use Prim.Native.Nat.{ℕ, ◌-◌, ◌/◌, ◌≤◌}
+use Prim.Native.Nat.{ℕ}
 use lib.ListN.{length}
-use Rattle.table.specs.Rows.{row_size}
 use Rattle.bans.specs.Bans.{BansFit}
 use Rattle.setting.specs.RuleMasks.{AtomBits}
-use Rattle.plan.specs.Plan.{bans_at, plan_size, part, plan_atoms, PlanTo}
+use Rattle.plan.specs.Plan.{plan_atoms}
 use Rattle.plan.proofs.PlanLaws.{plan_start, bans_still, plan_banned, bans_lent, plan_end}
 use borrow.Author.Rules.{rules}
 use native.Mathlib.Omega.{arith}

@@ -11,7 +11,6 @@ use Rattle.rejecting.proofs.RejectingLaws.{entry_of, made_put}
 use Rattle.plan.specs.Plan.{masks_at, nogoods_at, part, plan_atoms, plan_bans}
 use Rattle.plan.proofs.PlanLaws.{rule_size, nogood_size, rejecting_size, size₁, nogoods_there, size₂, rejecting_there, size₃, plan_step}
 use native.Mathlib.Omega.{arith}
-use borrow.Author.Rules.{rules}
 use Rattle.plan.proofs.plan_row.Goals as goal
 
 pub slice_bounds-put_nogood-end : goal.slice_bounds-put_nogood-end

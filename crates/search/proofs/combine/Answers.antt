@@ -1,7 +1,6 @@
 -- One law a goal; where records are listed, the two runs are merged (`combines_listed`).
 use Rattle.search.proofs.KeptLaws.{times_fit, start_fits, end_fits, width_some, lent_size, combines_listed, combines_count, combines_settle, combines_sums, combines_fit}
 use native.Mathlib.Omega.{arith}
-use borrow.Author.Rules.{rules}
 use Rattle.search.proofs.combine.Goals as goal
 
 pub overflow_mul-start : goal.overflow_mul-start

@@ -11,7 +11,6 @@ use Rattle.plan.specs.Plan.{plan_atoms, plan_bans}
 use Rattle.search.proofs.StepLaws.{setting_rejects}
 use Rattle.search.proofs.AllowedLaws.{setting_allowed, setting_without}
 use native.Mathlib.Omega.{arith}
-use borrow.Author.Rules.{rules}
 use Rattle.search.proofs.find_model.Goals as goal
 
 pub reject_at-requires : goal.reject_at-requires

@@ -1,7 +1,6 @@
 -- `fit_weight` meets its contract: the bit of what the code comes to. Assumes nothing.
 use mathlib.Core.Path.{sym, ◌∙◌}
 use Rattle.search.proofs.VisitLaws.{bit-set, bit-clear}
-use borrow.Author.Rules.{rules}
 use Rattle.search.proofs.fit_weight.Goals as goal
 
 pub returns-then-evaluate : goal.returns-then-evaluate

@@ -1,6 +1,5 @@
 -- The constraints stand behind the plan's entries.
 use native.Mathlib.Omega.{arith}
-use borrow.Author.Rules.{rules}
 use Rattle.search.proofs.forbids.Goals as goal
 
 pub slice_bounds-banned-end : goal.slice_bounds-banned-end

@@ -2,7 +2,6 @@
 use mathlib.Core.Path.{◌∙◌}
 use Rattle.search.proofs.KeptLaws.{times_fit, place-fits, sums_fit, sums_of, keep_listed, keep_count, keep_settle, keep_sums, keep_fit}
 use native.Mathlib.Omega.{arith}
-use borrow.Author.Rules.{rules}
 use Rattle.search.proofs.keep.Goals as goal
 
 pub overflow_mul-count : goal.overflow_mul-count

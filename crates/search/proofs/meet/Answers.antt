@@ -1,7 +1,6 @@
 -- One more is counted and weighed; what the part keeps is for `keep` to say.
 use Rattle.search.proofs.VisitLaws.{visited_one}
 use native.Mathlib.Omega.{arith}
-use borrow.Author.Rules.{rules}
 use Rattle.search.proofs.meet.Goals as goal
 
 pub weight-more-requires : goal.weight-more-requires

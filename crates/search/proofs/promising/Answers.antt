@@ -2,8 +2,7 @@
 use mathlib.Core.Path.{sym, ◌∙◌}
 use mathlib.Core.Logic.{inl, inr}
 use mathlib.Core.Bool.{false≢true}
-use borrow.Author.Tests.{not-true, not-false}
-use borrow.Author.Rules.{rules}
+use borrow.Author.Tests.{not-false}
 use Rattle.search.proofs.promising.Goals as goal
 
 pub returns-then-not-headed : goal.returns-then-not-headed

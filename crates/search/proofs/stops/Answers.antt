@@ -1,6 +1,5 @@
 -- One law a goal.
 use Rattle.search.proofs.VisitLaws.{list_stops, count_stops, settle_stops, settle_goes_on, sums_stop, fit_stops}
-use borrow.Author.Rules.{rules}
 use Rattle.search.proofs.stops.Goals as goal
 
 pub returns-in-List : goal.returns-in-List

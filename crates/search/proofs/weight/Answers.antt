@@ -1,6 +1,5 @@
 -- One law a goal.
 use Rattle.search.proofs.VisitLaws.{asked_two, asked_code, weigh_list, weigh_count, weigh_settle, weigh_sums, weigh_fit}
-use borrow.Author.Rules.{rules}
 use Rattle.search.proofs.weight.Goals as goal
 
 pub be16-requires : goal.be16-requires

@@ -2,7 +2,6 @@
 use mathlib.Core.Path.{sym, ◌∙◌}
 use Rattle.accepted.proofs.DrivenLaws.{ready}
 use Rattle.test_call.proofs.ReplyLaws.{layer_refused, candidate_refused, answered_yes, answered_no}
-use borrow.Author.Rules.{rules}
 use Rattle.test_call.proofs.test.Goals as goal
 
 pub atom_count-n-requires : goal.atom_count-n-requires
