@@ -1,6 +1,7 @@
 // The drive of every call that searches: it owns the table and the plan, makes them once, and names the causes that all such calls
 // have. A call adds its question, which has its own crate: its last causes, its pass and its reply.
 #![tactic(auto)]
+
 ghost use Rattle.std.specs.Prelude.{◌≡◌, false, ◌<◌, length};
 ghost use Rattle.layers.specs.Masks.{LowerMasks};
 ghost use Rattle.format.specs.Book.{arrows_of, book_of};

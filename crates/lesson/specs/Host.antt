@@ -101,38 +101,38 @@ abbrev pub refused_for : {A : Type 0} → Cause → A → Reading A
 refused_for c own = record { granted = false; cause = number_of c; branching = 0; own = own }
 
 -- ---- what each reply has to tell
--- lesson_check: nothing more; lessonStateCount reads 0
+-- lesson_check: nothing more; lesson_state_count reads 0
 abbrev pub check_told : Verdict → Reading ℕ
 check_told Accepted = granted_with 0 0
 check_told (Refused c) = refused_for c 0
 
--- lesson_test, by lessonIsStable: yes or no
+-- lesson_test, by lesson_is_stable: yes or no
 abbrev pub test_told : TestReply → Reading Bool
 test_told reply.Stable = granted_with 0 true
 test_told reply.NotStable = granted_with 0 false
 test_told (reply.Refused c) = refused_for c false
 
--- lesson_list, by lessonStateCount: k
+-- lesson_list, by lesson_state_count: k
 abbrev pub list_told : ListReply → Reading ℕ
 list_told (list.Listed k g) = granted_with g k
 list_told (list.Refused c) = refused_for c 0
 
--- lesson_one: nothing but g; lessonStateCount reads 0
+-- lesson_one: nothing but g; lesson_state_count reads 0
 abbrev pub one_told : OneReply → Reading ℕ
 one_told (one.Written g) = granted_with g 0
 one_told (one.Refused c) = refused_for c 0
 
--- lesson_place, by lessonPlaceOf: the place
+-- lesson_place, by lesson_place_of: the place
 abbrev pub place_told : PlaceReply → Reading ℕ
 place_told (place.Placed p g) = granted_with g (place_number p)
 place_told (place.Refused c) = refused_for c 0
 
--- lesson_nearest, by lessonDistance: how many facts differ
+-- lesson_nearest, by lesson_distance: how many facts differ
 abbrev pub near_told : NearReply → Reading ℕ
 near_told (near.Written d g) = granted_with g d
 near_told (near.Refused c) = refused_for c 0
 
--- lesson_count, by lessonStateCount and lessonFitCount: k and the count
+-- lesson_count, by lesson_state_count and lesson_fit_count: k and the count
 abbrev pub count_told : CountReply → Reading Counts
 count_told (count.Counted k g c) = granted_with g (record { states = k; fitting = c })
 count_told (count.Refused c) = refused_for c (record { states = 0; fitting = 0 })
@@ -180,7 +180,7 @@ states_read c = lesson_state_count (list_number c)
 abbrev pub branching_read : Call → ℕ
 branching_read c = lesson_branching_count (list_number c)
 
--- "the k that the listing and its answer carry" and "the count that the answer carries", as a host reads them: where lessonGranted
+-- "the k that the listing and its answer carry" and "the count that the answer carries", as a host reads them: where lesson_granted
 -- says so, (i) to (v) of crates/list_call/specs/Condition3.antt hold with that k and that g.
 pub record Condition3Read : Type 0 where
   pub lists : (c : Call) → lesson_granted (list_number c) ≡ true → Lists c (states_read c) (branching_read c)

@@ -1,6 +1,7 @@
-// The calls of the C host (include/lesson.h). Each is thin: it calls the engine and turns the answer into document 01's number.
-// None has a `requires`: every input has an outcome.
+// The calls of the C host (include/lesson.h), which crates/lesson_c exports. Each is thin: it calls the engine and turns the answer into
+// document 01's number. None has a `requires`: every input has an outcome.
 #![tactic(auto)]
+
 ghost use Rattle.std.specs.Prelude.{◌≡◌, ◌≤◌};
 ghost use Rattle.book.specs.Causes.{verdict};
 ghost use Rattle.test_call.specs.Reply.{test_reply};
@@ -31,8 +32,7 @@ fn verdict_number(v: Verdict) -> u64
 }
 
 // Whether a book is accepted, or the first of causes 1 to 8 that applies.
-#[unsafe(no_mangle)]
-pub extern "C" fn lesson_check(book: &[u8]) -> u64
+pub fn lesson_check(book: &[u8]) -> u64
     ensures { result ≡ check_answer (verdict book.now) }
 {
     verdict_number(check(book))
@@ -51,8 +51,7 @@ fn test_number(r: TestReply) -> u64
 
 // Whether a candidate is a stable state of a book at a layer, with the layers of a set switched off, or the first of causes 1 to 10 and
 // 19 that applies.
-#[unsafe(no_mangle)]
-pub extern "C" fn lesson_test(book: &[u8], layer: u32, off: u32, candidate: &[u8]) -> u64
+pub fn lesson_test(book: &[u8], layer: u32, off: u32, candidate: &[u8]) -> u64
     ensures { result ≡ test_answer (test_reply book.now layer off candidate.now) }
 {
     test_number(test(book, layer, off, candidate))
@@ -142,8 +141,7 @@ fn answer_number(a: Answer) -> u64
 
 // Writes the listing of a book at a layer, with the layers of a set switched off, into the buffer, or names the first of causes 1 to 9,
 // 19, 12 and 13 that applies and leaves every byte. The answer carries k and g.
-#[unsafe(no_mangle)]
-pub extern "C" fn lesson_list(book: &[u8], layer: u32, off: u32, buffer: &mut [u8]) -> u64
+pub fn lesson_list(book: &[u8], layer: u32, off: u32, buffer: &mut [u8]) -> u64
     ensures answer { result ≡ list_answer (list_reply book.now layer off buffer.old) }
     ensures bytes { buffer.new ≡ list_buffer book.now layer off buffer.old }
 {
@@ -152,8 +150,7 @@ pub extern "C" fn lesson_list(book: &[u8], layer: u32, off: u32, buffer: &mut [u
 
 // Writes the first record of the listing of a book at a layer, with the layers of a set switched off, into the buffer's first bytes, or
 // names the first of causes 1 to 9, 19, 12, 13 and 14 that applies and leaves every byte. The answer carries g.
-#[unsafe(no_mangle)]
-pub extern "C" fn lesson_one(book: &[u8], layer: u32, off: u32, buffer: &mut [u8]) -> u64
+pub fn lesson_one(book: &[u8], layer: u32, off: u32, buffer: &mut [u8]) -> u64
     ensures answer { result ≡ one_answer (one_reply book.now layer off buffer.old) }
     ensures bytes { buffer.new ≡ one_buffer book.now layer off buffer.old }
 {
@@ -162,8 +159,7 @@ pub extern "C" fn lesson_one(book: &[u8], layer: u32, off: u32, buffer: &mut [u8
 
 // Whether a fact stands in every stable state of a book at a layer, with the layers of a set switched off, in some or in none, or the
 // first of causes 1 to 9, 19, 11, 12 and 14 that applies. The answer carries the place and g.
-#[unsafe(no_mangle)]
-pub extern "C" fn lesson_place(book: &[u8], layer: u32, off: u32, fact: u32) -> u64
+pub fn lesson_place(book: &[u8], layer: u32, off: u32, fact: u32) -> u64
     ensures { result ≡ place_answer (place_reply book.now layer off fact) }
 {
     let mut none: [u8; 0] = [];
@@ -173,14 +169,7 @@ pub extern "C" fn lesson_place(book: &[u8], layer: u32, off: u32, fact: u32) -> 
 // Writes the record of the stable state of a book at a layer that differs from a candidate in the fewest facts, with the layers of a set
 // switched off, into the buffer's first bytes, and among equals the first of the listing; or names the first of causes 1 to 9, 19, 10, 12,
 // 13 and 14 that applies and leaves every byte. The answer carries the number of facts that differ and g.
-#[unsafe(no_mangle)]
-pub extern "C" fn lesson_nearest(
-    book: &[u8],
-    layer: u32,
-    off: u32,
-    candidate: &[u8],
-    buffer: &mut [u8],
-) -> u64
+pub fn lesson_nearest(book: &[u8], layer: u32, off: u32, candidate: &[u8], buffer: &mut [u8]) -> u64
     ensures answer { result ≡ near_answer (near_reply book.now layer off candidate.now buffer.old) }
     ensures bytes { buffer.new ≡ near_buffer book.now layer off candidate.now buffer.old }
 {
@@ -189,8 +178,7 @@ pub extern "C" fn lesson_nearest(
 
 // In how many stable states of a book at a layer, with the layers of a set switched off, a condition holds, or the first of causes 1 to
 // 9, 19, 16, 17, 11 and 12 that applies. The answer carries the count, k and g.
-#[unsafe(no_mangle)]
-pub extern "C" fn lesson_count(book: &[u8], layer: u32, off: u32, condition: &[u8]) -> u64
+pub fn lesson_count(book: &[u8], layer: u32, off: u32, condition: &[u8]) -> u64
     ensures { result ≡ count_answer (count_reply book.now layer off condition.now) }
 {
     answer_number(count(book, layer, off, condition))

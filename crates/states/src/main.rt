@@ -1,27 +1,27 @@
 // The program `states` of document 01: reads a book from standard input, drives its last layer, and prints its stable states, or
 // `refused N`. What is printed is the listing's bytes as text; the listing itself is proved.
 #![tactic(auto)]
+
 use base::{MAX_ATOMS, wide};
 use book::cause_number;
 use drive::{Answer, Question, ask};
-use io::{large_buffer, print_decimal, read_full, write_all};
-use libc::{STDIN_FILENO, STDOUT_FILENO};
 use list_call::ListReply;
+use std::alloc::Global;
+use std::io;
+use std::io::{BufWriter, Read, Write};
 
-fn print_refused(number: u64) {
-    write_all(STDOUT_FILENO, b"refused ");
-    print_decimal(STDOUT_FILENO, number);
-    write_all(STDOUT_FILENO, b"\n");
+// The most bytes of input that are taken for a book.
+const MOST_INPUT: usize = 65536;
+
+// Bytes of the buffer for the listing. A book whose listing is longer is refused 13.
+const ROOM: usize = 65536;
+
+fn print_refused<W: Write>(out: &mut W, number: u64) -> io::Result<()> {
+    writeln!(out, "refused {number}")
 }
 
-fn print_head(n: u64, k: u64, g: u64) {
-    write_all(STDOUT_FILENO, b"facts ");
-    print_decimal(STDOUT_FILENO, n);
-    write_all(STDOUT_FILENO, b" models ");
-    print_decimal(STDOUT_FILENO, k);
-    write_all(STDOUT_FILENO, b" branching ");
-    print_decimal(STDOUT_FILENO, g);
-    write_all(STDOUT_FILENO, b"\n");
+fn print_head<W: Write>(out: &mut W, n: u64, k: u64, g: u64) -> io::Result<()> {
+    writeln!(out, "facts {n} models {k} branching {g}")
 }
 
 // Fact f's digit in a record: bit 7 - (f mod 8) of byte f div 8.
@@ -40,37 +40,38 @@ fn digit(record: &[u8], f: usize) -> u8 {
 const LINE: usize = MAX_ATOMS + 1;
 
 // One line: a digit for each fact from fact 0. No book has more than MAX_ATOMS.
-fn print_state(record: &[u8], n: usize) {
+fn print_state<W: Write>(out: &mut W, record: &[u8], n: usize) -> io::Result<()> {
     let mut text = [b'\n'; LINE];
     let mut f = 0;
     while f < n {
         if MAX_ATOMS <= f {
-            return;
+            return Ok(());
         }
         text[f] = digit(record, f);
         f += 1;
     }
     let end = f + 1;
-    write_all(STDOUT_FILENO, &text[0..end]);
+    out.write_all(&text[0..end])
 }
 
 // A line for each of the k records behind the listing's head.
-fn print_states(listing: &[u8], n: usize, k: usize) {
+fn print_states<W: Write>(out: &mut W, listing: &[u8], n: usize, k: usize) -> io::Result<()> {
     let w = n / 8 + (n % 8 + 7) / 8;
     let mut at: usize = 11;
     let mut left = k;
     while 0 < left {
         if listing.len() < at {
-            return;
+            return Ok(());
         }
         if listing.len() - at < w {
-            return;
+            return Ok(());
         }
         let to = at + w;
-        print_state(&listing[at..to], n);
+        print_state(out, &listing[at..to], n)?;
         at = to;
         left -= 1;
     }
+    Ok(())
 }
 
 // The last layer, L - 1. A book with no layer, or with too few bytes to say, is refused whatever layer is driven.
@@ -85,40 +86,44 @@ fn last_layer(book: &[u8]) -> u32 {
     (layers - 1) as u32
 }
 
-fn print_listing(reply: ListReply, listing: &[u8]) {
+fn print_listing<W: Write>(out: &mut W, reply: ListReply, listing: &[u8]) -> io::Result<()> {
     match reply {
-        ListReply::Refused(c) => print_refused(cause_number(c)),
+        ListReply::Refused(c) => print_refused(out, cause_number(c)),
         ListReply::Listed(k, g) => {
             if listing.len() < 11 {
-                return;
+                return Ok(());
             }
             let n = wide(listing[5]) * 256 + wide(listing[6]);
-            print_head(n as u64, k as u64, g as u64);
-            print_states(listing, n, k);
+            print_head(out, n as u64, k as u64, g as u64)?;
+            print_states(out, listing, n, k)
         }
     }
 }
 
 // A listing is asked for, so that no other answer comes. Nothing is switched off.
-fn show(book: &[u8]) {
-    let mut buffer = large_buffer();
+fn show<W: Write>(alloc: Global, out: &mut W, book: &[u8]) -> io::Result<()> {
+    let mut buffer = vec![in alloc; 0; ROOM]?;
     let answer = ask(book, last_layer(book), 0, Question::List, &mut buffer);
     match answer {
-        Answer::Listing(reply) => print_listing(reply, &buffer),
-        Answer::State(reply) => {}
-        Answer::Standing(reply) => {}
-        Answer::Closest(reply) => {}
-        Answer::Counting(reply) => {}
+        Answer::Listing(reply) => print_listing(out, reply, &buffer),
+        Answer::State(_) => Ok(()),
+        Answer::Standing(_) => Ok(()),
+        Answer::Closest(_) => Ok(()),
+        Answer::Counting(_) => Ok(()),
     }
 }
 
 // One byte more than a book may have shows that there is more input.
-fn main() {
-    let mut input: [u8; 65537] = [0; 65537];
-    let len = read_full(STDIN_FILENO, &mut input);
-    if 65536 < len {
-        print_refused(3);
-        return;
+fn main(rt: HostRuntime) -> io::Result<()> {
+    let mut input = Vec::new(rt.alloc());
+    rt.reader()
+        .take(MOST_INPUT as u64 + 1)
+        .read_to_end(&mut input)?;
+    let mut out = BufWriter::new(rt.alloc(), io::writer(&rt))?;
+    if MOST_INPUT < input.len() {
+        print_refused(&mut out, 3)?;
+    } else {
+        show(rt.alloc(), &mut out, &input)?;
     }
-    show(&input[0..len]);
+    out.flush()
 }
