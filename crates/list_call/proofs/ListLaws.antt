@@ -21,7 +21,6 @@ use Rattle.models.specs.Listing.{stable_models, record_size, record_of, be16, be
 use Rattle.models.proofs.RecordLaws.{listing-length}
 use Rattle.models.specs.Alike.{Alike}
 use Rattle.models.proofs.AlikeLaws.{alike_models, alike-count, alike-listing}
-use Rattle.branching.specs.Marks.{Listed}
 use Rattle.records.proofs.WrittenLaws.{records_fit, head-written}
 use Rattle.leaf.specs.Searchable.{Searchable}
 use Rattle.plan.specs.Plan.{plan_atoms, plan_bans, planned_program}

@@ -1,7 +1,6 @@
 -- `ask` meets its contract: a refusal by the book or the layer leaves the buffer, and the rest is `drive`. Assumes nothing.
 use Rattle.accepted.proofs.DrivenLaws.{ready}
 use Rattle.drive.proofs.AskLaws.{call_refused, call_answered, with_nothing}
-use borrow.Author.Rules.{rules}
 use Rattle.drive.proofs.ask.Goals as goal
 
 pub drive-requires : goal.drive-requires

@@ -2,7 +2,6 @@
 use mathlib.Core.Path.{sym, ap}
 use Rattle.drive.specs.declared.Question.{Question}
 use Rattle.drive.specs.Asked.{asks_no_fact}
-use borrow.Author.Rules.{rules}
 use Rattle.drive.proofs.asks_no_fact.Goals as goal
 
 pub returns-in-List : goal.returns-in-List

@@ -1,7 +1,6 @@
 -- `count` meets its contract: a refusal by the book or the layer, and the rest is `count_at`. Assumes nothing.
 use Rattle.accepted.proofs.DrivenLaws.{ready}
 use Rattle.drive.proofs.AskLaws.{count_refused, count_answered}
-use borrow.Author.Rules.{rules}
 use Rattle.drive.proofs.count.Goals as goal
 
 pub count_at-requires : goal.count_at-requires

@@ -4,7 +4,6 @@ use Rattle.table.specs.Table.{program_of}
 use Rattle.accepted.proofs.RecordFacts.{program_atoms}
 use Rattle.drive.proofs.AskLaws.{read_coded, read_refused, with_code, condition_refused, condition_read}
 use native.Mathlib.Omega.{arith}
-use borrow.Author.Rules.{rules}
 use Rattle.drive.proofs.count_at.Goals as goal
 
 pub overflow_mul-u : goal.overflow_mul-u

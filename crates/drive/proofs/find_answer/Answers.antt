@@ -5,7 +5,6 @@ use Rattle.drive.specs.Asked.{asks_no_fact}
 use Rattle.drive.proofs.AskLaws.{listed, written, neared, placed, counted, fact-low, candidate_with, code_with}
 use Rattle.plan.specs.Plan.{plan_bans}
 use Rattle.search.proofs.AllowedLaws.{barred-size}
-use borrow.Author.Rules.{rules}
 use Rattle.drive.proofs.find_answer.Goals as goal
 
 pub list_models-requires : goal.list_models-requires

@@ -1,7 +1,6 @@
 -- `near` meets its contract: the first cause of the book or the driven layer, or what `near_at` answers. Assumes nothing.
 use Rattle.accepted.proofs.DrivenLaws.{ready}
 use Rattle.drive.proofs.AskLaws.{near_refused, near_answered}
-use borrow.Author.Rules.{rules}
 use Rattle.drive.proofs.near.Goals as goal
 
 pub near_at-requires : goal.near_at-requires

@@ -5,7 +5,6 @@ use Rattle.table.specs.Table.{program_of}
 use Rattle.accepted.proofs.RecordFacts.{program_atoms}
 use Rattle.candidate.specs.Candidate.{is_bad_candidate}
 use Rattle.drive.proofs.AskLaws.{with_candidate, candidate_refused, candidate_read}
-use borrow.Author.Rules.{rules}
 use Rattle.drive.proofs.near_at.Goals as goal
 
 pub atom_count-n-requires : goal.atom_count-n-requires

@@ -2,7 +2,6 @@
 use mathlib.Core.Path.{sym, ap}
 use Rattle.drive.specs.declared.Question.{Question}
 use Rattle.drive.specs.Asked.{refusal_of}
-use borrow.Author.Rules.{rules}
 use Rattle.drive.proofs.refusal.Goals as goal
 
 pub returns-in-List : goal.returns-in-List

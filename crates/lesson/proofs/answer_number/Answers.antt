@@ -1,7 +1,6 @@
 -- `answer_number` meets its contract, question by question. Assumes nothing.
 use mathlib.Core.Path.{sym, ap, subst, ◌∙◌}
 use Rattle.lesson.specs.Answers.{answer_of, Fits}
-use borrow.Author.Rules.{rules}
 use Rattle.lesson.proofs.answer_number.Goals as goal
 
 pub list_number-requires : goal.list_number-requires

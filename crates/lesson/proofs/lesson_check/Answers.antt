@@ -1,6 +1,5 @@
 -- `lesson_check` meets its contract: the number of the verdict that `check` gives. Assumes nothing.
 use mathlib.Core.Path.{ap, ◌∙◌}
-use borrow.Author.Rules.{rules}
 use Rattle.lesson.specs.Answers.{check_answer}
 use Rattle.lesson.proofs.lesson_check.Goals as goal
 

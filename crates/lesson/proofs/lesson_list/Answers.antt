@@ -3,7 +3,6 @@ use mathlib.Core.Path.{ap, ◌∙◌}
 use Rattle.drive.proofs.AskLaws.{list_told_lem}
 use Rattle.lesson.specs.Answers.{answer_of}
 use Rattle.lesson.proofs.AnswerLaws.{list_fits}
-use borrow.Author.Rules.{rules}
 use Rattle.lesson.proofs.lesson_list.Goals as goal
 
 pub answer_number-requires : goal.answer_number-requires

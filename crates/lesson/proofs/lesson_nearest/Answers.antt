@@ -2,7 +2,6 @@
 use mathlib.Core.Path.{ap, ◌∙◌}
 use Rattle.lesson.specs.Answers.{answer_of}
 use Rattle.lesson.proofs.AnswerLaws.{near_fits}
-use borrow.Author.Rules.{rules}
 use Rattle.lesson.proofs.lesson_nearest.Goals as goal
 
 pub answer_number-requires : goal.answer_number-requires

@@ -2,7 +2,6 @@
 use mathlib.Core.Path.{sym, ap, ◌∙◌}
 use Rattle.lesson.specs.Answers.{list_answer}
 use native.Mathlib.Omega.{arith}
-use borrow.Author.Rules.{rules}
 use Rattle.lesson.proofs.list_number.Goals as goal
 
 pub overflow_mul-result : goal.overflow_mul-result

@@ -3,7 +3,6 @@ use mathlib.Core.Path.{sym, ap, ◌∙◌}
 use Rattle.lesson.specs.Answers.{place_answer}
 use Rattle.lesson.proofs.AnswerLaws.{placed_number}
 use native.Mathlib.Omega.{arith}
-use borrow.Author.Rules.{rules}
 use Rattle.lesson.proofs.place_number.Goals as goal
 
 pub overflow_mul-result : goal.overflow_mul-result

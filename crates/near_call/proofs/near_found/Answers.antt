@@ -4,7 +4,6 @@ use lib.ListN.{length}
 use Rattle.candidate.proofs.CandidateLaws.{ok_length, read_length}
 use Rattle.near_call.proofs.NearLaws.{read_cut, room_refused, part_sized, state_refused, state_written_lem}
 use native.Mathlib.Omega.{arith}
-use borrow.Author.Rules.{rules}
 use Rattle.near_call.proofs.near_found.Goals as goal
 
 pub record_size-size-requires : goal.record_size-size-requires
