@@ -1,4 +1,4 @@
-//! Links the archive that `rt staticlib lesson` writes. LESSON_ARCHIVE_DIR names another folder for it.
+//! Links the archive that `bash tests/build` leaves in `target/staticlib`. LESSON_ARCHIVE_DIR names another folder for it.
 
 use std::env;
 use std::path::{Path, PathBuf};
@@ -13,7 +13,7 @@ fn main() {
     let archive = folder.join("liblesson.a");
     assert!(
         archive.is_file(),
-        "{} is missing: run `rt staticlib lesson` at the root of the repository",
+        "{} is missing: run `bash tests/build` at the root of the repository",
         archive.display()
     );
     println!("cargo:rerun-if-changed={}", archive.display());

@@ -1,5 +1,5 @@
 //! Runs of the program `states`: what it prints for a book on its standard input. LESSON_STATES
-//! names the program, and else it is the one that the repository's build leaves in `target/bin`.
+//! names the program, and else it is the one that `bash tests/build` leaves in `target/bin`.
 
 use lesson_tests::book::{
     framed, hex, not, plain, width, Book, BYTE_ATOMS, FALSITY, MAX_ATOMS, WIDE,
