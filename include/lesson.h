@@ -100,12 +100,12 @@ enum lesson_bound {
  * linker that binds memcpy or memset at its first call. */
 enum lesson_stack_bytes {
     LESSON_CHECK_STACK = 1024,
-    LESSON_TEST_STACK = 58368,
-    LESSON_LIST_STACK = 102400,
-    LESSON_ONE_STACK = 144384,
-    LESSON_PLACE_STACK = 102400,
-    LESSON_NEAREST_STACK = 144384,
-    LESSON_COUNT_STACK = 103424
+    LESSON_TEST_STACK = 57344,
+    LESSON_LIST_STACK = 98304,
+    LESSON_ONE_STACK = 131072,
+    LESSON_PLACE_STACK = 98304,
+    LESSON_NEAREST_STACK = 131072,
+    LESSON_COUNT_STACK = 98304
 };
 
 /* The cause that an answer names; LESSON_GRANTED where there is none. */
