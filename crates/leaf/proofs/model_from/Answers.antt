@@ -28,8 +28,8 @@ fill_on-requires c =
 pub returns-then-fill_on : goal.returns-then-fill_on
 returns-then-fill_on c =
     let d = denied_of_lem (choices c.requires.searchable c.args.n refl) c.args.standing in
-    let filled = going_on c.requires.begun d c.reaches_denied.result c.reaches_denied.ensures c.if-reaches_denied.false c.join.ensures c.fill_on.ensures in
-    model_conflict c.requires.searchable _ c.requires.rejected_masks d (filled.clash c.if-fill_on.true) _
+    let grown = going_on c.requires.begun d c.reaches_denied.result c.reaches_denied.ensures c.if-reaches_denied.false c.join.ensures c.fill_on.ensures in
+    model_conflict c.requires.searchable _ c.requires.rejected_masks d (grown.clash c.if-fill_on.true) _
 
 pub decide-requires : goal.decide-requires
 decide-requires c =

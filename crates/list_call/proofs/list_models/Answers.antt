@@ -4,11 +4,6 @@ use native.Mathlib.Omega.{arith}
 use borrow.Author.Rules.{rules}
 use Rattle.list_call.proofs.list_models.Goals as goal
 
-{- TODO
-div-room : tie.Need-nonzero-div-room
-div-room c = let a = c.before.before.before.before.before.before.args in width_some c.before.before.before.before.before.before.requires a.buffer.now c.before.if1.false c.record-size.result c.record-size.ensures.0
--}
-
 pub returns-then-buffer-lt-HEAD_SIZE : goal.returns-then-buffer-lt-HEAD_SIZE
 returns-then-buffer-lt-HEAD_SIZE c =
     head_refused c.requires c.args.buffer.now c.if-buffer-lt-HEAD_SIZE.true
