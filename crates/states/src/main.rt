@@ -2,16 +2,20 @@
 // `refused N`. What is printed is the listing's bytes as text; the listing itself is proved.
 #![tactic(auto)]
 
+ghost use Rattle.std.specs.Prelude.{◌≤◌, IfOk, length};
+
 use base::{MAX_ATOMS, wide};
 use book::cause_number;
 use drive::{Answer, Question, ask};
 use list_call::ListReply;
-use std::alloc::Global;
 use std::io;
-use std::io::{BufWriter, Read, Write};
+use std::io::{ErrorKind, Read, Write};
 
 // The most bytes of input that are taken for a book.
 const MOST_INPUT: usize = 65536;
+
+// Bytes that are read: one more than a book may have shows that there is more input.
+const INPUT: usize = 65537;
 
 // Bytes of the buffer for the listing. A book whose listing is longer is refused 13.
 const ROOM: usize = 65536;
@@ -101,8 +105,8 @@ fn print_listing<W: Write>(out: &mut W, reply: ListReply, listing: &[u8]) -> io:
 }
 
 // A listing is asked for, so that no other answer comes. Nothing is switched off.
-fn show<W: Write>(alloc: Global, out: &mut W, book: &[u8]) -> io::Result<()> {
-    let mut buffer = vec![in alloc; 0; ROOM]?;
+fn show<W: Write>(out: &mut W, book: &[u8]) -> io::Result<()> {
+    let mut buffer: [u8; ROOM] = [0; ROOM];
     let answer = ask(book, last_layer(book), 0, Question::List, &mut buffer);
     match answer {
         Answer::Listing(reply) => print_listing(out, reply, &buffer),
@@ -113,17 +117,35 @@ fn show<W: Write>(alloc: Global, out: &mut W, book: &[u8]) -> io::Result<()> {
     }
 }
 
-// One byte more than a book may have shows that there is more input.
-fn main(rt: HostRuntime) -> io::Result<()> {
-    let mut input = Vec::new(rt.alloc());
-    rt.reader()
-        .take(MOST_INPUT as u64 + 1)
-        .read_to_end(&mut input)?;
-    let mut out = BufWriter::new(rt.alloc(), io::writer(&rt))?;
-    if MOST_INPUT < input.len() {
-        print_refused(&mut out, 3)?;
-    } else {
-        show(rt.alloc(), &mut out, &input)?;
+// Fills the bytes from the front until they are full or the input ends, and says how many came. A read that a signal breaks off is tried
+// again.
+fn read_input<R: Read>(input: &mut R, bytes: &mut [u8]) -> io::Result<usize>
+    ensures { IfOk result (λ n. n ≤ length bytes.new) }
+{
+    let mut len = 0;
+    for _ in 0..u64::MAX {
+        if len == bytes.len() {
+            return Ok(len);
+        }
+        match input.read(&mut bytes[len..]) {
+            Ok(0) => return Ok(len),
+            Ok(n) => len += n,
+            Err(e) => {
+                if e.kind() != ErrorKind::Interrupted {
+                    return Err(e);
+                }
+            }
+        }
     }
-    out.flush()
+    Ok(len)
+}
+
+fn main(rt: HostRuntime) -> io::Result<()> {
+    let mut input: [u8; INPUT] = [0; INPUT];
+    let len = read_input(&mut rt.reader(), &mut input)?;
+    let mut out = io::writer(&rt);
+    if MOST_INPUT < len {
+        return print_refused(&mut out, 3);
+    }
+    show(&mut out, &input[0..len])
 }
