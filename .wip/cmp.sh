@@ -1,6 +1,6 @@
 #!/bin/sh
 # cmp.sh WORDS NAME...: times of each build beside the first
-cd /tmp/w/sx
+cd "${SX:?}" # the folder of the experiments
 words=$1; shift
 for x in $*; do nice -n 5 ./mb-$x engine "$words" > res-$x.txt; done
 python3 - $* <<'PY'
@@ -10,7 +10,7 @@ def num(s):
     v,u=s.split(); return float(v)*{"us":1e-6,"ms":1e-3,"s":1}[u]
 xs=sys.argv[1:]
 for x in xs:
-    for l in open(f"/tmp/w/sx/res-{x}.txt"):
+    for l in open(f"res-{x}.txt"):
         c=[y.strip() for y in l.strip().strip("|").split("|")]
         rows.setdefault(c[0],{})[x]=num(c[1])
 for k,v in rows.items():

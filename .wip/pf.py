@@ -23,4 +23,4 @@ def edit(root,crate,fn,bodies,uses=(),inv={},head=None,unfold={}):
         s="\n".join("-- "+h for h in head.split("\n"))+"\n"+s
     if not s.endswith("\n"): s+="\n"
     open(p,"w").write(s)
-    subprocess.run(["python3","/tmp/w/lib/rechain.py",root,crate,fn])
+    subprocess.run(["python3",os.path.join(os.path.dirname(os.path.realpath(__file__)), "rechain.py"),root,crate,fn])

@@ -2,7 +2,7 @@
 """rechain ROOT CRATE FN..: recompute the .before chains of proofs from `places`."""
 import sys, re, subprocess, os, glob
 root, crate, fns = sys.argv[1], sys.argv[2], sys.argv[3:]
-out = subprocess.run(["/work/shared/tools/places", crate] + fns, capture_output=True, text=True, cwd=root).stdout
+out = subprocess.run([os.environ["PLACES"], crate] + fns, capture_output=True, text=True, cwd=root).stdout
 tab, fn = {}, None
 for line in out.split("\n"):
     if line.startswith("== "):
