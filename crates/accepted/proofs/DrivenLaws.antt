@@ -15,16 +15,14 @@ use Rattle.base.specs.Bounds.{max_layers}
 use Rattle.base.specs.Lists.{up_to}
 use Rattle.base.proofs.Members.{◌∈◌, and_left, and_right, any_at, any_of}
 use Rattle.base.proofs.UpTo.{passed, failed, up_to_lt, up_to_has}
-use Rattle.layers.specs.Masks.{bit_of, LowerMasks}
+use Rattle.layers.specs.Masks.{bit_of}
 use Rattle.layers.proofs.BitLaws.{no_bit, some-bit}
-use Rattle.format.specs.Book.{layer_count, arrows_of, book_of}
+use Rattle.format.specs.Book.{layer_count, book_of}
 use Rattle.models.specs.Program.{in_set}
 use Rattle.book.specs.Causes.{Test, tests, verdict_if, first_of, verdict}
-use Rattle.book.specs.Checks.{Checks}
 use Rattle.book.specs.declared.Cause.{Cause}
 use Rattle.book.specs.declared.Cause.TheVariants.{NoSuchLayer, NoSuchLayerOff}
-use Rattle.book.specs.declared.Verdict.{Verdict}
-use Rattle.book.specs.declared.Verdict.TheVariants.{Accepted, Refused}
+use Rattle.std.specs.Prelude.{Ok, Err}
 use Rattle.accepted.specs.Accepted.{IsAccepted}
 use Rattle.accepted.specs.Driven.{is_no_such_layer, has_absent_layer, driven_tests, layer_tests}
 use Rattle.accepted.proofs.FirstLaws.{first_append, first_refused, accepted-none}
@@ -74,33 +72,31 @@ module _ (layers off : ℕ) where
 
   -- ---- causes 9 and 19, as the code tests them
   module _ (layer : ℕ) where
-    pub nine_applies : layers ≤ layer → Refused NoSuchLayer ≡ first_of (driven_tests layers layer off)
+    pub nine_applies : layers ≤ layer → Err NoSuchLayer ≡ first_of (driven_tests layers layer off)
     unfolding first_of verdict_if driven_tests is_no_such_layer
     nine_applies h = sym (rw (le-ltb layer layers h) refl)
 
     module _ (h : layer < layers) (t : Bool) (e : t ≡ has_absent_layer layers off) where
-      pub nineteen_applies : t ≡ true → Refused NoSuchLayerOff ≡ first_of (driven_tests layers layer off)
+      pub nineteen_applies : t ≡ true → Err NoSuchLayerOff ≡ first_of (driven_tests layers layer off)
       unfolding first_of verdict_if driven_tests is_no_such_layer
       nineteen_applies q = sym (rw (lt-ltb layer layers h, ← e, q) refl)
 
-      pub neither_applies : t ≡ false → Accepted ≡ first_of (driven_tests layers layer off)
+      pub neither_applies : t ≡ false → Ok tt ≡ first_of (driven_tests layers layer off)
       unfolding first_of verdict_if driven_tests is_no_such_layer
       neither_applies q = sym (rw (lt-ltb layer layers h, ← e, q) refl)
 
 -- ---- after the causes of the book
 module _ (s : List ℕ) (layer off : ℕ) where
-  -- the verdict on the book, as the code holds it
-  module _ (v : Verdict) (e : v ≡ verdict s) where
-    pub book_refused : (c : Cause) → v ≡ Refused c → Refused c ≡ first_of (layer_tests s layer off)
-    unfolding layer_tests verdict
-    book_refused c q = sym (first_refused (tests s) (driven_tests (layer_count s) layer off) c (sym e ∙ q))
+  pub book_refused : (c : Cause) → Err c ≡ verdict s → Err c ≡ first_of (layer_tests s layer off)
+  unfolding layer_tests verdict
+  book_refused c q = sym (first_refused (tests s) (driven_tests (layer_count s) layer off) c (sym q))
 
-    pub book-accepted : v ≡ Accepted → (n : ℕ) → n ≡ layer_count s → first_of (driven_tests n layer off) ≡ first_of (layer_tests s layer off)
-    unfolding layer_tests verdict
-    book-accepted q n en = ap (λ (k : ℕ). first_of (driven_tests k layer off)) en ∙ sym (first_append (tests s) (driven_tests (layer_count s) layer off) (sym e ∙ q))
+  pub book_accepted : Ok tt ≡ verdict s → (n : ℕ) → n ≡ layer_count s → first_of (driven_tests n layer off) ≡ first_of (layer_tests s layer off)
+  unfolding layer_tests verdict
+  book_accepted q n en = ap (λ (k : ℕ). first_of (driven_tests k layer off)) en ∙ sym (first_append (tests s) (driven_tests (layer_count s) layer off) (sym q))
 
   -- where none of causes 1 to 9 and 19 applies
-  pub driven : first_of (layer_tests s layer off) ≡ Accepted → IsAccepted s × (layer < (book_of s).layers)
+  pub driven : first_of (layer_tests s layer off) ≡ Ok tt → IsAccepted s × (layer < (book_of s).layers)
   unfolding layer_tests driven_tests verdict is_no_such_layer book_of
   driven e =
       let h : (t : Test) → t ∈ (tests s ++ driven_tests (layer_count s) layer off) → t.applies ≡ false = (accepted-none (tests s ++ driven_tests (layer_count s) layer off)).0 e in (
@@ -108,8 +104,3 @@ module _ (s : List ℕ) (layer off : ℕ) where
         ltb-true layer (layer_count s)
             (not-false (ltb layer (layer_count s)) (h (record { cause = NoSuchLayer; applies = is_no_such_layer (layer_count s) layer }) (Memᴰ.append_right (tests s) (Memᴰ.head refl)))),
       )
-
-  -- the same, with the masks, from what `check_layer` hands on
-  pub ready : {v : Verdict} {lower : List ℕ} → Checks (first_of (layer_tests s layer off)) s v lower → v ≡ Accepted
-      → IsAccepted s × ((layer < (book_of s).layers) × LowerMasks (arrows_of s) lower)
-  ready w q = let d : IsAccepted s × (layer < (book_of s).layers) = driven (sym w.verdict_is ∙ q) in (d.0, (d.1, w.masks q))

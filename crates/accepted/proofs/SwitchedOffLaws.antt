@@ -14,10 +14,9 @@ use Rattle.models.specs.Program.{Program, in_set}
 use Rattle.models.specs.SwitchedOff.{EveryRuleOff}
 use Rattle.models.proofs.SwitchedOffLaws.{nothing-off, all-off}
 use Rattle.table.specs.Table.{program_of}
-use Rattle.book.specs.Causes.{Test, tests, verdict_if, first_of}
+use Rattle.book.specs.Causes.{Test, tests, verdict_if, first_of, Verdict}
 use Rattle.book.specs.declared.Cause.TheVariants.{NoSuchLayer}
-use Rattle.book.specs.declared.Verdict.{Verdict}
-use Rattle.book.specs.declared.Verdict.TheVariants.{Refused}
+use Rattle.std.specs.Prelude.{Err}
 use Rattle.accepted.specs.Accepted.{IsAccepted}
 use Rattle.accepted.specs.Driven.{is_no_such_layer, has_absent_layer, driven_tests, layer_tests}
 use Rattle.accepted.specs.SwitchedOff.{whole_tests, NothingOff, AllOff}
@@ -31,7 +30,7 @@ none_absent layers = failed (has_absent_layer layers 0) (λ t. let v = absent_fr
 first_behind : (xs ys zs rest : List Test) → first_of (ys ++ rest) ≡ first_of (zs ++ rest) → first_of (xs ++ ys ++ rest) ≡ first_of (xs ++ zs ++ rest)
 unfolding first_of
 first_behind [] ys zs rest e = e
-first_behind (t ∷ xs) ys zs rest e = ap (verdict_if t.applies (Refused t.cause)) (first_behind xs ys zs rest e)
+first_behind (t ∷ xs) ys zs rest e = ap (verdict_if t.applies (Err t.cause)) (first_behind xs ys zs rest e)
 
 same-verdict : (s : List ℕ) (layer : ℕ) (rest : List Test) → first_of (layer_tests s layer 0 ++ rest) ≡ first_of (whole_tests s layer ++ rest)
 unfolding layer_tests whole_tests driven_tests first_of verdict_if

@@ -1,3 +1,4 @@
 pub mod Accepted
 pub mod Driven
 pub mod SwitchedOff
+pub mod Driving

@@ -8,9 +8,8 @@ use Rattle.models.specs.Branching.{branching_count}
 use Rattle.models.specs.Listing.{stable_models}
 use Rattle.models.specs.SwitchedOff.{whole_program}
 use Rattle.table.specs.Table.{program_of}
-use Rattle.book.specs.Causes.{Test, tests, first_of}
+use Rattle.book.specs.Causes.{Test, tests, first_of, Verdict}
 use Rattle.book.specs.declared.Cause.TheVariants.{NoSuchLayer}
-use Rattle.book.specs.declared.Verdict.{Verdict}
 use Rattle.accepted.specs.Accepted.{IsAccepted}
 use Rattle.accepted.specs.Driven.{is_no_such_layer, layer_tests}
 

@@ -15,10 +15,9 @@ use Rattle.base.proofs.Members.{◌∈◌}
 use Rattle.layers.proofs.BitLaws.{and_left, and_right}
 use Rattle.format.specs.Book.{records_in, records, meets_end_in, meets_end}
 use Rattle.format.specs.Sections.{has_broken_section}
-use Rattle.book.specs.Causes.{is_too_short, has_wrong_version, has_wrong_length, is_out_of_range, has_bad_record, repeats_arrow, has_cycle, tests, verdict_if, first_of, verdict}
+use Rattle.book.specs.Causes.{is_too_short, has_wrong_version, has_wrong_length, is_out_of_range, has_bad_record, repeats_arrow, has_cycle, tests, verdict_if, first_of, verdict, Verdict}
 use Rattle.book.specs.declared.Cause.{Cause}
-use Rattle.book.specs.declared.Verdict.{Verdict}
-use Rattle.book.specs.declared.Verdict.TheVariants.{Accepted, Refused}
+use Rattle.std.specs.Prelude.{Ok, Err}
 
 -- none of the eight causes applies
 pub record Lawful (s : List ℕ) : Type 0 where
@@ -31,12 +30,12 @@ pub record Lawful (s : List ℕ) : Type 0 where
   pub not7 : repeats_arrow s ≡ false
   pub not8 : has_cycle s ≡ false
 
-passes : (b : Bool) (c : Cause) (v : Verdict) → verdict_if b (Refused c) v ≡ Accepted → (b ≡ false) × (v ≡ Accepted)
+passes : (b : Bool) (c : Cause) (v : Verdict) → verdict_if b (Err c) v ≡ Ok tt → (b ≡ false) × (v ≡ Ok tt)
 unfolding verdict_if
 passes true c v e = let z : ◌≡◌ {A = ℕ} 0 1 = cc in absurd (omega arith)
 passes false c v e = (refl, e)
 
-pub accepted_lawful : (s : List ℕ) → verdict s ≡ Accepted → Lawful s
+pub accepted_lawful : (s : List ℕ) → verdict s ≡ Ok tt → Lawful s
 unfolding verdict first_of tests
 accepted_lawful s e =
     let p1 = passes (is_too_short s) _ _ e in

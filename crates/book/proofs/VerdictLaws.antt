@@ -5,17 +5,12 @@ use mathlib.Core.Bool.{Bool, true, false}
 use mathlib.Core.List.{List}
 use Prim.Native.Nat.{ℕ, ◌<◌, ◌≤◌}
 use borrow.Author.Tests.{lt-ltb, le-ltb, eq-eqb, ne_eqb}
-use native.Mathlib.Omega.{arith}
 use lib.ListN.{length, get_or, drop}
-use Rattle.layers.specs.Masks.{LowerMasks}
-use Rattle.format.specs.Book.{u32_at, version, length_field, arrows_of}
+use Rattle.format.specs.Book.{u32_at, version, length_field}
 use Rattle.format.specs.Sections.{has_broken_section}
-use Rattle.book.specs.Causes.{is_too_short, has_wrong_version, has_wrong_length, is_out_of_range, has_bad_record, repeats_arrow, has_cycle, tests, verdict_if, first_of, verdict}
-use Rattle.book.specs.Checks.{Checks}
-use Rattle.book.specs.declared.Cause.{Cause}
+use Rattle.book.specs.Causes.{is_too_short, has_wrong_version, has_wrong_length, is_out_of_range, has_bad_record, repeats_arrow, has_cycle, tests, verdict_if, first_of, verdict, Verdict}
 use Rattle.book.specs.declared.Cause.TheVariants.{TooShort, WrongVersion, WrongLength, BrokenSection, OutOfRange, BadRecord, RepeatedArrow, Cycle}
-use Rattle.book.specs.declared.Verdict.{Verdict}
-use Rattle.book.specs.declared.Verdict.TheVariants.{Accepted, Refused}
+use Rattle.std.specs.Prelude.{Ok, Err}
 
 -- from a cause on, the tests as they follow each other
 module _ (s : List ℕ) where
@@ -25,17 +20,17 @@ module _ (s : List ℕ) where
   abbrev pub from_seven : Verdict
   from_seven = first_of (drop 6 (tests s))
 
-  pub one_applies : length s < 20 → Refused TooShort ≡ verdict s
+  pub one_applies : length s < 20 → Err TooShort ≡ verdict s
   unfolding verdict first_of tests verdict_if is_too_short
   one_applies h = sym (rw (lt-ltb _ _ h) refl)
 
   module _ (h1 : 20 ≤ length s) where
-    pub two_applies : (get_or s 0 0 ≡ 1 → ⊥) → Refused WrongVersion ≡ verdict s
+    pub two_applies : (get_or s 0 0 ≡ 1 → ⊥) → Err WrongVersion ≡ verdict s
     unfolding verdict first_of tests verdict_if is_too_short has_wrong_version version
     two_applies h = sym (rw (le-ltb _ _ h1, ne_eqb _ _ h) refl)
 
     module _ (h2 : get_or s 0 0 ≡ 1) (b : ℕ) (eb : b ≡ u32_at s 1) where
-      pub three_applies : (b ≡ length s → ⊥) → Refused WrongLength ≡ verdict s
+      pub three_applies : (b ≡ length s → ⊥) → Err WrongLength ≡ verdict s
       unfolding verdict first_of tests verdict_if is_too_short has_wrong_version version has_wrong_length length_field
       three_applies h = sym (rw (le-ltb _ _ h1, eq-eqb _ _ h2, ne_eqb (u32_at s 1) (length s) (λ e. h (eb ∙ e))) refl)
 
@@ -44,17 +39,17 @@ module _ (s : List ℕ) where
       framed h = sym (rw (le-ltb _ _ h1, eq-eqb _ _ h2, eq-eqb (u32_at s 1) (length s) (sym eb ∙ h)) refl)
 
   module _ (t4 : Bool) (e4 : t4 ≡ has_broken_section s) where
-    pub four_applies : t4 ≡ true → Refused BrokenSection ≡ from_four
+    pub four_applies : t4 ≡ true → Err BrokenSection ≡ from_four
     unfolding first_of tests verdict_if
     four_applies q = sym (rw (← e4, q) refl)
 
     module _ (f4 : t4 ≡ false) (t5 : Bool) (e5 : t5 ≡ is_out_of_range s) where
-      pub five_applies : t5 ≡ true → Refused OutOfRange ≡ from_four
+      pub five_applies : t5 ≡ true → Err OutOfRange ≡ from_four
       unfolding first_of tests verdict_if
       five_applies q = sym (rw (← e4, f4, ← e5, q) refl)
 
       module _ (f5 : t5 ≡ false) (t6 : Bool) (e6 : t6 ≡ has_bad_record s) where
-        pub six_applies : t6 ≡ true → Refused BadRecord ≡ from_four
+        pub six_applies : t6 ≡ true → Err BadRecord ≡ from_four
         unfolding first_of tests verdict_if
         six_applies q = sym (rw (← e4, f4, ← e5, f5, ← e6, q) refl)
 
@@ -63,26 +58,15 @@ module _ (s : List ℕ) where
         whole q = sym (rw (← e4, f4, ← e5, f5, ← e6, q) refl)
 
   module _ (t7 : Bool) (e7 : t7 ≡ repeats_arrow s) where
-    pub seven_applies : t7 ≡ true → Refused RepeatedArrow ≡ from_seven
+    pub seven_applies : t7 ≡ true → Err RepeatedArrow ≡ from_seven
     unfolding first_of tests verdict_if
     seven_applies q = sym (rw (← e7, q) refl)
 
     module _ (f7 : t7 ≡ false) (t8 : Bool) (e8 : t8 ≡ has_cycle s) where
-      pub eight_applies : t8 ≡ true → Refused Cycle ≡ from_seven
+      pub eight_applies : t8 ≡ true → Err Cycle ≡ from_seven
       unfolding first_of tests verdict_if
       eight_applies q = sym (rw (← e7, f7, ← e8, q) refl)
 
-      pub none-applies : t8 ≡ false → Accepted ≡ from_seven
+      pub none-applies : t8 ≡ false → Ok tt ≡ from_seven
       unfolding first_of tests verdict_if
       none-applies q = sym (rw (← e7, f7, ← e8, q) refl)
-
--- what the check hands on: a refusal has no masks to speak of
-module _ (s : List ℕ) {tested v : Verdict} {lower : List ℕ} where
-  pub checks_refused : (c : Cause) → v ≡ Refused c → Refused c ≡ tested → Checks tested s v lower
-  checks_refused c e t = record { verdict_is = e ∙ t; masks = λ (q : v ≡ Accepted). let z : ◌≡◌ {A = ℕ} 0 1 = cc in absurd (omega arith) }
-
-  pub checks_same : {other : Verdict} → tested ≡ other → Checks tested s v lower → Checks other s v lower
-  checks_same t w = record { verdict_is = w.verdict_is ∙ t; masks = w.masks }
-
-pub checks_accepted : (s : List ℕ) {tested : Verdict} {lower : List ℕ} → Accepted ≡ tested → LowerMasks (arrows_of s) lower → Checks tested s Accepted lower
-checks_accepted s t w = record { verdict_is = t; masks = λ q. w }

@@ -1,5 +1,5 @@
 -- Document 01, "Causes, in order of test": causes 1 to 8, one predicate each, and the first that applies. Assumes nothing.
-use Rattle.std.specs.Prelude.{Bool, true, false, not, ◌&&◌, ◌||◌, List, [], ◌∷◌, ℕ, ◌+◌, ◌*◌, eqb, leb, ltb, length}
+use Rattle.std.specs.Prelude.{Result, Ok, Err, Bool, true, false, not, ◌&&◌, ◌||◌, List, [], ◌∷◌, ℕ, ◌+◌, ◌*◌, eqb, leb, ltb, length}
 use Rattle.base.specs.Bounds.{max_atoms, max_layers, max_arrows, max_rules, max_body}
 use Rattle.base.specs.Lists.{all, any, up_to}
 use Rattle.layers.specs.Layers.{repeats, below}
@@ -7,8 +7,6 @@ use Rattle.format.specs.Book.{Literal, version, length_field, atom_count, layer_
 use Rattle.format.specs.Sections.{has_broken_section}
 use Rattle.book.specs.declared.Cause.{Cause}
 use Rattle.book.specs.declared.Cause.TheVariants.{TooShort, WrongVersion, WrongLength, BrokenSection, OutOfRange, BadRecord, RepeatedArrow, Cycle}
-use Rattle.book.specs.declared.Verdict.{Verdict}
-use Rattle.book.specs.declared.Verdict.TheVariants.{Accepted, Refused}
 
 unfoldable pub within : ℕ → ℕ → ℕ → Bool
 within low high x = leb low x && leb x high
@@ -84,14 +82,23 @@ tests s =
     ∷ record { cause = Cycle; applies = has_cycle s }
     ∷ []
 
+-- accepted, or refused for a cause
+abbrev pub Verdict : Type 0
+Verdict = Result (Unit {0}) Cause
+
+-- the verdict of an answer that says more where it accepts
+abbrev pub verdict_of : {A : Type 0} → Result A Cause → Verdict
+verdict_of (Ok a) = Ok tt
+verdict_of (Err c) = Err c
+
 unfoldable pub verdict_if : Bool → Verdict → Verdict → Verdict
 verdict_if true a b = a
 verdict_if false a b = b
 
 -- the first cause that applies; where none does, accepted
 unfoldable pub first_of : List Test → Verdict
-first_of [] = Accepted
-first_of (t ∷ ts) = verdict_if t.applies (Refused t.cause) (first_of ts)
+first_of [] = Ok tt
+first_of (t ∷ ts) = verdict_if t.applies (Err t.cause) (first_of ts)
 
 unfoldable pub verdict : List ℕ → Verdict
 verdict s = first_of (tests s)

@@ -1,23 +1,22 @@
 // The check of a book: the first of causes 1 to 8 that applies, or accepted, with each layer's mask of the layers below it.
 #![tactic(auto)]
 
-ghost use Rattle.std.specs.Prelude.{◌≡◌, not, true, false, map, ℕ, drop};
+ghost use Rattle.std.specs.Prelude.{◌≡◌, not, true, false, map, ℕ, drop, IfOk};
 ghost use Rattle.base.specs.Bounds.{max_layers};
 ghost use Rattle.base.specs.Lists.{all, any};
 ghost use Rattle.layers.specs.Layers.{link, repeats, same_arrow};
 ghost use Rattle.layers.specs.Masks.{marked, LowerMasks};
 ghost use Rattle.format.specs.Book.{records, literal_of, literals_of, arrow_of, arrows_of};
 ghost use Rattle.format.specs.Sections.{has_broken_section};
-ghost use Rattle.book.specs.Causes.{within, arrow_ok, atom_below, head_ok, rule_ok, is_out_of_range, has_bad_record, repeats_arrow, tests, first_of, verdict};
-ghost use Rattle.book.specs.Checks.{HeaderOf, Checks};
-ghost use Rattle.book.specs.declared.Verdict.TheVariants.{Refused};
+ghost use Rattle.book.specs.Causes.{within, arrow_ok, atom_below, head_ok, rule_ok, is_out_of_range, has_bad_record, repeats_arrow, tests, first_of, verdict, verdict_of};
+ghost use Rattle.book.specs.Checks.{HeaderOf};
 ghost use Rattle.book.specs.Numbers.{number_of};
 
 use base::{MAX_ARROWS, MAX_ATOMS, MAX_BODY, MAX_LAYERS, MAX_RULES, wide};
 use format::{be16, be32, broken_section, is_falsity, literal_value, record_end};
 
 // The causes of documents 01 and 02, in the order of test; specs/Numbers.antt has their numbers.
-#[derive(Clone, Copy)]
+#[derive(Clone, Copy, Debug, PartialEq, Eq)]
 pub enum Cause {
     TooShort,
     WrongVersion,
@@ -38,34 +37,30 @@ pub enum Cause {
     NoStableState,
 }
 
-#[derive(Clone, Copy)]
-pub enum Verdict {
-    Accepted,
-    Refused(Cause),
-}
-
 // The number of a cause.
-pub fn cause_number(c: Cause) -> u64
-    ensures { result ≡ number_of c }
-{
-    match c {
-        Cause::TooShort => 1,
-        Cause::WrongVersion => 2,
-        Cause::WrongLength => 3,
-        Cause::BrokenSection => 4,
-        Cause::OutOfRange => 5,
-        Cause::BadRecord => 6,
-        Cause::RepeatedArrow => 7,
-        Cause::Cycle => 8,
-        Cause::NoSuchLayer => 9,
-        Cause::NoSuchLayerOff => 19,
-        Cause::BadCandidate => 10,
-        Cause::BadCondition => 16,
-        Cause::TooDeep => 17,
-        Cause::NoSuchFact => 11,
-        Cause::TooManyBranching => 12,
-        Cause::BufferTooShort => 13,
-        Cause::NoStableState => 14,
+impl From<Cause> for u64 {
+    ghost from_gives = { λ c n. n ≡ number_of c };
+
+    fn from(c: Cause) -> u64 {
+        match c {
+            Cause::TooShort => 1,
+            Cause::WrongVersion => 2,
+            Cause::WrongLength => 3,
+            Cause::BrokenSection => 4,
+            Cause::OutOfRange => 5,
+            Cause::BadRecord => 6,
+            Cause::RepeatedArrow => 7,
+            Cause::Cycle => 8,
+            Cause::NoSuchLayer => 9,
+            Cause::NoSuchLayerOff => 19,
+            Cause::BadCandidate => 10,
+            Cause::BadCondition => 16,
+            Cause::TooDeep => 17,
+            Cause::NoSuchFact => 11,
+            Cause::TooManyBranching => 12,
+            Cause::BufferTooShort => 13,
+            Cause::NoStableState => 14,
+        }
     }
 }
 
@@ -286,79 +281,62 @@ fn lower_masks(book: &[u8], header: Header) -> [u32; MAX_LAYERS]
     layers::transitive_closure(arrow_masks(&book[14..second]), header.layers)
 }
 
-// The verdict on a book and, where it is accepted, each layer's mask of the layers below it: the test of cause 8 needs these
-// masks, and so does every call that drives a layer.
-#[derive(Clone, Copy)]
-pub struct Checked {
-    pub verdict: Verdict,
-    pub lower: [u32; MAX_LAYERS],
-}
-
-// A refusal: its masks are never read.
-fn refused(cause: Cause) -> Checked
-    ensures { result.verdict ≡ Refused cause }
-{
-    Checked {
-        verdict: Verdict::Refused(cause),
-        lower: [0; MAX_LAYERS],
-    }
-}
-
-// The tests from cause 7 on.
-fn check_arrows(book: &[u8], header: Header) -> Checked
+// The tests from cause 7 on. The test of cause 8 needs each layer's mask of the layers below it, and so does every call that drives a
+// layer: an accepted book is answered by its masks.
+fn check_arrows(book: &[u8], header: Header) -> Result<[u32; MAX_LAYERS], Cause>
     requires { HeaderOf book.now header.atoms header.layers header.rules × (is_out_of_range book.now ≡ false) × (has_bad_record book.now ≡ false) }
-    ensures { Checks (first_of (drop 6 (tests book.now))) book.now result.verdict result.lower }
+    ensures verdict { verdict_of result ≡ first_of (drop 6 (tests book.now)) }
+    ensures masks { IfOk result (LowerMasks (arrows_of book.now)) }
 {
     if repeated_arrow(book, header) {
-        return refused(Cause::RepeatedArrow);
+        return Err(Cause::RepeatedArrow);
     }
     let lower = lower_masks(book, header);
     if layers::has_cycle(&lower, header.layers) {
-        return refused(Cause::Cycle);
+        return Err(Cause::Cycle);
     }
-    Checked {
-        verdict: Verdict::Accepted,
-        lower,
-    }
+    Ok(lower)
 }
 
 // The tests from cause 4 on.
-fn check_sections(book: &[u8]) -> Checked
-    ensures { Checks (first_of (drop 3 (tests book.now))) book.now result.verdict result.lower }
+fn check_sections(book: &[u8]) -> Result<[u32; MAX_LAYERS], Cause>
+    ensures verdict { verdict_of result ≡ first_of (drop 3 (tests book.now)) }
+    ensures masks { IfOk result (LowerMasks (arrows_of book.now)) }
 {
     if broken_section(book) {
-        return refused(Cause::BrokenSection);
+        return Err(Cause::BrokenSection);
     }
     let header = read_header(book);
     if out_of_range(book, header) {
-        return refused(Cause::OutOfRange);
+        return Err(Cause::OutOfRange);
     }
     if bad_record(book, header) {
-        return refused(Cause::BadRecord);
+        return Err(Cause::BadRecord);
     }
     check_arrows(book, header)
 }
 
-// Accepted, with the masks, or refused for the first of causes 1 to 8 that applies.
-pub fn check_book(book: &[u8]) -> Checked
-    ensures { Checks (verdict book.now) book.now result.verdict result.lower }
+// An accepted book's masks, or the first of causes 1 to 8 that applies.
+pub fn check_book(book: &[u8]) -> Result<[u32; MAX_LAYERS], Cause>
+    ensures verdict { verdict_of result ≡ verdict book.now }
+    ensures masks { IfOk result (LowerMasks (arrows_of book.now)) }
 {
     if book.len() < 20 {
-        return refused(Cause::TooShort);
+        return Err(Cause::TooShort);
     }
     if book[0] != 1 {
-        return refused(Cause::WrongVersion);
+        return Err(Cause::WrongVersion);
     }
     if be32(book, 1) != book.len() {
-        return refused(Cause::WrongLength);
+        return Err(Cause::WrongLength);
     }
     check_sections(book)
 }
 
 // The verdict alone.
-pub fn check(book: &[u8]) -> Verdict
+pub fn check(book: &[u8]) -> Result<(), Cause>
     ensures { result ≡ verdict book.now }
 {
-    let checked = check_book(book);
-    checked.verdict
+    check_book(book)?;
+    Ok(())
 }

@@ -1,21 +1,30 @@
 -- `check_layer` meets its contract: the verdict on the book decides where it refuses; else causes 9 and 19 do. Assumes nothing.
-use mathlib.Core.Path.{refl, sym, ◌∙◌}
+use mathlib.Core.Path.{sym, ◌∙◌}
+use Rattle.std.proofs.Common.{rules}
 use Rattle.book.proofs.Accepted.{accepted_lawful}
-use Rattle.book.proofs.VerdictLaws.{checks_refused}
-use Rattle.accepted.proofs.DrivenLaws.{book_refused, book-accepted}
+use Rattle.accepted.proofs.DrivenLaws.{book_refused, book_accepted, driven}
 use Rattle.accepted.proofs.check_layer.Goals as goal
+
+pub returns-in_err-lower-clause-verdict : goal.returns-in_err-lower-clause-verdict
+returns-in_err-lower-clause-verdict c =
+    let refused = book_refused c.args.book.now c.args.layer c.args.off _ c.in_err-lower.ensures.verdict in search (rules, refused)
 
 pub read_header-header-requires : goal.read_header-header-requires
 read_header-header-requires c =
-    (accepted_lawful c.args.book.now (sym c.check_book-checked.ensures.verdict_is ∙ c.in-Accepted.is)).not4
+    (accepted_lawful c.args.book.now (sym c.in_ok-lower.ensures.verdict)).not4
 
-pub returns-in-Refused : goal.returns-in-Refused
-returns-in-Refused c =
-    checks_refused c.args.book.now _ refl (book_refused c.args.book.now c.args.layer c.args.off c.check_book-checked.result.verdict c.check_book-checked.ensures.verdict_is _ c.in-Refused.is)
+pub returns-in_err-check_driven-clause-verdict : goal.returns-in_err-check_driven-clause-verdict
+returns-in_err-check_driven-clause-verdict c =
+    let refused = c.in_err-check_driven.ensures ∙ book_accepted c.args.book.now c.args.layer c.args.off c.in_ok-lower.ensures.verdict _ c.read_header-header.ensures.layers_are in search (rules, refused)
 
-pub returns-in-Accepted : goal.returns-in-Accepted
-returns-in-Accepted c =
+pub invariant_of-result : goal.invariant_of-result
+invariant_of-result c =
     record {
-      verdict_is = c.check_driven.ensures ∙ book-accepted c.args.book.now c.args.layer c.args.off c.check_book-checked.result.verdict c.check_book-checked.ensures.verdict_is c.in-Accepted.is c.read_header-header.result.layers c.read_header-header.ensures.layers_are;
-      masks = λ q. c.check_book-checked.ensures.masks c.in-Accepted.is;
+      accepted = sym c.in_ok-lower.ensures.verdict;
+      layer_inside = (driven c.args.book.now c.args.layer c.args.off (sym (c.in_ok-check_driven.ensures ∙ book_accepted c.args.book.now c.args.layer c.args.off c.in_ok-lower.ensures.verdict _ c.read_header-header.ensures.layers_are))).1;
+      lower_masks = c.in_ok-lower.ensures.masks;
     }
+
+pub returns-clause-verdict : goal.returns-clause-verdict
+returns-clause-verdict c =
+    c.in_ok-check_driven.ensures ∙ book_accepted c.args.book.now c.args.layer c.args.off c.in_ok-lower.ensures.verdict _ c.read_header-header.ensures.layers_are

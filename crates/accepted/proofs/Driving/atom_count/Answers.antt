@@ -1,0 +1,12 @@
+-- The header is there, since the sections of an accepted book are whole; the range is cause 5's.
+use Rattle.book.proofs.Accepted.{accepted_lawful}
+use Rattle.accepted.proofs.RangeFacts.{atoms_are}
+use Rattle.accepted.proofs.Driving.atom_count.Goals as goal
+
+pub read_header-requires : goal.read_header-requires
+read_header-requires c =
+    (accepted_lawful c.args.self.now.book.now c.args.self.now.accepted).not4
+
+pub returns : goal.returns
+returns c =
+    atoms_are c.args.self.now.book.now c.args.self.now.accepted c.read_header.result.atoms c.read_header.ensures.atoms_are
