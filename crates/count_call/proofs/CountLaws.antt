@@ -49,7 +49,8 @@ use Rattle.passes.specs.Limit.{has_too_many_branching}
 use Rattle.passes.specs.Tallied.{searched, Tallied}
 use Rattle.passes.proofs.PassLaws.{searched-length, models_le}
 use Rattle.passes.proofs.StateLaws.{models_from, models_into, fitted_weight, searched_passing}
-use Rattle.count_call.specs.declared.CountReply.TheVariants as reply
+use Rattle.count_call.specs.declared.Counted.{Counted}
+use Rattle.std.proofs.Common.{Ok, Err}
 use Rattle.count_call.specs.Reply.{search_tests, fit_tests, count_tests, reply_of, count_reply, Once, Fitting, CountsExactly}
 
 -- ---- the order of the causes: the condition's own, and only then 12
@@ -89,9 +90,9 @@ module _ {book rows plan : List ℕ} {sizes : Sizes} (ready : Ready book rows pl
       t.weight_is ∙ fitted_weight code t.seen ∙ ap (λ (l : List Interpretation). length (filter (code_holds code) l)) all_seen
       ∙ searched_passing (code_holds code) P (barred-formed ready.table bans) few
 
-  pub counted : reply.Counted count sizes.branching weight ≡ reply_of Accepted P (code_holds code)
+  pub counted : Ok (record { states = count; branching = sizes.branching; fitting = weight }) ≡ reply_of Accepted P (code_holds code)
   unfolding reply_of
-  counted = λ i. reply.Counted (k_is i) (g_is i) (count_is i)
+  counted = λ i. Ok (record { states = k_is i; branching = g_is i; fitting = count_is i })
 
 pub asks_fit : (code : List ℕ) → StackFits code → Asks Fit code
 unfolding Asks
@@ -101,7 +102,7 @@ asks_fit code h = h
 pub reply_over : {P Q : Program} → Alike P Q → (v : Verdict) (p : Interpretation → Bool) → reply_of v P p ≡ reply_of v Q p
 unfolding reply_of
 reply_over a (Refused c) p = refl
-reply_over a Accepted p = λ i. reply.Counted (length (alike_models a i)) (alike-count a i) (length (filter p (alike_models a i)))
+reply_over a Accepted p = λ i. Ok (record { states = length (alike_models a i); branching = alike-count a i; fitting = length (filter p (alike_models a i)) })
 
 -- ---- the answer, by the stable models of the inductive definition
 rising-once : (ms : List Interpretation) → Rising ◌⊏◌ ms → Once ms
@@ -157,15 +158,16 @@ module _ (book : List ℕ) (layer off : ℕ) (condition : List ℕ) where
     k_small = omega (arith, models_le Q (accepted-formed book accepted layer off) atoms_few, pow-le-pow_right {n = 2} (omega arith) few-branching)
 
   -- g is at most 20, k at most 2 to its power, and the count at most k
-  pub granted-small : (k g c : ℕ) → count_reply book layer off condition ≡ reply.Counted k g c → (k ≤ 2 ^ max_branching) × (g ≤ max_branching) × (c ≤ k)
+  pub granted-small : (k g c : ℕ) → count_reply book layer off condition ≡ Ok (record { states = k; branching = g; fitting = c }) → (k ≤ 2 ^ max_branching) × (g ≤ max_branching) × (c ≤ k)
   unfolding count_reply reply_of
   granted-small k g c e = go (first_of (count_tests book layer off condition)) refl e
     where
-      go : (v : Verdict) → first_of (count_tests book layer off condition) ≡ v → reply_of v Q (fits_text condition) ≡ reply.Counted k g c
+      go : (v : Verdict) → first_of (count_tests book layer off condition) ≡ v → reply_of v Q (fits_text condition) ≡ Ok (record { states = k; branching = g; fitting = c })
           → (k ≤ 2 ^ max_branching) × (g ≤ max_branching) × (c ≤ k)
       go (Refused d) q f = let z : ◌≡◌ {A = ℕ} 0 1 = cc in absurd (omega arith)
       go Accepted q f =
-          let x : length (stable_models Q) ≡ k = cc in
-          let b : branching_count Q ≡ g = cc in
-          let y : length (filter (fits_text condition) (stable_models Q)) ≡ c = cc in
+          let l : ◌≡◌ {A = Counted} (record { states = length (stable_models Q); branching = branching_count Q; fitting = length (filter (fits_text condition) (stable_models Q)) }) (record { states = k; branching = g; fitting = c }) = cc in
+          let x : length (stable_models Q) ≡ k = ap (λ (r : Counted). r.states) l in
+          let b : branching_count Q ≡ g = ap (λ (r : Counted). r.branching) l in
+          let y : length (filter (fits_text condition) (stable_models Q)) ≡ c = ap (λ (r : Counted). r.fitting) l in
           (omega (arith, x, k_small q), omega (arith, b, few-branching q), omega (arith, x, y, filter-length (fits_text condition) (stable_models Q)))

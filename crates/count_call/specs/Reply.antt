@@ -1,5 +1,5 @@
 -- Document 02, (e): counting states that fit a condition. The causes in order of test, and the answer. Assumes nothing.
-use Rattle.std.specs.Prelude.{◌≡◌, ◌↔◌, Bool, false, ℕ, T, length}
+use Rattle.std.specs.Prelude.{◌≡◌, ◌↔◌, Bool, false, ℕ, T, length, Result, Ok, Err}
 use mathlib.Core.List.{List, [], ◌∷◌, ◌++◌, Memᴰ}
 use Rattle.base.specs.Lists.{filter}
 use Rattle.models.specs.Program.{Program}
@@ -8,6 +8,7 @@ use Rattle.models.specs.Branching.{branching_count}
 use Rattle.models.specs.Listing.{stable_models}
 use Rattle.table.specs.Table.{program_of}
 use Rattle.book.specs.Causes.{Test, first_of}
+use Rattle.book.specs.declared.Cause.{Cause}
 use Rattle.book.specs.declared.Cause.TheVariants.{TooManyBranching}
 use Rattle.book.specs.declared.Verdict.{Verdict}
 use Rattle.book.specs.declared.Verdict.TheVariants.{Accepted, Refused}
@@ -15,8 +16,7 @@ use Rattle.accepted.specs.Driven.{layer_tests}
 use Rattle.grammar.specs.Conditions.{Condition, Reads, or-level, fits}
 use Rattle.condition.specs.Causes.{condition_tests, fits_text}
 use Rattle.passes.specs.Limit.{has_too_many_branching}
-use Rattle.count_call.specs.declared.CountReply.{CountReply}
-use Rattle.count_call.specs.declared.CountReply.TheVariants as reply
+use Rattle.count_call.specs.declared.Counted.{Counted}
 
 -- 12; that there is no state is no cause here: "0 of 0" is an answer
 unfoldable pub search_tests : Program → List Test
@@ -31,12 +31,12 @@ unfoldable pub count_tests : List ℕ → ℕ → ℕ → List ℕ → List Test
 count_tests book layer off condition = layer_tests book layer off ++ fit_tests (program_of book layer off) condition
 
 -- a refusal, or k, g and how many of the stable states pass a test
-unfoldable pub reply_of : Verdict → Program → (Interpretation → Bool) → CountReply
-reply_of (Refused c) P p = reply.Refused c
-reply_of Accepted P p = reply.Counted (length (stable_models P)) (branching_count P) (length (filter p (stable_models P)))
+unfoldable pub reply_of : Verdict → Program → (Interpretation → Bool) → Result Counted Cause
+reply_of (Refused c) P p = Err c
+reply_of Accepted P p = Ok (record { states = length (stable_models P); branching = branching_count P; fitting = length (filter p (stable_models P)) })
 
 -- the first cause that applies; where none does, k, g and the number of the stable states in which the condition holds
-unfoldable pub count_reply : List ℕ → ℕ → ℕ → List ℕ → CountReply
+unfoldable pub count_reply : List ℕ → ℕ → ℕ → List ℕ → Result Counted Cause
 count_reply book layer off condition = reply_of (first_of (count_tests book layer off condition)) (program_of book layer off) (fits_text condition)
 
 -- no state is there twice
@@ -60,4 +60,4 @@ module _ (book : List ℕ) (layer off : ℕ) (condition : List ℕ) where
   CountsExactly =
       NoCause → (a : Condition) → Reads or-level a condition
       → (states : List Interpretation) × Fitting a states
-      × (count_reply book layer off condition ≡ reply.Counted (length (stable_models (program_of book layer off))) (branching_count (program_of book layer off)) (length states))
+      × (count_reply book layer off condition ≡ Ok (record { states = length (stable_models (program_of book layer off)); branching = branching_count (program_of book layer off); fitting = length states }))

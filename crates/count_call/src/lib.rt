@@ -14,19 +14,30 @@ use passes::tally;
 use plan::Sizes;
 use search::Goal;
 
-#[derive(Clone, Copy)]
-pub enum CountReply {
-    // k, g and the count
-    Counted(usize, usize, usize),
-    Refused(Cause),
+// What a count tells: k, the number of the stable states, g, the number of the branching facts, and in how many states the condition holds.
+#[derive(Clone, Copy, Debug, PartialEq, Eq)]
+pub struct Counted {
+    pub states: usize,
+    pub branching: usize,
+    pub fitting: usize,
 }
 
 // One pass of the search, which meets every stable model and tries the condition's code on it.
-pub fn count_found(book: &[u8], rows: &[u16], plan: &[u32], sizes: Sizes, code: &[u8]) -> CountReply
+pub fn count_found(
+    book: &[u8],
+    rows: &[u16],
+    plan: &[u32],
+    sizes: Sizes,
+    code: &[u8],
+) -> Result<Counted, Cause>
     requires ready { Ready book.now rows.now plan.now sizes }
     requires stack_fits { StackFits code.now }
     ensures { result ≡ reply_of Accepted (planned_program book.now rows.now plan.now sizes) (code_holds code.now) }
 {
     let counts = tally(book, rows, plan, sizes, Goal::Fit, code);
-    CountReply::Counted(counts.count, sizes.branching, counts.weight)
+    Ok(Counted {
+        states: counts.count,
+        branching: sizes.branching,
+        fitting: counts.weight,
+    })
 }

@@ -46,7 +46,8 @@ use Rattle.accepted.proofs.RangeFacts.{atoms_are}
 use Rattle.accepted.proofs.RecordFacts.{accepted-formed}
 use Rattle.passes.specs.Limit.{has_too_many_branching}
 use Rattle.passes.proofs.PassLaws.{models_le}
-use Rattle.list_call.specs.declared.ListReply.TheVariants as reply
+use Rattle.list_call.specs.declared.Listed.{Listed}
+use Rattle.std.proofs.Common.{Ok}
 use Rattle.list_call.specs.Reply.{room_tests, search_tests, list_tests, reply_of, buffer_of, list_reply, list_buffer}
 use Rattle.list_call.specs.Condition3.{Call, Granted, after, facts, listed, record_at, Model, EqualExactly, Lists, ListsExactly}
 
@@ -90,13 +91,14 @@ told c k g e = go (first_of (list_tests c.book c.layer c.off (length c.buffer)))
     P : Program
     P = program_of c.book c.layer c.off
 
-    go : (v : Verdict) → first_of (list_tests c.book c.layer c.off (length c.buffer)) ≡ v → reply_of v (program_of c.book c.layer c.off) ≡ reply.Listed k g → Told c k g
+    go : (v : Verdict) → first_of (list_tests c.book c.layer c.off (length c.buffer)) ≡ v → reply_of v (program_of c.book c.layer c.off) ≡ Ok (record { states = k; branching = g }) → Told c k g
     go (Refused x) q f = absurd (let z : ◌≡◌ {A = ℕ} 0 1 = cc in omega arith)
     go Accepted q f =
-        let b : g ≡ branching_count (program_of c.book c.layer c.off) = cc in
+        let l : ◌≡◌ {A = Listed} (record { states = length (stable_models P); branching = branching_count P }) (record { states = k; branching = g }) = cc in
+        let b : g ≡ branching_count (program_of c.book c.layer c.off) = ap (λ (x : Listed). x.branching) (sym l) in
         record {
           accepted = passed_layer c q;
-          count = cc;
+          count = ap (λ (x : Listed). x.states) (sym l);
           branch = b;
           few = subst (λ (x : ℕ). x ≤ max_branching) (sym b) (passed_branching c q);
           room = passed_room c q;

@@ -29,7 +29,7 @@ use Rattle.accepted.specs.Driven.{is_no_such_layer, has_absent_layer, driven_tes
 use Rattle.accepted.proofs.DrivenLaws.{driven}
 use Rattle.accepted.proofs.FirstLaws.{first_append}
 use Rattle.passes.specs.Limit.{has_too_many_branching}
-use Rattle.list_call.specs.declared.ListReply.TheVariants as reply
+use Rattle.std.proofs.Common.{Ok}
 use Rattle.list_call.specs.Reply.{room_tests, search_tests, list_tests, reply_of, buffer_of, list_reply, list_buffer}
 use Rattle.list_call.specs.Examples.{state_count, ExampleAnswered, ExamplesAnswered}
 use Rattle.list_call.proofs.Condition3Laws.{lists-exactly}
@@ -78,7 +78,7 @@ module _ (e : Example) (i : e ∈ table) where
         first_append (layer_tests e.book e.layer 0) (search_tests P (length buffer)) layer-accepted
         ∙ rw (le-ltb max_branching (branching_count P) few, le-ltb (length buffer) (length (listing P)) (omega (arith, ap length listing_is))) refl
 
-    counts : list_reply e.book e.layer 0 buffer ≡ reply.Listed (length (stable_models P)) (branching_count P)
+    counts : list_reply e.book e.layer 0 buffer ≡ Ok (record { states = length (stable_models P); branching = branching_count P })
     unfolding list_reply reply_of
     counts = rw granted refl
 
@@ -96,7 +96,7 @@ module _ (e : Example) (i : e ∈ table) where
   answered : ExampleAnswered e
   answered = record {
     accepted = (driven e.book e.layer 0 layer-accepted).0;
-    answer = λ buffer room. counts buffer room ∙ ap₂ reply.Listed states_are branches_are;
+    answer = λ buffer room. counts buffer room ∙ (λ i. Ok (record { states = states_are i; branching = branches_are i }));
     bytes = writes;
   }
 

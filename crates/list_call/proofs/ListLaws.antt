@@ -12,6 +12,7 @@ use lib.Seq.{length-take-le}
 use Rattle.base.specs.Bounds.{max_atoms, max_record, max_branching}
 use Rattle.base.specs.Lists.{flat}
 use Rattle.book.specs.Causes.{verdict_if, first_of}
+use Rattle.book.specs.declared.Cause.{Cause}
 use Rattle.book.specs.declared.Cause.TheVariants.{BufferTooShort}
 use Rattle.book.specs.declared.Verdict.{Verdict}
 use Rattle.book.specs.declared.Verdict.TheVariants.{Accepted, Refused}
@@ -30,8 +31,8 @@ use Rattle.search.proofs.TurnLaws.{atoms-count}
 use Rattle.passes.specs.SetUp.{Ready}
 use Rattle.passes.specs.Tallied.{Bounds}
 use Rattle.passes.proofs.PassLaws.{models_le}
-use Rattle.list_call.specs.declared.ListReply.{ListReply}
-use Rattle.list_call.specs.declared.ListReply.TheVariants as reply
+use Rattle.list_call.specs.declared.Listed.{Listed}
+use Rattle.std.proofs.Common.{Result, Ok, Err}
 use Rattle.list_call.specs.Reply.{room_tests, reply_of, buffer_of, Answers}
 
 -- ---- counting and writing
@@ -63,14 +64,14 @@ module _ {book rows plan : List ℕ} {sizes : Sizes} (ready : Ready book rows pl
   size_is = ap (λ (x : ℕ). 11 + all * record_size x) (barred-size w (plan_bans plan sizes.bans)) ∙ sym (listing-length P.atoms (stable_models P))
 
   module _ (old : List ℕ) where
-    refused : length old < 11 + all * record_size n → Answers (first_of (room_tests P (length old))) P old (reply.Refused BufferTooShort) old
+    refused : length old < 11 + all * record_size n → Answers (first_of (room_tests P (length old))) P old (Err BufferTooShort) old
     unfolding first_of verdict_if room_tests reply_of buffer_of
     refused h =
         let e : first_of (room_tests P (length old)) ≡ Refused BufferTooShort = rw (lt-ltb (length old) (length (listing P)) (omega (arith, size_is))) refl in
         record { reply_is = rw e refl; buffer_is = rw e refl }
 
     -- no room for the head
-    pub head_refused : length old < 11 → Answers (first_of (room_tests P (length old))) P old (reply.Refused BufferTooShort) old
+    pub head_refused : length old < 11 → Answers (first_of (room_tests P (length old))) P old (Err BufferTooShort) old
     head_refused h = refused (omega arith)
 
     module _ (head : 11 ≤ length old) (width : ℕ) (e : width ≡ record_size n) where
@@ -86,7 +87,7 @@ module _ {book rows plan : List ℕ} {sizes : Sizes} (ready : Ready book rows pl
 
       module _ {most : ℕ} (b : Bounds all room most) where
         -- no room for the records
-        pub room_refused : room < most → Answers (first_of (room_tests P (length old))) P old (reply.Refused BufferTooShort) old
+        pub room_refused : room < most → Answers (first_of (room_tests P (length old))) P old (Err BufferTooShort) old
         room_refused h =
             let more : suc room * width ≤ all * width = mul-le-mul_right width (b.past h) in
             let step : suc room * width ≡ room * width + width = omega arith in
@@ -115,12 +116,12 @@ module _ {book rows plan : List ℕ} {sizes : Sizes} (ready : Ready book rows pl
 
             pub room-listed : (part buf : List ℕ) → part ≡ flat (map (record_of n) (stable_models P)) ++ drop (all * record_size n) (take (11 + most * width - 11) (drop 11 old))
                 → buf ≡ 1 ∷ (be32 (11 + k * width) ++ (be16 n ++ (be32 k ++ drop 11 (put_mid 11 (11 + most * width - 11) old part))))
-                → Answers (first_of (room_tests P (length old))) P old (reply.Listed k sizes.branching) buf
+                → Answers (first_of (room_tests P (length old))) P old (Ok (record { states = k; branching = sizes.branching })) buf
             unfolding first_of verdict_if room_tests reply_of buffer_of listing
             room-listed part buf f q =
                 let v : first_of (room_tests P (length old)) ≡ Accepted = rw (le-ltb (length old) (length (listing P)) (omega (arith, size_is, all_fit, part-fits))) refl in
                 record {
-                  reply_is = rw v (ap₂ reply.Listed k_is g_is);
+                  reply_is = rw v (λ i. Ok (record { states = k_is i; branching = g_is i }));
                   buffer_is =
                       rw v (head-written n (stable_models P) k (11 + k * width) (11 + most * width) old part buf k_is (ap (λ (x : ℕ). 11 + x) bytes_are) (omega (arith, bytes_are, all_fit)) part-fits f q
                       ∙ ap₂ (λ (x y : ℕ). listing_of x (stable_models P) ++ drop y old) (barred-size w (plan_bans plan sizes.bans)) (ap (λ (x : ℕ). 11 + x) bytes_are ∙ size_is));
@@ -135,14 +136,14 @@ module _ {P Q : Program} (a : Alike P Q) where
   pub reply_same : (v : Verdict) → reply_of v P ≡ reply_of v Q
   unfolding reply_of
   reply_same (Refused c) = refl
-  reply_same Accepted = ap₂ reply.Listed (ap length (alike_models a)) (alike-count a)
+  reply_same Accepted = λ i. Ok (record { states = length (alike_models a i); branching = alike-count a i })
 
   pub buffer-same : (v : Verdict) (old : List ℕ) → buffer_of v P old ≡ buffer_of v Q old
   unfolding buffer_of
   buffer-same (Refused c) old = refl
   buffer-same Accepted old = ap (λ (s : List ℕ). s ++ drop (length s) old) (alike-listing a)
 
-  pub answers_over : {old new : List ℕ} {r : ListReply} → Answers (first_of (room_tests Q (length old))) Q old r new → Answers (first_of (room_tests P (length old))) P old r new
+  pub answers_over : {old new : List ℕ} {r : Result Listed Cause} → Answers (first_of (room_tests Q (length old))) Q old r new → Answers (first_of (room_tests P (length old))) P old r new
   answers_over {old} x =
       let e : first_of (room_tests Q (length old)) ≡ first_of (room_tests P (length old)) = sym (ap first_of (room-same (length old))) in
       record {

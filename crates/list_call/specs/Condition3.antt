@@ -1,13 +1,12 @@
 -- The buyer's third condition, over what the contract of the listing call promises. proofs/Condition3Laws.antt proves it, and
 -- crates/lesson/specs/Host.antt says it of the number that a host reads k and g from. Assumes nothing.
-use Rattle.std.specs.Prelude.{◌≡◌, true, ◌↔◌, List, ℕ, ◌+◌, ◌*◌, ◌^◌, ◌<◌, ◌≤◌, get_or, take, drop}
+use Rattle.std.specs.Prelude.{◌≡◌, true, ◌↔◌, List, ℕ, ◌+◌, ◌*◌, ◌^◌, ◌<◌, ◌≤◌, get_or, take, drop, Ok}
 use Rattle.format.specs.Book.{u16_at, u32_at, book_of}
 use Rattle.insertion.specs.Runs.{bytes_before}
 use Rattle.models.specs.StableModels.{Interpretation, StableModel}
 use Rattle.models.specs.Branching.{branching_count}
 use Rattle.models.specs.Listing.{record_size, record_of}
 use Rattle.table.specs.Table.{program_of}
-use Rattle.list_call.specs.declared.ListReply.TheVariants.{Listed}
 use Rattle.list_call.specs.Reply.{list_reply, list_buffer}
 
 -- a call: a book, a driven layer, the set of layers that are switched off, and the bytes of the lent buffer before it
@@ -19,7 +18,7 @@ pub record Call : Type 0 where
 
 -- the call is granted, and its answer carries k and g
 abbrev pub Granted : Call → ℕ → ℕ → Type 0
-Granted c k g = list_reply c.book c.layer c.off c.buffer ≡ Listed k g
+Granted c k g = list_reply c.book c.layer c.off c.buffer ≡ Ok (record { states = k; branching = g })
 
 -- the bytes of the buffer after the call
 abbrev pub after : Call → List ℕ

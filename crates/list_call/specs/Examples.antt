@@ -1,13 +1,12 @@
 -- Document 01's starred classroom examples, of the call itself: the table of crates/models/specs/Examples.antt says what the call
 -- answers with nothing switched off and which bytes it leaves, in every buffer that has room. proofs/ExampleLaws.antt proves it.
 -- Assumes nothing.
-use Rattle.std.specs.Prelude.{◌≡◌, ℕ, ◌≤◌, length, drop}
+use Rattle.std.specs.Prelude.{◌≡◌, ℕ, ◌≤◌, length, drop, Ok}
 use mathlib.Core.List.{List, ◌++◌, Memᴰ}
 use Rattle.format.specs.Book.{u32_at}
 use Rattle.models.specs.Examples.{Example, table}
 use Rattle.book.specs.Causes.{verdict}
 use Rattle.book.specs.declared.Verdict.TheVariants.{Accepted}
-use Rattle.list_call.specs.declared.ListReply.TheVariants.{Listed}
 use Rattle.list_call.specs.Reply.{list_reply, list_buffer}
 
 -- the k of an example, as the head of its listing has it
@@ -18,7 +17,7 @@ state_count e = u32_at e.written 7
 -- example's bytes stand in front, and the bytes past them are as they were.
 pub record ExampleAnswered (e : Example) : Type 0 where
   pub accepted : verdict e.book ≡ Accepted
-  pub answer : (buffer : List ℕ) → length e.written ≤ length buffer → list_reply e.book e.layer 0 buffer ≡ Listed (state_count e) e.branches
+  pub answer : (buffer : List ℕ) → length e.written ≤ length buffer → list_reply e.book e.layer 0 buffer ≡ Ok (record { states = state_count e; branching = e.branches })
   pub bytes : (buffer : List ℕ) → length e.written ≤ length buffer → list_buffer e.book e.layer 0 buffer ≡ e.written ++ drop (length e.written) buffer
 
 abbrev pub ExamplesAnswered : Type 0

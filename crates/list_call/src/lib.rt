@@ -12,11 +12,11 @@ use passes::{most_records, write_all};
 use plan::Sizes;
 use records::{HEAD_SIZE, put_head, record_size};
 
-#[derive(Clone, Copy)]
-pub enum ListReply {
-    // k and g
-    Listed(usize, usize),
-    Refused(Cause),
+// What a granted listing tells: k, the number of the stable states, and g, the number of the branching facts.
+#[derive(Clone, Copy, Debug, PartialEq, Eq)]
+pub struct Listed {
+    pub states: usize,
+    pub branching: usize,
 }
 
 // Writes the records of the stable models where there is room for them, and the head last: one pass where there is room for a record of
@@ -27,22 +27,25 @@ pub fn list_models(
     plan: &[u32],
     sizes: Sizes,
     buffer: &mut [u8],
-) -> ListReply
+) -> Result<Listed, Cause>
     requires { Ready book.now rows.now plan.now sizes }
     ensures { Answers (first_of (room_tests (planned_program book.now rows.now plan.now sizes) (length buffer.old))) (planned_program book.now rows.now plan.now sizes) buffer.old result buffer.new }
 {
     let n = sizes.n;
     if buffer.len() < HEAD_SIZE {
-        return ListReply::Refused(Cause::BufferTooShort);
+        return Err(Cause::BufferTooShort);
     }
     let w = record_size(n);
     let room = (buffer.len() - HEAD_SIZE) / w;
     let most = most_records(book, rows, plan, sizes, room);
     if room < most {
-        return ListReply::Refused(Cause::BufferTooShort);
+        return Err(Cause::BufferTooShort);
     }
     let end = HEAD_SIZE + most * w;
     let k = write_all(book, rows, plan, sizes, &mut buffer[HEAD_SIZE..end]);
     put_head(buffer, HEAD_SIZE + k * w, n, k);
-    ListReply::Listed(k, sizes.branching)
+    Ok(Listed {
+        states: k,
+        branching: sizes.branching,
+    })
 }

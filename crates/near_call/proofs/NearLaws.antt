@@ -14,6 +14,7 @@ use Rattle.base.specs.Bounds.{max_atoms, max_branching}
 use Rattle.base.specs.Lists.{flat}
 use Rattle.base.proofs.Members.{◌∈◌}
 use Rattle.book.specs.Causes.{Test, tests, verdict_if, first_of, verdict}
+use Rattle.book.specs.declared.Cause.{Cause}
 use Rattle.book.specs.declared.Cause.TheVariants.{BadCandidate, TooManyBranching, BufferTooShort, NoStableState}
 use Rattle.book.specs.declared.Verdict.{Verdict}
 use Rattle.book.specs.declared.Verdict.TheVariants.{Accepted, Refused}
@@ -46,8 +47,8 @@ use Rattle.passes.specs.Nearest.{chosen, Nearest}
 use Rattle.passes.proofs.FirstLaws.{chosen-some}
 use Rattle.one_call.specs.Reply.{room_tests, search_tests}
 use Rattle.one_call.proofs.OneLaws.{room-same}
-use Rattle.near_call.specs.declared.NearReply.{NearReply}
-use Rattle.near_call.specs.declared.NearReply.TheVariants as reply
+use Rattle.near_call.specs.declared.Nearest as reply
+use Rattle.std.proofs.Common.{Result, Ok, Err}
 use Rattle.near_call.specs.Reply.{candidate_tests, near_tests, nearest, least_distance, reply_of, buffer_of, near_reply, near_buffer, Answers}
 
 -- ---- the closest, if there is one
@@ -102,7 +103,7 @@ module _ {book rows plan : List ℕ} {sizes : Sizes} (ready : Ready book rows pl
   same : nearest P c ≡ chosen P c
   same = nearest-chosen P c (read_length n candidate ∙ n_is)
 
-  pub room_refused : length old < size → Answers (first_of (room_tests P (length old))) P c old (reply.Refused BufferTooShort) old
+  pub room_refused : length old < size → Answers (first_of (room_tests P (length old))) P c old (Err BufferTooShort) old
   unfolding first_of verdict_if room_tests reply_of buffer_of
   room_refused h =
       let q : first_of (room_tests P (length old)) ≡ Refused BufferTooShort = rw (lt-ltb (length old) (record_size P.atoms) (omega (arith, size_is))) refl in
@@ -126,7 +127,7 @@ module _ {book rows plan : List ℕ} {sizes : Sizes} (ready : Ready book rows pl
       some_is : found ≡ true → has_no_stable_state P ≡ false
       some_is b = not-true (has_no_stable_state P) (sym near.found_is ∙ b)
 
-      pub state_refused : found ≡ false → Answers (first_of (room_tests P (length old))) P c old (reply.Refused NoStableState) (put_mid 0 (size - 0) old part)
+      pub state_refused : found ≡ false → Answers (first_of (room_tests P (length old))) P c old (Err NoStableState) (put_mid 0 (size - 0) old part)
       unfolding first_of verdict_if room_tests reply_of buffer_of
       state_refused b =
           let q : first_of (room_tests P (length old)) ≡ Refused NoStableState = rw (le-ltb (length old) (record_size P.atoms) (omega (arith, size_is)), none_is b) refl in
@@ -151,11 +152,11 @@ module _ {book rows plan : List ℕ} {sizes : Sizes} (ready : Ready book rows pl
         bytes_told : part ≡ flat (map (record_of P.atoms) (nearest P c))
         bytes_told = near.written ∙ held_one n (chosen P c) (take (size - 0) old) some few ∙ ap₂ (λ (k : ℕ) (ms : List Interpretation). flat (map (record_of k) ms)) n_is (sym same)
 
-        pub state_written_lem : Answers (first_of (room_tests P (length old))) P c old (reply.Written d sizes.branching) (put_mid 0 (size - 0) old part)
+        pub state_written_lem : Answers (first_of (room_tests P (length old))) P c old (Ok (record { distance = d; branching = sizes.branching })) (put_mid 0 (size - 0) old part)
         unfolding first_of verdict_if room_tests reply_of buffer_of
         state_written_lem =
             let q : first_of (room_tests P (length old)) ≡ Accepted = rw (le-ltb (length old) (record_size P.atoms) (omega (arith, size_is)), some_is b) refl in
-            rw q (record { reply_is = ap₂ reply.Written distance_told g_is; buffer_is = back part ∙ ap₂ (λ (x : List ℕ) (k : ℕ). x ++ drop k old) bytes_told size_is })
+            rw q (record { reply_is = λ i. Ok (record { distance = distance_told i; branching = g_is i }); buffer_is = back part ∙ ap₂ (λ (x : List ℕ) (k : ℕ). x ++ drop k old) bytes_told size_is })
 
 -- ---- the program that the table stands for, and the driven layer's
 module _ {P Q : Program} (a : Alike P Q) where
@@ -166,14 +167,14 @@ module _ {P Q : Program} (a : Alike P Q) where
   pub reply_same : (v : Verdict) (c : Interpretation) → reply_of v P c ≡ reply_of v Q c
   unfolding reply_of least_distance
   reply_same (Refused cause) c = refl
-  reply_same Accepted c = ap₂ reply.Written (ap₂ (λ (n : ℕ) (ms : List Interpretation). distance n c (get_or ms 0 [])) a.atoms_same (nearest-same c)) (alike-count a)
+  reply_same Accepted c = λ i. Ok (record { distance = distance (a.atoms_same i) c (get_or (nearest-same c i) 0 []); branching = alike-count a i })
 
   pub buffer-same : (v : Verdict) (c : Interpretation) (old : List ℕ) → buffer_of v P c old ≡ buffer_of v Q c old
   unfolding buffer_of
   buffer-same (Refused cause) c old = refl
   buffer-same Accepted c old = ap₂ (λ (n : ℕ) (ms : List Interpretation). flat (map (record_of n) ms) ++ drop (record_size n) old) a.atoms_same (nearest-same c)
 
-  pub answers_over : (c : Interpretation) {old new : List ℕ} {r : NearReply} → Answers (first_of (room_tests Q (length old))) Q c old r new → Answers (first_of (room_tests P (length old))) P c old r new
+  pub answers_over : (c : Interpretation) {old new : List ℕ} {r : Result reply.Nearest Cause} → Answers (first_of (room_tests Q (length old))) Q c old r new → Answers (first_of (room_tests P (length old))) P c old r new
   answers_over c {old} x =
       let e : first_of (room_tests Q (length old)) ≡ first_of (room_tests P (length old)) = sym (ap first_of (room-same a (length old))) in
       record {
@@ -182,7 +183,7 @@ module _ {P Q : Program} (a : Alike P Q) where
       }
 
 -- ---- a granted call
-module _ (book : List ℕ) (layer off : ℕ) (candidate old : List ℕ) (d g : ℕ) (e : near_reply book layer off candidate old ≡ reply.Written d g) where
+module _ (book : List ℕ) (layer off : ℕ) (candidate old : List ℕ) (d g : ℕ) (e : near_reply book layer off candidate old ≡ Ok (record { distance = d; branching = g })) where
   abbrev Q : Program
   Q = program_of book layer off
 
@@ -194,7 +195,7 @@ module _ (book : List ℕ) (layer off : ℕ) (candidate old : List ℕ) (d g : �
   unfolding near_reply reply_of
   granted-verdict = go (first_of (near_tests book layer off candidate (length old))) refl e
     where
-      go : (v : Verdict) → first_of (near_tests book layer off candidate (length old)) ≡ v → reply_of v Q given ≡ reply.Written d g → first_of (near_tests book layer off candidate (length old)) ≡ Accepted
+      go : (v : Verdict) → first_of (near_tests book layer off candidate (length old)) ≡ v → reply_of v Q given ≡ Ok (record { distance = d; branching = g }) → first_of (near_tests book layer off candidate (length old)) ≡ Accepted
       go (Refused cause) q f = let z : ◌≡◌ {A = ℕ} 0 1 = cc in absurd (omega arith)
       go Accepted q f = q
 
@@ -209,15 +210,15 @@ module _ (book : List ℕ) (layer off : ℕ) (candidate old : List ℕ) (d g : �
   unfolding near_tests candidate_tests search_tests room_tests
   granted-some = passed (record { cause = NoStableState; applies = has_no_stable_state Q }) (Memᴰ.append_right (layer_tests book layer off) (Memᴰ.tail (Memᴰ.tail (Memᴰ.tail (Memᴰ.head refl)))))
 
-  told : reply.Written (least_distance Q given) (branching_count Q) ≡ reply.Written d g
+  told : ◌≡◌ {A = reply.Nearest} (record { distance = d; branching = g }) (record { distance = least_distance Q given; branching = branching_count Q })
   unfolding near_reply reply_of
-  told = sym (ap (λ (v : Verdict). reply_of v Q given) granted-verdict) ∙ e
+  told = let t = sym e ∙ ap (λ (v : Verdict). reply_of v Q given) granted-verdict in cc
 
   pub granted-distance : d ≡ least_distance Q given
-  granted-distance = let t = told in cc
+  granted-distance = ap (λ (x : reply.Nearest). x.distance) told
 
   granted-branching : g ≡ branching_count Q
-  granted-branching = let t = told in cc
+  granted-branching = ap (λ (x : reply.Nearest). x.branching) told
 
   pub granted_bytes : near_buffer book layer off candidate old ≡ flat (map (record_of (book_of book).atoms) (nearest Q given)) ++ drop (record_size (book_of book).atoms) old
   unfolding near_buffer buffer_of program_at

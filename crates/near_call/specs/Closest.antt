@@ -1,7 +1,7 @@
 -- Document 02, (j), of the call, by the inductive definition of a stable state: no stable state of the book at that layer is closer to the
 -- candidate than the one that is written, every other one at the same distance comes later, and the distance is 0 exactly where the candidate
 -- is stable. proofs/ClosestLaws.antt proves it for all bytes. Assumes nothing.
-use Rattle.std.specs.Prelude.{◌≡◌, ◌⊎◌, ◌↔◌, true, List, ◌++◌, ℕ, ◌<◌, ◌≤◌, length, get_or, drop}
+use Rattle.std.specs.Prelude.{◌≡◌, ◌⊎◌, ◌↔◌, true, List, ◌++◌, ℕ, ◌<◌, ◌≤◌, length, get_or, drop, Ok}
 use Rattle.format.specs.Book.{book_of}
 use Rattle.models.specs.Program.{Program}
 use Rattle.models.specs.StableModels.{Interpretation, StableModel}
@@ -9,7 +9,6 @@ use Rattle.models.specs.Listing.{record_size, record_of, interpretation_of}
 use Rattle.table.specs.Table.{program_of}
 use Rattle.records.specs.Written.{before}
 use Rattle.first.specs.Nearest.{distance}
-use Rattle.near_call.specs.declared.NearReply.TheVariants.{Written}
 use Rattle.near_call.specs.Reply.{near_reply, near_buffer}
 
 module _ (book : List ℕ) (layer off : ℕ) (candidate old : List ℕ) where
@@ -25,7 +24,7 @@ module _ (book : List ℕ) (layer off : ℕ) (candidate old : List ℕ) where
 
   -- the call is granted, and tells that so many facts differ
   abbrev pub Granted : ℕ → ℕ → Type 0
-  Granted d g = near_reply book layer off candidate old ≡ Written d g
+  Granted d g = near_reply book layer off candidate old ≡ Ok (record { distance = d; branching = g })
 
   -- the buffer holds this state's record, and the state is closest to the candidate
   pub record ClosestState (d : ℕ) (m : Interpretation) : Type 0 where

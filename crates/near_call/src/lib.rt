@@ -17,11 +17,11 @@ use passes::write_nearest;
 use plan::Sizes;
 use records::record_size;
 
-#[derive(Clone, Copy)]
-pub enum NearReply {
-    // how many facts differ, and g
-    Written(usize, usize),
-    Refused(Cause),
+// What is told of the state that is written: how many facts differ, and g, the number of the branching facts.
+#[derive(Clone, Copy, Debug, PartialEq, Eq)]
+pub struct Nearest {
+    pub distance: usize,
+    pub branching: usize,
 }
 
 // Room for a record comes first: a short buffer is 13 whether or not there is a state.
@@ -32,7 +32,7 @@ pub fn near_found(
     sizes: Sizes,
     candidate: &[u8],
     buffer: &mut [u8],
-) -> NearReply
+) -> Result<Nearest, Cause>
     requires ready { Ready book.now rows.now plan.now sizes }
     requires candidate_value { is_bad_candidate sizes.n candidate.now ≡ false }
     ensures { Answers (first_of (room_tests (planned_program book.now rows.now plan.now sizes) (length buffer.old))) (planned_program book.now rows.now plan.now sizes) (interpretation_of sizes.n candidate.now) buffer.old result buffer.new }
@@ -40,12 +40,16 @@ pub fn near_found(
     let n = sizes.n;
     let size = record_size(n);
     if buffer.len() < size {
-        return NearReply::Refused(Cause::BufferTooShort);
+        return Err(Cause::BufferTooShort);
     }
     let wanted = read_candidate(candidate, n);
     let end = write_nearest(book, rows, plan, sizes, &wanted[0..n], &mut buffer[0..size]);
     if end.found {
-        return NearReply::Written(end.distance, sizes.branching);
+        Ok(Nearest {
+            distance: end.distance,
+            branching: sizes.branching,
+        })
+    } else {
+        Err(Cause::NoStableState)
     }
-    NearReply::Refused(Cause::NoStableState)
 }

@@ -13,6 +13,7 @@ use lib.Seq.{length-take-le}
 use Rattle.base.specs.Bounds.{max_branching}
 use Rattle.base.specs.Lists.{flat}
 use Rattle.book.specs.Causes.{verdict_if, first_of}
+use Rattle.book.specs.declared.Cause.{Cause}
 use Rattle.book.specs.declared.Cause.TheVariants.{TooManyBranching, BufferTooShort, NoStableState}
 use Rattle.book.specs.declared.Verdict.{Verdict}
 use Rattle.book.specs.declared.Verdict.TheVariants.{Accepted, Refused}
@@ -34,8 +35,7 @@ use Rattle.search.proofs.TurnLaws.{atoms-count}
 use Rattle.passes.specs.SetUp.{Ready}
 use Rattle.passes.specs.Limit.{has_too_many_branching, has_no_stable_state}
 use Rattle.first.specs.InHand.{record_held}
-use Rattle.one_call.specs.declared.OneReply.{OneReply}
-use Rattle.one_call.specs.declared.OneReply.TheVariants as reply
+use Rattle.std.proofs.Common.{Result, Ok, Err}
 use Rattle.one_call.specs.Reply.{room_tests, search_tests, one_tests, reply_of, buffer_of, one_reply, one_buffer, Answers}
 
 -- ---- the first record, if there is one
@@ -72,7 +72,7 @@ module _ {book rows plan : List ℕ} {sizes : Sizes} (ready : Ready book rows pl
   size_is : size ≡ record_size P.atoms
   size_is = e ∙ ap record_size (barred-size w (plan_bans plan sizes.bans))
 
-  pub room_refused : length old < size → Answers (first_of (room_tests P (length old))) P old (reply.Refused BufferTooShort) old
+  pub room_refused : length old < size → Answers (first_of (room_tests P (length old))) P old (Err BufferTooShort) old
   unfolding first_of verdict_if room_tests reply_of buffer_of
   room_refused h =
       let q : first_of (room_tests P (length old)) ≡ Refused BufferTooShort = rw (lt-ltb (length old) (record_size P.atoms) (omega (arith, size_is))) refl in
@@ -93,7 +93,7 @@ module _ {book rows plan : List ℕ} {sizes : Sizes} (ready : Ready book rows pl
       some_is : found ≡ true → has_no_stable_state P ≡ false
       some_is b = not-true (has_no_stable_state P) (sym f.0 ∙ b)
 
-      pub state_refused : found ≡ false → Answers (first_of (room_tests P (length old))) P old (reply.Refused NoStableState) (put_mid 0 (size - 0) old part)
+      pub state_refused : found ≡ false → Answers (first_of (room_tests P (length old))) P old (Err NoStableState) (put_mid 0 (size - 0) old part)
       unfolding first_of verdict_if room_tests reply_of buffer_of has_no_stable_state
       state_refused b =
           let q : first_of (room_tests P (length old)) ≡ Refused NoStableState = rw (le-ltb (length old) (record_size P.atoms) (omega (arith, size_is)), none_is b) refl in
@@ -101,13 +101,13 @@ module _ {book rows plan : List ℕ} {sizes : Sizes} (ready : Ready book rows pl
           let e : part ≡ take size old = f.1 ∙ untouched n (stable_models P) (take (size - 0) old) (none_is b) ∙ ap (λ (x : ℕ). take x old) z in
           rw q (record { reply_is = refl; buffer_is = back part ∙ ap (λ (x : List ℕ). x ++ drop size old) e ∙ take-append-drop size old })
 
-      pub state_written_lem : found ≡ true → Answers (first_of (room_tests P (length old))) P old (reply.Written sizes.branching) (put_mid 0 (size - 0) old part)
+      pub state_written_lem : found ≡ true → Answers (first_of (room_tests P (length old))) P old (Ok sizes.branching) (put_mid 0 (size - 0) old part)
       unfolding first_of verdict_if room_tests reply_of buffer_of has_no_stable_state
       state_written_lem b =
           let q : first_of (room_tests P (length old)) ≡ Accepted = rw (le-ltb (length old) (record_size P.atoms) (omega (arith, size_is)), some_is b) refl in
           let r : part ≡ flat (map (record_of P.atoms) (take 1 (stable_models P))) =
           f.1 ∙ as_listed n (stable_models P) (take (size - 0) old) (some_is b) ∙ ap (λ (k : ℕ). flat (map (record_of k) (take 1 (stable_models P)))) (barred-size w (plan_bans plan sizes.bans)) in
-          rw q (record { reply_is = ap reply.Written g_is; buffer_is = back part ∙ ap₂ (λ (x : List ℕ) (k : ℕ). x ++ drop k old) r size_is })
+          rw q (record { reply_is = ap Ok g_is; buffer_is = back part ∙ ap₂ (λ (x : List ℕ) (k : ℕ). x ++ drop k old) r size_is })
 
 -- ---- the program that the table stands for, and the driven layer's
 module _ {P Q : Program} (a : Alike P Q) where
@@ -123,14 +123,14 @@ module _ {P Q : Program} (a : Alike P Q) where
   pub reply_same : (v : Verdict) → reply_of v P ≡ reply_of v Q
   unfolding reply_of
   reply_same (Refused c) = refl
-  reply_same Accepted = ap reply.Written (alike-count a)
+  reply_same Accepted = ap Ok (alike-count a)
 
   pub buffer-same : (v : Verdict) (old : List ℕ) → buffer_of v P old ≡ buffer_of v Q old
   unfolding buffer_of
   buffer-same (Refused c) old = refl
   buffer-same Accepted old = ap₂ (λ (n : ℕ) (ms : List Interpretation). flat (map (record_of n) (take 1 ms)) ++ drop (record_size n) old) a.atoms_same (alike_models a)
 
-  pub answers_over : {old new : List ℕ} {r : OneReply} → Answers (first_of (room_tests Q (length old))) Q old r new → Answers (first_of (room_tests P (length old))) P old r new
+  pub answers_over : {old new : List ℕ} {r : Result ℕ Cause} → Answers (first_of (room_tests Q (length old))) Q old r new → Answers (first_of (room_tests P (length old))) P old r new
   answers_over {old} x =
       let e : first_of (room_tests Q (length old)) ≡ first_of (room_tests P (length old)) = sym (ap first_of (room-same (length old))) in
       record {
@@ -139,16 +139,16 @@ module _ {P Q : Program} (a : Alike P Q) where
       }
 
 -- a granted call met none of its tests
-granted-verdict : (book : List ℕ) (layer off : ℕ) (old : List ℕ) (g : ℕ) → one_reply book layer off old ≡ reply.Written g → first_of (one_tests book layer off (length old)) ≡ Accepted
+granted-verdict : (book : List ℕ) (layer off : ℕ) (old : List ℕ) (g : ℕ) → one_reply book layer off old ≡ Ok g → first_of (one_tests book layer off (length old)) ≡ Accepted
 unfolding one_reply reply_of
 granted-verdict book layer off old g e = go (first_of (one_tests book layer off (length old))) refl e
   where
-    go : (v : Verdict) → first_of (one_tests book layer off (length old)) ≡ v → reply_of v (program_of book layer off) ≡ reply.Written g → first_of (one_tests book layer off (length old)) ≡ Accepted
+    go : (v : Verdict) → first_of (one_tests book layer off (length old)) ≡ v → reply_of v (program_of book layer off) ≡ Ok g → first_of (one_tests book layer off (length old)) ≡ Accepted
     go (Refused c) q f = let z : ◌≡◌ {A = ℕ} 0 1 = cc in absurd (omega arith)
     go Accepted q f = q
 
 -- there is a state, and the first one's record stands in front
-module _ (book : List ℕ) (layer off : ℕ) (old : List ℕ) (g : ℕ) (e : one_reply book layer off old ≡ reply.Written g) where
+module _ (book : List ℕ) (layer off : ℕ) (old : List ℕ) (g : ℕ) (e : one_reply book layer off old ≡ Ok g) where
   abbrev Q : Program
   Q = program_of book layer off
 
@@ -168,11 +168,11 @@ module _ (book : List ℕ) (layer off : ℕ) (old : List ℕ) (g : ℕ) (e : one
       ∙ ap (λ (r : List ℕ). r ++ drop (record_size (book_of book).atoms) old) (first_record (book_of book).atoms (stable_models Q) granted-some)
 
 -- a granted answer carries a g of at most 20
-pub granted-small : (book : List ℕ) (layer off : ℕ) (old : List ℕ) (g : ℕ) → one_reply book layer off old ≡ reply.Written g → g ≤ max_branching
+pub granted-small : (book : List ℕ) (layer off : ℕ) (old : List ℕ) (g : ℕ) → one_reply book layer off old ≡ Ok g → g ≤ max_branching
 unfolding one_reply reply_of one_tests search_tests has_too_many_branching
 granted-small book layer off old g e = go (first_of (one_tests book layer off (length old))) refl e
   where
-    go : (v : Verdict) → first_of (one_tests book layer off (length old)) ≡ v → reply_of v (program_of book layer off) ≡ reply.Written g → g ≤ max_branching
+    go : (v : Verdict) → first_of (one_tests book layer off (length old)) ≡ v → reply_of v (program_of book layer off) ≡ Ok g → g ≤ max_branching
     go (Refused c) q f = let z : ◌≡◌ {A = ℕ} 0 1 = cc in absurd (omega arith)
     go Accepted q f =
         let b : g ≡ branching_count (program_of book layer off) = cc in

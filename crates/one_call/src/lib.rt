@@ -12,31 +12,25 @@ use passes::write_first;
 use plan::Sizes;
 use records::record_size;
 
-#[derive(Clone, Copy)]
-pub enum OneReply {
-    // g
-    Written(usize),
-    Refused(Cause),
-}
-
-// Room for a record comes first: a short buffer is 13 whether or not there is a state.
+// Writes the first record and tells g, the number of the branching facts. Room for a record comes first: a short buffer is 13 whether or not there is a state.
 pub fn one_found(
     book: &[u8],
     rows: &[u16],
     plan: &[u32],
     sizes: Sizes,
     buffer: &mut [u8],
-) -> OneReply
+) -> Result<usize, Cause>
     requires { Ready book.now rows.now plan.now sizes }
     ensures { Answers (first_of (room_tests (planned_program book.now rows.now plan.now sizes) (length buffer.old))) (planned_program book.now rows.now plan.now sizes) buffer.old result buffer.new }
 {
     let size = record_size(sizes.n);
     if buffer.len() < size {
-        return OneReply::Refused(Cause::BufferTooShort);
+        return Err(Cause::BufferTooShort);
     }
     let found = write_first(book, rows, plan, sizes, &mut buffer[0..size]);
     if found {
-        return OneReply::Written(sizes.branching);
+        Ok(sizes.branching)
+    } else {
+        Err(Cause::NoStableState)
     }
-    OneReply::Refused(Cause::NoStableState)
 }

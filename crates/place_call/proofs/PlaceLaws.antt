@@ -17,6 +17,7 @@ use Rattle.base.proofs.Members.{◌∈◌, test, filter-from, filter_into, all_a
 use Rattle.base.proofs.ClosureLaws.{filter_lt, filter-length}
 use Rattle.base.proofs.UpTo.{passed, failed}
 use Rattle.book.specs.Causes.{Test, verdict_if, first_of}
+use Rattle.book.specs.declared.Cause.{Cause}
 use Rattle.book.specs.declared.Cause.TheVariants.{TooManyBranching, NoStableState}
 use Rattle.book.specs.declared.Verdict.{Verdict}
 use Rattle.book.specs.declared.Verdict.TheVariants.{Accepted, Refused}
@@ -43,8 +44,8 @@ use Rattle.passes.specs.Tallied.{Tallied}
 use Rattle.passes.proofs.StateLaws.{models_from, models_into, some_state, seen-from, seen_into, tallied_none, tallied_some, settled_weight}
 use Rattle.place_call.specs.declared.Place.{Place}
 use Rattle.place_call.specs.declared.Place.TheVariants.{Every, InSome, Nowhere}
-use Rattle.place_call.specs.declared.PlaceReply.{PlaceReply}
-use Rattle.place_call.specs.declared.PlaceReply.TheVariants as reply
+use Rattle.place_call.specs.declared.Placed.{Placed}
+use Rattle.std.proofs.Common.{Result, Ok, Err}
 use Rattle.place_call.specs.Reply.{state_tests, search_tests, fact_tests, place_tests, place_by, place_in, reply_of, place_reply, NoCause, SomeModel, Answers, EveryExactly, NowhereExactly, InSomeExactly}
 
 -- ---- how many of a list pass a test
@@ -144,28 +145,28 @@ module _ {book rows plan : List ℕ} {sizes : Sizes} (ready : Ready book rows pl
   fails : (m : Interpretation) → (T (atom_holds m fact) → ⊥) → T (not (atom_holds m fact))
   fails m h = not_T (atom_holds m fact) h
 
-  pub refused_state : count ≡ 0 → reply.Refused NoStableState ≡ reply_of (first_of (state_tests P)) P fact
+  pub refused_state : count ≡ 0 → Err NoStableState ≡ reply_of (first_of (state_tests P)) P fact
   unfolding first_of verdict_if state_tests reply_of
   refused_state e = rw (tallied_none P (barred-formed w (plan_bans plan sizes.bans)) few t e) refl
 
   module _ (some : 0 < count) where
-    placed : (p : Place) → place_in P fact ≡ p → reply.Placed p sizes.branching ≡ reply_of (first_of (state_tests P)) P fact
+    placed : (p : Place) → place_in P fact ≡ p → Ok (record { place = p; branching = sizes.branching }) ≡ reply_of (first_of (state_tests P)) P fact
     unfolding first_of verdict_if state_tests reply_of
-    placed p e = rw (tallied_some P (barred-formed w (plan_bans plan sizes.bans)) few t some) (ap₂ reply.Placed (sym e) g_is)
+    placed p e = rw (tallied_some P (barred-formed w (plan_bans plan sizes.bans)) few t some) (λ i. Ok (record { place = sym e i; branching = g_is i }))
 
-    pub placed_nowhere : standing ≡ 0 → reply.Placed Nowhere sizes.branching ≡ reply_of (first_of (state_tests P)) P fact
+    pub placed_nowhere : standing ≡ 0 → Ok (record { place = Nowhere; branching = sizes.branching }) ≡ reply_of (first_of (state_tests P)) P fact
     placed_nowhere e =
         let s = some_state P (tallied_some P (barred-formed w (plan_bans plan sizes.bans)) few t some) in
         placed Nowhere (place_nowhere P fact s.0 s.1
         (λ m k. fails m (none_pass (λ m. atom_holds m fact) t.seen (sym (standing_is) ∙ e) m (seen_into P (barred-formed w (plan_bans plan sizes.bans)) few t (unsettled (inl e)) m k))))
 
-    pub placed_in_some : 0 < standing → standing < count → reply.Placed InSome sizes.branching ≡ reply_of (first_of (state_tests P)) P fact
+    pub placed_in_some : 0 < standing → standing < count → Ok (record { place = InSome; branching = sizes.branching }) ≡ reply_of (first_of (state_tests P)) P fact
     placed_in_some a b =
         let y = one_passes (λ m. atom_holds m fact) t.seen (omega (arith, standing_is)) in
         let z = one_fails (λ m. atom_holds m fact) t.seen (omega (arith, standing_is, t.count_is)) in
         placed InSome (place_in-some P fact y.0 (seen-from P (barred-formed w (plan_bans plan sizes.bans)) few t y.0 y.1) y.2 z.0 (seen-from P (barred-formed w (plan_bans plan sizes.bans)) few t z.0 z.1) z.2)
 
-    pub placed_every : count ≤ standing → reply.Placed Every sizes.branching ≡ reply_of (first_of (state_tests P)) P fact
+    pub placed_every : count ≤ standing → Ok (record { place = Every; branching = sizes.branching }) ≡ reply_of (first_of (state_tests P)) P fact
     placed_every h =
         placed Every (place-every P fact (λ m k. pass_all (λ m. atom_holds m fact) t.seen (omega (arith, standing_is, t.count_is)) m (seen_into P (barred-formed w (plan_bans plan sizes.bans)) few t (unsettled (inr h)) m k)))
 
@@ -182,9 +183,9 @@ module _ {P Q : Program} (a : Alike P Q) (fact : ℕ) where
   pub reply_same : (v : Verdict) → reply_of v P fact ≡ reply_of v Q fact
   unfolding reply_of
   reply_same (Refused c) = refl
-  reply_same Accepted = ap₂ reply.Placed place_same (alike-count a)
+  reply_same Accepted = λ i. Ok (record { place = place_same i; branching = alike-count a i })
 
-  pub reply_over : (r : PlaceReply) → r ≡ reply_of (first_of (state_tests Q)) Q fact → r ≡ reply_of (first_of (state_tests P)) P fact
+  pub reply_over : (r : Result Placed Cause) → r ≡ reply_of (first_of (state_tests Q)) Q fact → r ≡ reply_of (first_of (state_tests P)) P fact
   reply_over r e = e ∙ sym (reply_same (first_of (state_tests Q))) ∙ sym (ap (λ (ts : List Test). reply_of (first_of ts) P fact) state_same)
 
 -- ---- the places, by the stable models of the inductive definition
@@ -222,13 +223,15 @@ module _ (book : List ℕ) (layer off fact : ℕ) where
   unfolding place_reply reply_of
   told p e = go (first_of (place_tests book layer off fact)) refl e
     where
-      go : (v : Verdict) → first_of (place_tests book layer off fact) ≡ v → reply_of v Q fact ≡ reply.Placed p (branching_count Q) → NoCause book layer off fact × (place_in Q fact ≡ p)
+      go : (v : Verdict) → first_of (place_tests book layer off fact) ≡ v → reply_of v Q fact ≡ Ok (record { place = p; branching = branching_count Q }) → NoCause book layer off fact × (place_in Q fact ≡ p)
       go (Refused c) q f = let z : ◌≡◌ {A = ℕ} 0 1 = cc in absurd (omega arith)
-      go Accepted q f = ((accepted-none (place_tests book layer off fact)).0 q, cc)
+      go Accepted q f =
+          let l : ◌≡◌ {A = Placed} (record { place = place_in Q fact; branching = branching_count Q }) (record { place = p; branching = branching_count Q }) = cc in
+          ((accepted-none (place_tests book layer off fact)).0 q, ap (λ (x : Placed). x.place) l)
 
   tells : (p : Place) → NoCause book layer off fact → place_in Q fact ≡ p → Answers book layer off fact p
   unfolding place_reply reply_of
-  tells p n e = ap (λ (v : Verdict). reply_of v Q fact) ((accepted-none (place_tests book layer off fact)).1 n) ∙ ap (λ (x : Place). reply.Placed x (branching_count Q)) e
+  tells p n e = ap (λ (v : Verdict). reply_of v Q fact) ((accepted-none (place_tests book layer off fact)).1 n) ∙ ap (λ (x : Place). Ok (record { place = x; branching = branching_count Q })) e
 
   pub some_model : SomeModel book layer off fact
   unfolding place_tests fact_tests search_tests state_tests
@@ -273,14 +276,15 @@ module _ (book : List ℕ) (layer off fact : ℕ) where
   )
 
   -- a granted answer carries a g of at most 20
-  pub granted-small : (p : Place) (g : ℕ) → place_reply book layer off fact ≡ reply.Placed p g → g ≤ max_branching
+  pub granted-small : (p : Place) (g : ℕ) → place_reply book layer off fact ≡ Ok (record { place = p; branching = g }) → g ≤ max_branching
   unfolding place_reply reply_of place_tests fact_tests search_tests has_too_many_branching
   granted-small p g e = go (first_of (place_tests book layer off fact)) refl e
     where
-      go : (v : Verdict) → first_of (place_tests book layer off fact) ≡ v → reply_of v Q fact ≡ reply.Placed p g → g ≤ max_branching
+      go : (v : Verdict) → first_of (place_tests book layer off fact) ≡ v → reply_of v Q fact ≡ Ok (record { place = p; branching = g }) → g ≤ max_branching
       go (Refused c) q f = let z : ◌≡◌ {A = ℕ} 0 1 = cc in absurd (omega arith)
       go Accepted q f =
-          let b : g ≡ branching_count Q = cc in
+          let l : ◌≡◌ {A = Placed} (record { place = p; branching = g }) (record { place = place_in Q fact; branching = branching_count Q }) = cc in
+          let b : g ≡ branching_count Q = ap (λ (x : Placed). x.branching) l in
           omega (
             arith,
             b,

@@ -1,5 +1,5 @@
 -- Document 01: a fact's place. The causes in order of test, and the answer. Assumes nothing.
-use Rattle.std.specs.Prelude.{◌≡◌, ◌↔◌, Bool, true, false, not, ℕ, T, ltb}
+use Rattle.std.specs.Prelude.{◌≡◌, ◌↔◌, Bool, true, false, not, ℕ, T, ltb, Result, Ok, Err}
 use mathlib.Core.List.{List, [], ◌∷◌, ◌++◌, Memᴰ}
 use Rattle.base.specs.Lists.{all, any}
 use Rattle.models.specs.Program.{Program}
@@ -8,6 +8,7 @@ use Rattle.models.specs.Branching.{branching_count}
 use Rattle.models.specs.Listing.{stable_models}
 use Rattle.table.specs.Table.{program_of}
 use Rattle.book.specs.Causes.{Test, first_of}
+use Rattle.book.specs.declared.Cause.{Cause}
 use Rattle.book.specs.declared.Cause.TheVariants.{NoSuchFact, TooManyBranching, NoStableState}
 use Rattle.book.specs.declared.Verdict.{Verdict}
 use Rattle.book.specs.declared.Verdict.TheVariants.{Accepted, Refused}
@@ -15,8 +16,7 @@ use Rattle.accepted.specs.Driven.{layer_tests}
 use Rattle.passes.specs.Limit.{has_too_many_branching, has_no_stable_state}
 use Rattle.place_call.specs.declared.Place.{Place}
 use Rattle.place_call.specs.declared.Place.TheVariants.{Every, InSome, Nowhere}
-use Rattle.place_call.specs.declared.PlaceReply.{PlaceReply}
-use Rattle.place_call.specs.declared.PlaceReply.TheVariants as reply
+use Rattle.place_call.specs.declared.Placed.{Placed}
 
 -- 14: no stable state
 unfoldable pub state_tests : Program → List Test
@@ -49,12 +49,12 @@ unfoldable pub place_in : Program → ℕ → Place
 place_in P fact = place_by (all (λ m. atom_holds m fact) (stable_models P)) (any (λ m. atom_holds m fact) (stable_models P))
 
 -- a refusal, or the place and g
-unfoldable pub reply_of : Verdict → Program → ℕ → PlaceReply
-reply_of (Refused c) P fact = reply.Refused c
-reply_of Accepted P fact = reply.Placed (place_in P fact) (branching_count P)
+unfoldable pub reply_of : Verdict → Program → ℕ → Result Placed Cause
+reply_of (Refused c) P fact = Err c
+reply_of Accepted P fact = Ok (record { place = place_in P fact; branching = branching_count P })
 
 -- the first cause that applies; where none does, the fact's place with g
-unfoldable pub place_reply : List ℕ → ℕ → ℕ → ℕ → PlaceReply
+unfoldable pub place_reply : List ℕ → ℕ → ℕ → ℕ → Result Placed Cause
 place_reply book layer off fact = reply_of (first_of (place_tests book layer off fact)) (program_of book layer off) fact
 
 -- What each place says of the stable models of the inductive definition; proofs/PlaceLaws.antt proves these for all bytes.
@@ -68,7 +68,7 @@ module _ (book : List ℕ) (layer off fact : ℕ) where
 
   -- the answer is this place, with the number of the branching facts
   abbrev pub Answers : Place → Type 0
-  Answers p = place_reply book layer off fact ≡ reply.Placed p (branching_count (program_of book layer off))
+  Answers p = place_reply book layer off fact ≡ Ok (record { place = p; branching = branching_count (program_of book layer off) })
 
   abbrev pub SomeModel : Type 0
   SomeModel = NoCause → (m : Interpretation) × Model m

@@ -14,22 +14,29 @@ use passes::tally;
 use plan::Sizes;
 use search::Goal;
 
-#[derive(Clone, Copy)]
+// In which of the stable states a fact stands.
+#[derive(Clone, Copy, Debug, PartialEq, Eq)]
 pub enum Place {
     Every,
     InSome,
     Nowhere,
 }
 
-#[derive(Clone, Copy)]
-pub enum PlaceReply {
-    // the place and g
-    Placed(Place, usize),
-    Refused(Cause),
+// What is told of a fact: its place, and g, the number of the branching facts.
+#[derive(Clone, Copy, Debug, PartialEq, Eq)]
+pub struct Placed {
+    pub place: Place,
+    pub branching: usize,
 }
 
 // One pass of the search, which stops once the fact stands in some but not in all of the stable models met.
-pub fn place_found(book: &[u8], rows: &[u16], plan: &[u32], sizes: Sizes, fact: usize) -> PlaceReply
+pub fn place_found(
+    book: &[u8],
+    rows: &[u16],
+    plan: &[u32],
+    sizes: Sizes,
+    fact: usize,
+) -> Result<Placed, Cause>
     requires ready { Ready book.now rows.now plan.now sizes }
     requires fact_lt_max_atoms { fact < max_atoms }
     ensures { result ≡ reply_of (first_of (state_tests (planned_program book.now rows.now plan.now sizes))) (planned_program book.now rows.now plan.now sizes) fact }
@@ -39,13 +46,17 @@ pub fn place_found(book: &[u8], rows: &[u16], plan: &[u32], sizes: Sizes, fact: 
     let count = counts.count;
     let standing = counts.weight;
     if count == 0 {
-        return PlaceReply::Refused(Cause::NoStableState);
+        return Err(Cause::NoStableState);
     }
-    if standing == 0 {
-        return PlaceReply::Placed(Place::Nowhere, sizes.branching);
-    }
-    if standing < count {
-        return PlaceReply::Placed(Place::InSome, sizes.branching);
-    }
-    PlaceReply::Placed(Place::Every, sizes.branching)
+    let place = if standing == 0 {
+        Place::Nowhere
+    } else if standing < count {
+        Place::InSome
+    } else {
+        Place::Every
+    };
+    Ok(Placed {
+        place,
+        branching: sizes.branching,
+    })
 }

@@ -32,8 +32,7 @@ use Rattle.accepted.proofs.RecordFacts.{program_atoms}
 use Rattle.candidate.specs.Candidate.{is_bad_candidate}
 use Rattle.candidate.proofs.CandidateLaws.{read_length}
 use Rattle.test_call.specs.Reply.{test_tests, reply_of, test_reply, NoCause, YesExactly, NoExactly}
-use Rattle.test_call.specs.declared.TestReply.{TestReply}
-use Rattle.test_call.specs.declared.TestReply.TheVariants as reply
+use Rattle.std.proofs.Common.{Result, Ok, Err}
 
 -- the first n places of what was read, as the code lends them
 module _ (n : ℕ) (s : List ℕ) (m : List Bool) (e : take n m ≡ interpretation_of n s) where
@@ -89,7 +88,7 @@ stable_over {P} {book} {rows} {count} made {n} e s m q f ef z r t =
 module _ (book : List ℕ) (layer off : ℕ) (candidate : List ℕ) where
   -- the verdict on the book and the layer, as the code holds it
   module _ (v : Verdict) (e : v ≡ first_of (layer_tests book layer off)) where
-    pub layer_refused : (c : Cause) → v ≡ Refused c → reply.Refused c ≡ test_reply book layer off candidate
+    pub layer_refused : (c : Cause) → v ≡ Refused c → Err c ≡ test_reply book layer off candidate
     unfolding test_reply test_tests reply_of
     layer_refused c q =
         sym (ap (λ (w : Verdict). reply_of w (stable (program_of book layer off) (interpretation_of (book_of book).atoms candidate)))
@@ -106,18 +105,13 @@ module _ (book : List ℕ) (layer off : ℕ) (candidate : List ℕ) where
       unfolding test_reply
       answer r er = ap₂ reply_of ten (ap (λ (k : ℕ). stable (program_of book layer off) (interpretation_of k candidate)) (sym en) ∙ sym er)
 
-      pub candidate_refused : t ≡ true → reply.Refused BadCandidate ≡ test_reply book layer off candidate
+      pub candidate_refused : t ≡ true → Err BadCandidate ≡ test_reply book layer off candidate
       unfolding reply_of verdict_if
       candidate_refused f = sym (answer (stable (program_of book layer off) (interpretation_of n candidate)) refl ∙ rw f refl)
 
-      module _ (f : t ≡ false) (r : Bool) (er : r ≡ stable (program_of book layer off) (interpretation_of n candidate)) where
-        pub answered_yes : r ≡ true → reply.Stable ≡ test_reply book layer off candidate
-        unfolding reply_of verdict_if
-        answered_yes g = sym (answer r er ∙ rw (f, g) refl)
-
-        pub answered_no : r ≡ false → reply.NotStable ≡ test_reply book layer off candidate
-        unfolding reply_of verdict_if
-        answered_no g = sym (answer r er ∙ rw (f, g) refl)
+      pub answered : t ≡ false → (r : Bool) → r ≡ stable (program_of book layer off) (interpretation_of n candidate) → Ok r ≡ test_reply book layer off candidate
+      unfolding reply_of verdict_if
+      answered f r er = sym (answer r er ∙ rw f refl)
 
   -- the state that the candidate gives
   abbrev state : Interpretation
@@ -129,43 +123,27 @@ module _ (book : List ℕ) (layer off : ℕ) (candidate : List ℕ) where
   state_stable : T (stable (program_of book layer off) state) → StableModel (program_of book layer off) state
   state_stable t = stable_sound (program_of book layer off) state state_size t
 
-  answer-from : (v : Verdict) (b : Bool) (r : TestReply) → reply_of v b ≡ r → ((c : Cause) → r ≡ reply.Refused c → ⊥) → v ≡ Accepted
-  unfolding reply_of
-  answer-from Accepted b r e n = refl
-  answer-from (Refused c) b r e n = absurd (n c (sym e))
-
-  yes_from : (b : Bool) → reply_of Accepted b ≡ reply.Stable → b ≡ true
-  unfolding reply_of
-  yes_from true e = refl
-  yes_from false e = let z : ◌≡◌ {A = ℕ} 0 1 = cc in absurd (omega arith)
-
-  no_from : (b : Bool) → reply_of Accepted b ≡ reply.NotStable → b ≡ false
-  unfolding reply_of
-  no_from true e = let z : ◌≡◌ {A = ℕ} 0 1 = cc in absurd (omega arith)
-  no_from false e = refl
-
   -- "yes" or "no" with no cause, and the test's answer
-  answered : (r : TestReply) (b : Bool) → ((c : Cause) → r ≡ reply.Refused c → ⊥) → ((x : Bool) → reply_of Accepted x ≡ r → x ≡ b)
-      → test_reply book layer off candidate ≡ r → NoCause book layer off candidate × (stable (program_of book layer off) state ≡ b)
-  unfolding test_reply
-  answered r b n f e =
-      let a : first_of (test_tests book layer off candidate) ≡ Accepted = answer-from (first_of (test_tests book layer off candidate)) (stable (program_of book layer off) state) r e n in
-      ((accepted-none (test_tests book layer off candidate)).0 a, f (stable (program_of book layer off) state) (ap (λ (v : Verdict). reply_of v (stable (program_of book layer off) state)) (sym a) ∙ e))
+  told : (b : Bool) → test_reply book layer off candidate ≡ Ok b → NoCause book layer off candidate × (stable (program_of book layer off) state ≡ b)
+  unfolding test_reply reply_of
+  told b e = go (first_of (test_tests book layer off candidate)) refl e
+    where
+      go : (v : Verdict) → first_of (test_tests book layer off candidate) ≡ v → reply_of v (stable (program_of book layer off) state) ≡ Ok b → NoCause book layer off candidate × (stable (program_of book layer off) state ≡ b)
+      go (Refused c) q f = let z : ◌≡◌ {A = ℕ} 0 1 = cc in absurd (omega arith)
+      go Accepted q f = ((accepted-none (test_tests book layer off candidate)).0 q, cc)
 
-  answers : (b : Bool) → NoCause book layer off candidate → stable (program_of book layer off) state ≡ b → test_reply book layer off candidate ≡ reply_of Accepted b
-  unfolding test_reply
-  answers b n e = ap₂ reply_of ((accepted-none (test_tests book layer off candidate)).1 n) e
+  tells : (b : Bool) → NoCause book layer off candidate → stable (program_of book layer off) state ≡ b → test_reply book layer off candidate ≡ Ok b
+  unfolding test_reply reply_of
+  tells b n e = ap₂ reply_of ((accepted-none (test_tests book layer off candidate)).1 n) e
 
   pub yes_exactly : YesExactly book layer off candidate
-  unfolding reply_of
   yes_exactly = (
-    λ e. let w = answered reply.Stable true (λ c q. let z : ◌≡◌ {A = ℕ} 0 1 = cc in omega arith) yes_from e in (w.0, state_stable (subst T (sym w.1) tt)),
-    λ w. answers true w.0 (passed (stable (program_of book layer off) state) (stable_complete (program_of book layer off) state w.1)),
+    λ e. let w = told true e in (w.0, state_stable (subst T (sym w.1) tt)),
+    λ w. tells true w.0 (passed (stable (program_of book layer off) state) (stable_complete (program_of book layer off) state w.1)),
   )
 
   pub no_exactly : NoExactly book layer off candidate
-  unfolding reply_of
   no_exactly = (
-    λ e. let w = answered reply.NotStable false (λ c q. let z : ◌≡◌ {A = ℕ} 0 1 = cc in omega arith) no_from e in (w.0, λ m. subst T w.1 (stable_complete (program_of book layer off) state m)),
-    λ w. answers false w.0 (failed (stable (program_of book layer off) state) (λ t. w.1 (state_stable t))),
+    λ e. let w = told false e in (w.0, λ m. subst T w.1 (stable_complete (program_of book layer off) state m)),
+    λ w. tells false w.0 (failed (stable (program_of book layer off) state) (λ t. w.1 (state_stable t))),
   )

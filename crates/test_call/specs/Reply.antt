@@ -1,18 +1,17 @@
 -- Document 01: testing a candidate. Its causes in order of test, and its answer. Assumes nothing.
-use Rattle.std.specs.Prelude.{◌≡◌, ◌↔◌, Bool, true, false, ℕ}
+use Rattle.std.specs.Prelude.{◌≡◌, ◌↔◌, Bool, true, false, ℕ, Result, Ok, Err}
 use mathlib.Core.List.{List, [], ◌∷◌, ◌++◌, Memᴰ}
 use Rattle.format.specs.Book.{book_of}
 use Rattle.models.specs.StableModels.{stable, StableModel}
 use Rattle.models.specs.Listing.{interpretation_of}
 use Rattle.table.specs.Table.{program_of}
 use Rattle.book.specs.Causes.{Test, first_of}
+use Rattle.book.specs.declared.Cause.{Cause}
 use Rattle.book.specs.declared.Cause.TheVariants.{BadCandidate}
 use Rattle.book.specs.declared.Verdict.{Verdict}
 use Rattle.book.specs.declared.Verdict.TheVariants.{Accepted, Refused}
 use Rattle.accepted.specs.Driven.{layer_tests}
 use Rattle.candidate.specs.Candidate.{is_bad_candidate}
-use Rattle.test_call.specs.declared.TestReply.{TestReply}
-use Rattle.test_call.specs.declared.TestReply.TheVariants as reply
 
 -- the causes of the book and of the driven layer, then 10
 unfoldable pub test_tests : List ℕ → ℕ → ℕ → List ℕ → List Test
@@ -20,13 +19,12 @@ test_tests book layer off candidate =
     layer_tests book layer off ++ (record { cause = BadCandidate; applies = is_bad_candidate (book_of book).atoms candidate } ∷ [])
 
 -- a refusal, or yes or no
-unfoldable pub reply_of : Verdict → Bool → TestReply
-reply_of (Refused c) isStable = reply.Refused c
-reply_of Accepted true = reply.Stable
-reply_of Accepted false = reply.NotStable
+unfoldable pub reply_of : Verdict → Bool → Result Bool Cause
+reply_of (Refused c) isStable = Err c
+reply_of Accepted isStable = Ok isStable
 
 -- the first cause that applies; where none does, whether the state that the candidate gives is stable at the layer
-unfoldable pub test_reply : List ℕ → ℕ → ℕ → List ℕ → TestReply
+unfoldable pub test_reply : List ℕ → ℕ → ℕ → List ℕ → Result Bool Cause
 test_reply book layer off candidate =
     reply_of (first_of (test_tests book layer off candidate)) (stable (program_of book layer off) (interpretation_of (book_of book).atoms candidate))
 
@@ -41,7 +39,7 @@ module _ (book : List ℕ) (layer off : ℕ) (candidate : List ℕ) where
   CandidateStable = StableModel (program_of book layer off) (interpretation_of (book_of book).atoms candidate)
 
   abbrev pub YesExactly : Type 0
-  YesExactly = (test_reply book layer off candidate ≡ reply.Stable) ↔ (NoCause × CandidateStable)
+  YesExactly = (test_reply book layer off candidate ≡ Ok true) ↔ (NoCause × CandidateStable)
 
   abbrev pub NoExactly : Type 0
-  NoExactly = (test_reply book layer off candidate ≡ reply.NotStable) ↔ (NoCause × (CandidateStable → ⊥))
+  NoExactly = (test_reply book layer off candidate ≡ Ok false) ↔ (NoCause × (CandidateStable → ⊥))

@@ -26,13 +26,6 @@ use tester::is_stable;
 // The numbers of the rows of all rules.
 const ROWS: usize = ROW_SIZE * MAX_RULES;
 
-#[derive(Clone, Copy)]
-pub enum TestReply {
-    Stable,
-    NotStable,
-    Refused(Cause),
-}
-
 // Whether the body of a constraint that counts at the layer holds in a state.
 fn forbids(book: &[u8], layer: usize, off: u32, lower: [u32; MAX_LAYERS], m: &[bool]) -> bool
     requires accepted { IsAccepted book.now }
@@ -72,24 +65,21 @@ fn candidate_stable(
     is_stable(book, &rows[0..ROW_SIZE * count], &m[0..n], n, &mut hints)
 }
 
-// Tests a candidate.
-pub fn test(book: &[u8], layer: u32, off: u32, candidate: &[u8]) -> TestReply
+// Whether a candidate is stable.
+pub fn test(book: &[u8], layer: u32, off: u32, candidate: &[u8]) -> Result<bool, Cause>
     ensures { result ≡ test_reply book.now layer off candidate.now }
 {
     let checked = check_layer(book, layer, off);
     let lower = checked.lower;
     let v = checked.verdict;
     match v {
-        Verdict::Refused(c) => TestReply::Refused(c),
+        Verdict::Refused(c) => Err(c),
         Verdict::Accepted => {
             let n = atom_count(book);
             if bad_candidate(candidate, n) {
-                return TestReply::Refused(Cause::BadCandidate);
+                return Err(Cause::BadCandidate);
             }
-            if candidate_stable(book, layer as usize, off, lower, candidate, n) {
-                return TestReply::Stable;
-            }
-            TestReply::NotStable
+            Ok(candidate_stable(book, layer as usize, off, lower, candidate, n))
         }
     }
 }

@@ -26,6 +26,6 @@ pub returns-then-end : goal.returns-then-end
 returns-then-end c =
     state_written_lem c.requires.ready c.args.candidate.now c.record_size-size.result c.record_size-size.ensures.0 c.args.buffer.now c.if-buffer-size.false (read_cut c.args.candidate.now c.args.sizes.n c.read_candidate-wanted.result c.read_candidate-wanted.ensures) c.write_nearest-end.ensures c.if-end.true
 
-pub returns : goal.returns
-returns c =
+pub returns-else-end : goal.returns-else-end
+returns-else-end c =
     state_refused c.requires.ready c.args.candidate.now c.record_size-size.result c.record_size-size.ensures.0 c.args.buffer.now c.if-buffer-size.false (read_cut c.args.candidate.now c.args.sizes.n c.read_candidate-wanted.result c.read_candidate-wanted.ensures) c.write_nearest-end.ensures c.if-end.false

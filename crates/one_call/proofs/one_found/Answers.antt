@@ -19,6 +19,6 @@ pub returns-then-found : goal.returns-then-found
 returns-then-found c =
     state_written_lem c.requires c.record_size-size.result c.record_size-size.ensures.0 c.args.buffer.now c.if-buffer-size.false c.write_first-found.ensures c.if-found.true
 
-pub returns : goal.returns
-returns c =
+pub returns-else-found : goal.returns-else-found
+returns-else-found c =
     state_refused c.requires c.record_size-size.result c.record_size-size.ensures.0 c.args.buffer.now c.if-buffer-size.false c.write_first-found.ensures c.if-found.false

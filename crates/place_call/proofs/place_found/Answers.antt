@@ -30,6 +30,6 @@ pub returns-then-standing-count : goal.returns-then-standing-count
 returns-then-standing-count c =
     placed_in_some c.requires.ready c.tally-counts.ensures c.args.fact (fact_asked c.args.fact c.requires.fact_lt_max_atoms) (omega (arith, c.if-count-eq0.false)) (omega (arith, c.if-standing-eq0.false)) c.if-standing-count.true
 
-pub returns : goal.returns
-returns c =
+pub returns-else-standing-count : goal.returns-else-standing-count
+returns-else-standing-count c =
     placed_every c.requires.ready c.tally-counts.ensures c.args.fact (fact_asked c.args.fact c.requires.fact_lt_max_atoms) (omega (arith, c.if-count-eq0.false)) c.if-standing-count.false
