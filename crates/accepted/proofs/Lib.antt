@@ -4,3 +4,4 @@ pub mod PreparedLaws
 pub mod FirstLaws
 pub mod DrivenLaws
 pub mod SwitchedOffLaws
+pub mod GrantedLaws
