@@ -1,35 +1,32 @@
-// The constraints that count at a layer: each relevant one's body as one number, made in one walk over the rules' records, and whether
-// some body holds in a finished state. Bodies stay where they are in the book.
+// The constraints that count at a layer: where each relevant one's body stands in the book, found in one walk over the rules' records, and
+// whether some body holds in a finished state.
 #![tactic(auto)]
 
-ghost use Rattle.std.specs.Prelude.{◌≡◌, ◌&&◌, map, ◌<◌, ◌≤◌, eqb, length, get_or, drop};
+ghost use Rattle.std.specs.Prelude.{◌≡◌, ◌&&◌, map, ◌<◌, ◌≤◌, eqb, length, drop};
 ghost use Rattle.base.specs.Bounds.{max_layers, max_rules};
 ghost use Rattle.base.specs.Lists.{all, any, filter};
 ghost use Rattle.layers.specs.Masks.{bit_of};
 ghost use Rattle.format.specs.Book.{literal_of, rule_of, records, is_falsity};
 ghost use Rattle.models.specs.StableModels.{holds};
-ghost use Rattle.table.specs.Rows.{takes_constraint};
+ghost use Rattle.table.specs.Rows.{span_bytes, takes_constraint};
 ghost use Rattle.table.specs.Table.{program_of, RuleRecords, Prepared};
-ghost use Rattle.bans.specs.Bans.{ban_bytes, bodies_of, BansFit, BansMade};
+ghost use Rattle.bans.specs.Bans.{nth_ban, bodies_of, BansFit, BansMade};
 
-use base::{MAX_LAYERS, wide};
+use base::MAX_LAYERS;
 use format::is_falsity;
-use table::{body_holds, has_layer, relevant_layers};
+use table::{Span, body_holds, has_layer, relevant_layers, span_bytes};
 
 // A constraint's body, as a part of the book that starts in its middle.
-pub fn ban_body<'a>(book: &'a [u8], bans: &[u32], k: usize) -> &'a [u8]
+pub fn ban_body<'a>(book: &'a [u8], bans: &[Span], k: usize) -> &'a [u8]
     requires bans_fit { BansFit book.now bans.now }
     requires k_in_bounds { k < length bans.now }
-    ensures { result.now ≡ ban_bytes book.now (get_or bans.now k 0) }
+    ensures { result.now ≡ span_bytes book.now (nth_ban bans.now k) }
 {
-    let ban = bans[k] as usize;
-    let from = ban / 256;
-    let to = from + ban % 256;
-    &book[from..to]
+    span_bytes(book, bans[k])
 }
 
 // Whether the body of some constraint holds in a state.
-pub fn banned(book: &[u8], bans: &[u32], m: &[bool]) -> bool
+pub fn banned(book: &[u8], bans: &[Span], m: &[bool]) -> bool
     requires { BansFit book.now bans.now }
     ensures { result ≡ any (all (holds m.now)) (bodies_of book.now bans.now) }
 {
@@ -54,9 +51,9 @@ fn takes_constraint(mask: u32, layer: usize, a: u8, b: u8) -> bool
     false
 }
 
-// Writes the numbers of the constraints whose layer is in the mask, in their order, and says how many there are: one walk over the records
+// Writes where the bodies of the constraints stand whose layer is in the mask, in their order, and says how many there are: one walk over the records
 // by length byte.
-pub fn make_bans(book: &[u8], first: usize, mask: u32, bans: &mut [u32]) -> usize
+pub fn make_bans(book: &[u8], first: usize, mask: u32, bans: &mut [Span]) -> usize
     requires rule_records { RuleRecords (drop first book.now) }
     requires first_in_bounds { first ≤ length book.now }
     requires book_len_bound { length book.now < 65536 }
@@ -66,20 +63,20 @@ pub fn make_bans(book: &[u8], first: usize, mask: u32, bans: &mut [u32]) -> usiz
     let mut count = 0;
     let mut at = first;
     while at < book.len() {
-        let len = wide(book[at]);
-        let layer = wide(book[at + 1]);
-        let a = book[at + 2];
-        let b = book[at + 3];
-        if takes_constraint(mask, layer, a, b) {
-            bans[count] = ((at + 4) * 256 + (len - 3)) as u32;
+        let len = book[at];
+        if takes_constraint(mask, book[at + 1] as usize, book[at + 2], book[at + 3]) {
+            bans[count] = Span {
+                start: (at + 4) as u16,
+                size: len - 3,
+            };
             count += 1;
         }
-        at = at + 1 + len;
+        at = at + 1 + len as usize;
     }
     count
 }
 
-// Writes the numbers of the constraints that count at a layer, of that layer and of those below it that are not switched off, and says how
+// Writes where the bodies of the constraints stand that count at a layer, of that layer and of those below it that are not switched off, and says how
 // many there are.
 pub fn ban_table(
     book: &[u8],
@@ -87,7 +84,7 @@ pub fn ban_table(
     layer: usize,
     off: u32,
     lower: [u32; MAX_LAYERS],
-    bans: &mut [u32],
+    bans: &mut [Span],
 ) -> usize
     requires prepared { Prepared book.now first lower }
     requires layer_lt_max_layers { layer < max_layers }

@@ -12,6 +12,7 @@ use Rattle.base.specs.Lists.{cons_if, filter, up_to}
 use Rattle.models.specs.Program.{Program}
 use Rattle.models.specs.StableModels.{atom_holds, overrides}
 use Rattle.models.specs.Branching.{can_reject, branching, branching_atoms, branching_count}
+use Rattle.table.specs.declared.Row.{Row}
 use Rattle.table.specs.Table.{Tabulates}
 use Rattle.table.specs.Tabled.{tabled}
 use Rattle.branching.specs.Marks.{BranchingMarks, Listed}
@@ -71,11 +72,11 @@ module _ (P : Program) where
   }
 
 -- what is marked branches, however many facts there are
-pub marked-branches : (book rows : List ℕ) (n : ℕ) (marks : List Bool) → BranchingMarks (tabled book rows 0) marks → (f : ℕ) → f < max_atoms → (c : Bool) → get_or marks f false ≡ c
+pub marked-branches : (book : List ℕ) (rows : List Row) (n : ℕ) (marks : List Bool) → BranchingMarks (tabled book rows 0) marks → (f : ℕ) → f < max_atoms → (c : Bool) → get_or marks f false ≡ c
     → branching (tabled book rows n) f ≡ c
 unfolding atom_holds branching can_reject overrides tabled
 marked-branches book rows n marks m f h c e = sym (m.marked f h) ∙ e
 
-pub table_alone : (book rows : List ℕ) (n : ℕ) → Tabulates (tabled book rows n) book rows → Tabulates (tabled book rows 0) book rows
+pub table_alone : (book : List ℕ) (rows : List Row) (n : ℕ) → Tabulates (tabled book rows n) book rows → Tabulates (tabled book rows 0) book rows
 unfolding overrides tabled
 table_alone book rows n w = record { fits = w.fits; rules = w.rules; sound = w.sound; full = w.full; exact = w.exact }

@@ -21,11 +21,13 @@ use Rattle.format.specs.Book.{Rule, literals_of}
 use Rattle.models.specs.Program.{Program}
 use Rattle.models.specs.StableModels.{atom_holds, overrides}
 use Rattle.models.specs.Branching.{can_reject, branching}
-use Rattle.table.specs.Rows.{row_count, overridden, row_body, row_at, rows_of}
+use Rattle.table.specs.declared.Row.{Row}
+use Rattle.table.specs.Rows.{row_count, overridden, row_body, row_at}
 use Rattle.table.specs.Table.{Tabulates}
+use Rattle.table.proofs.RowLaws.{rows_listed}
 use Rattle.branching.specs.Marks.{branches_in, BodyMarked, BranchingMarks}
 
-module _ (P : Program) (book rows : List ℕ) where
+module _ (P : Program) (book : List ℕ) (rows : List Row) where
   -- the facts that the first rows make branch
   unfoldable pub row_branches : ℕ → ℕ → Bool
   row_branches f j = branches_in (can_reject P (row_at book rows j)) f (row_at book rows j).body
@@ -50,7 +52,7 @@ module _ (P : Program) (book rows : List ℕ) where
   any-map p [] = refl
   any-map p (x ∷ xs) = ap (λ (c : Bool). p (row_at book rows x) || c) (any-map p xs)
 
-module _ (P : Program) (book rows : List ℕ) (w : Tabulates P book rows) where
+module _ (P : Program) (book : List ℕ) (rows : List Row) (w : Tabulates P book rows) where
   -- some rule is overridden exactly where the mask is not 0
   rejecting_is : (j : ℕ) → j < row_count rows → not (eqb (overridden rows j) 0) ≡ can_reject P (row_at book rows j)
   unfolding can_reject
@@ -87,7 +89,7 @@ module _ (P : Program) (book rows : List ℕ) (w : Tabulates P book rows) where
   }
 
   pub rows_end : (j : ℕ) (marks : List Bool) → row_count rows ≤ j → RowsMarked P book rows j marks → BranchingMarks P marks
-  unfolding branching branches_in row_branches rows_of
+  unfolding branching branches_in row_branches
   rows_end j marks h m =
       let e : j ≡ row_count rows = omega (arith, m.inside) in
       record {
@@ -95,5 +97,5 @@ module _ (P : Program) (book rows : List ℕ) (w : Tabulates P book rows) where
         marked = λ f b.
             m.marked f b ∙ ap (λ (k : ℕ). any (row_branches P book rows f) (up_to k)) e
             ∙ sym (any-map P book rows (λ r. branches_in (can_reject P r) f r.body) (up_to (row_count rows)))
-            ∙ ap (any (λ r. branches_in (can_reject P r) f r.body)) w.rules;
+            ∙ ap (any (λ r. branches_in (can_reject P r) f r.body)) (sym (rows_listed book rows) ∙ w.rules);
       }

@@ -9,7 +9,7 @@ ghost use Rattle.branching.specs.Marks.{BodyMarked, BranchingMarks, Listed};
 
 use base::MAX_ATOMS;
 use format::literal_value;
-use table::{ROW_SIZE, row_body, row_overridden};
+use table::{Row, row_body, row_overridden};
 
 // Whether the literal of number v makes its fact branch: it is negated, or its rule can displace. No fact is past the bound.
 fn branches(v: usize, rejecting: bool) -> bool
@@ -41,12 +41,12 @@ fn mark_body(body: &[u8], rejecting: bool, marks: &mut [bool])
 
 // Marks the branching facts, where nothing is marked yet: a rule can displace exactly where its mask of overridden layers is not
 // empty. How many facts there are plays no part.
-fn mark_branching(book: &[u8], rows: &[u16], marks: &mut [bool])
+fn mark_branching(book: &[u8], rows: &[Row], marks: &mut [bool])
     requires tabulates { Tabulates (tabled book.now rows.now 0) book.now rows.now }
     requires marks_value { marks.old ≡ replicate max_atoms false }
     ensures { BranchingMarks (tabled book.now rows.now 0) marks.new }
 {
-    let count = rows.len() / ROW_SIZE;
+    let count = rows.len();
     let mut j = 0;
     while j < count {
         mark_body(row_body(book, rows, j), row_overridden(rows, j) != 0, marks);
@@ -65,7 +65,7 @@ fn put_atom(atoms: &mut [u32], at: usize, f: usize)
 }
 
 // Lists the branching facts, rising, and says how many they are. More than a search goes through have no place in the list.
-pub fn branching_atoms(book: &[u8], rows: &[u16], n: usize, atoms: &mut [u32]) -> usize
+pub fn branching_atoms(book: &[u8], rows: &[Row], n: usize, atoms: &mut [u32]) -> usize
     requires tabulates { Tabulates (tabled book.now rows.now n) book.now rows.now }
     requires n_le_max_atoms { n ≤ max_atoms }
     requires atoms_len { length atoms.old ≡ max_branching }

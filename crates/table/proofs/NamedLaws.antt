@@ -12,12 +12,13 @@ use Rattle.models.specs.Program.{Program}
 use Rattle.models.specs.StableModels.{complement, same_literal, overrides}
 use Rattle.models.proofs.LeastLaws.{literal_same, literal_refl}
 use Rattle.models.proofs.SelfLeaningLaws.{overrides-asks, overrides_of}
+use Rattle.table.specs.declared.Row.{Row}
 use Rattle.table.specs.Rows.{row_count, overridden, row_at}
 use Rattle.table.specs.Table.{Tabulates}
 use Rattle.table.specs.Named.{named, NamedExactly}
 use Rattle.table.proofs.RowLaws.{row_in, row_of}
 
-module _ {P : Program} {book rows : List ℕ} (w : Tabulates P book rows) where
+module _ {P : Program} {book : List ℕ} {rows : List Row} (w : Tabulates P book rows) where
   pub named-exactly : NamedExactly P book rows
   unfolding named
   named-exactly j k a b =

@@ -4,7 +4,7 @@ use mathlib.Core.Path.{◌≡◌, refl, sym, ap, subst, ◌∙◌}
 use mathlib.Core.Logic.{⊎_elim}
 use mathlib.Core.Bool.{Bool, true, false, not, cond}
 use mathlib.Core.List.{List}
-use Prim.Native.Nat.{ℕ, ◌+◌, ◌*◌, ◌/◌, ◌%◌, ◌^◌, ◌<◌}
+use Prim.Native.Nat.{ℕ, ◌+◌, ◌*◌, ◌%◌, ◌^◌, ◌<◌}
 use native.Mathlib.Decide.{dec_lt, ℕ_discrete}
 use native.Mathlib.Omega.{arith}
 use lib.Bits.{bit_and, bit_or}
@@ -17,12 +17,14 @@ use Rattle.format.specs.Book.{Rule}
 use Rattle.models.specs.StableModels.{complement, leans_on_itself}
 use Rattle.layers.proofs.BitLaws.{pow-fits, bit-same, bit-other, no_bit, no_bits, or_cases, or_left, or_right, and_first, and_second, and_both}
 use Rattle.table.specs.Names.{literal_named}
-use Rattle.table.specs.Rows.{row_size, row_count, head_name, row_layer, overridden, with_mask, row_at, SameRules}
+use Rattle.table.specs.declared.Row.{Row}
+use Rattle.table.specs.declared.TheConstants.{NO_ROW}
+use Rattle.table.specs.Rows.{nth, row_count, head_name, row_layer, overridden, with_mask, row_at, SameRules}
 use Rattle.table.specs.Overriding.{HeadAt, HeadLayers, OpposedAt, unless_leaning, Overridden}
-use Rattle.table.proofs.RowLaws.{count_same, row_kept}
+use Rattle.table.proofs.RowLaws.{count_same, name_kept, layer_kept, row_kept}
 use Rattle.table.proofs.NameLaws.{one_name}
 
-pub heads-start : (rows : List ℕ) → HeadLayers rows (replicate {A = ℕ} max_names 0) 0
+pub heads-start : (rows : List Row) → HeadLayers rows (replicate {A = ℕ} max_names 0) 0
 heads-start rows = record {
   size = length-replicate {A = ℕ} max_names 0;
   sound = λ h i z. absurd (no_bit i (subst (λ (x : ℕ). bit_of x i ≡ 1) (no_bits max_names h) z));
@@ -30,7 +32,7 @@ heads-start rows = record {
 }
 
 -- one row on: bit `layer` of the mask at its head's name h
-module _ (rows masks : List ℕ) (j h layer : ℕ) (w : HeadLayers rows masks j) (eh : h ≡ head_name rows j) (bh : h < max_names) (el : layer ≡ row_layer rows j) (bl : layer < max_layers) where
+module _ (rows : List Row) (masks : List ℕ) (j h layer : ℕ) (w : HeadLayers rows masks j) (eh : h ≡ head_name rows j) (bh : h < max_names) (el : layer ≡ row_layer rows j) (bl : layer < max_layers) where
   abbrev added : ℕ
   added = bit_or (get_or masks h 0) (1 * 2 ^ layer % 4294967296)
 
@@ -74,7 +76,7 @@ module _ (rows masks : List ℕ) (j h layer : ℕ) (w : HeadLayers rows masks j)
           (or_right (get_or masks h 0) (1 * 2 ^ layer % 4294967296) i
           (subst (λ (z : ℕ). bit_of z i ≡ 1) (sym (pow-fits layer bl)) (subst (λ (k : ℕ). bit_of (2 ^ layer) k ≡ 1) f (bit-same layer))))
 
-pub overridden-start : (book rows lower table : List ℕ) → Overridden book rows lower table 0
+pub overridden-start : (book : List ℕ) (rows : List Row) (lower : List ℕ) (table : List Row) → Overridden book rows lower table 0
 overridden-start book rows lower table = record {
   sound = λ j b. absurd (omega arith);
   opposed = λ j b. absurd (omega arith);
@@ -82,42 +84,37 @@ overridden-start book rows lower table = record {
   full = λ j b. absurd (omega arith);
 }
 
-pub rules-start : (rows : List ℕ) → SameRules rows rows
-rules-start rows = record { size = refl; same = λ j c h. refl }
+pub rules-start : (rows : List Row) → SameRules rows rows
+rules-start rows = record { size = refl; same = λ j. refl }
 
--- a row's mask is written, in two halves
-module _ (rows table : List ℕ) (r : SameRules rows table) (j mask : ℕ) (b : j < row_count rows) where
-  abbrev masked : List ℕ
+-- a row's mask is written
+module _ (rows table : List Row) (r : SameRules rows table) (j mask : ℕ) (b : j < row_count rows) where
+  abbrev masked : List Row
   masked = with_mask table j mask
 
-  kept : (i : ℕ) → (i ≡ row_size * j + 4 → ⊥) → (i ≡ row_size * j + 5 → ⊥) → get_or masked i 0 ≡ get_or table i 0
-  kept i m n =
-      get_or-set_other (set table (row_size * j + 4) (mask / 65536)) (row_size * j + 5) i (mask % 65536) 0 n
-      ∙ get_or-set_other table (row_size * j + 4) i (mask / 65536) 0 m
+  nth_here : nth masked j ≡ record (nth table j) { overridden = mask }
+  nth_here = get_or-set_same table j (record (nth table j) { overridden = mask }) NO_ROW (omega (arith, r.size))
 
-  -- the other numbers of the rows are as they were
-  pub rules-more : SameRules rows masked
-  rules-more = record {
-    size = length-set (set table (row_size * j + 4) (mask / 65536)) (row_size * j + 5) (mask % 65536) ∙ length-set table (row_size * j + 4) (mask / 65536) ∙ r.size;
-    same = λ x c h. kept (row_size * x + c) (λ e. omega arith) (λ e. omega arith) ∙ r.same x c h;
-  }
-
-  at_high : get_or masked (row_size * j + 4) 0 ≡ mask / 65536
-  at_high =
-      get_or-set_other (set table (row_size * j + 4) (mask / 65536)) (row_size * j + 5) (row_size * j + 4) (mask % 65536) 0 (omega arith)
-      ∙ get_or-set_same table (row_size * j + 4) (mask / 65536) 0 (omega (arith, r.size))
-
-  at_low : get_or masked (row_size * j + 5) 0 ≡ mask % 65536
-  at_low =
-      get_or-set_same (set table (row_size * j + 4) (mask / 65536)) (row_size * j + 5) (mask % 65536) 0
-      (simp length-set (omega (arith, r.size)))
+  nth_there : (x : ℕ) → (x ≡ j → ⊥) → nth masked x ≡ nth table x
+  nth_there x n = get_or-set_other table j x (record (nth table j) { overridden = mask }) NO_ROW n
 
   mask_here : (x : ℕ) → x ≡ j → overridden masked x ≡ mask
-  mask_here x e = ap (overridden masked) e ∙ omega (arith, at_high, at_low)
+  mask_here x e = ap (overridden masked) e ∙ ap (λ (t : Row). t.overridden) nth_here
 
   mask_there : (x : ℕ) → x < j → overridden masked x ≡ overridden table x
-  mask_there x h =
-      omega (arith, kept (row_size * x + 4) (λ e. omega arith) (λ e. omega arith), kept (row_size * x + 5) (λ e. omega arith) (λ e. omega arith))
+  mask_there x h = ap (λ (t : Row). t.overridden) (nth_there x (λ e. omega arith))
+
+  -- the rest of each row is as it was
+  pub rules-more : SameRules rows masked
+  rules-more = record { size = length-set table j (record (nth table j) { overridden = mask }) ∙ r.size; same = λ x. at x (ℕ_discrete x j) }
+    where
+      at : (x : ℕ) → Dec (x ≡ j) → nth masked x ≡ record (nth rows x) { overridden = overridden masked x }
+      at x (yes e) =
+          subst (λ (y : ℕ). nth masked y ≡ record (nth rows y) { overridden = overridden masked y }) (sym e)
+          (nth_here ∙ ap (λ (t : Row). record t { overridden = mask }) (r.same j) ∙ ap (λ (m : ℕ). record (nth rows j) { overridden = m }) (sym (mask_here j refl)))
+      at x (no n) =
+          nth_there x n ∙ r.same x
+          ∙ ap (λ (m : ℕ). record (nth rows x) { overridden = m }) (sym (ap (λ (t : Row). t.overridden) (nth_there x n)))
 
 -- a rule that leans on itself keeps no bit of a mask, and any other keeps all of it
 module _ (r : Rule) (k : ℕ) where
@@ -151,13 +148,13 @@ unfolding unless_leaning
 unless_told r k c d e f = ap (λ (x : Bool). cond x 0 k) (sym f ∙ e)
 
 -- one row on: of the layers below the row's, those in which the opposite name o stands, and none where the row leans on itself
-module _ (book rows lower heads table : List ℕ) (r : SameRules rows table) (j h o layer mask : ℕ) (w : Overridden book rows lower table j) (b : j < row_count rows)
+module _ (book : List ℕ) (rows : List Row) (lower heads : List ℕ) (table : List Row) (r : SameRules rows table) (j h o layer mask : ℕ) (w : Overridden book rows lower table j) (b : j < row_count rows)
     (hl : HeadLayers rows heads (row_count rows)) (eh : h ≡ head_name rows j) (eo : literal_named o ≡ complement (literal_named h)) (el : layer ≡ row_layer rows j)
     (em : mask ≡ unless_leaning (row_at book table j) (bit_and (get_or heads o 0) (get_or lower layer 0))) where
   abbrev whole : ℕ
   whole = bit_and (get_or heads o 0) (get_or lower layer 0)
 
-  abbrev next : List ℕ
+  abbrev next : List Row
   next = with_mask table j mask
 
   row_is : (x : ℕ) → x ≡ j → row_at book table j ≡ row_at book rows x
@@ -213,28 +210,28 @@ module _ (book rows lower heads table : List ℕ) (r : SameRules rows table) (j 
           (subst (λ (t : ℕ). bit_of (get_or lower t 0) i ≡ 1) (ap (row_layer rows) q ∙ sym el) z))
 
 -- the heads and layers of the rows are those of the table that has the masks
-module _ {rows table : List ℕ} (r : SameRules rows table) where
+module _ {rows table : List Row} (r : SameRules rows table) where
   head-to : {n h i : ℕ} → HeadAt rows n h i → HeadAt table n h i
-  head-to x = record { row = x.row; before = x.before; name_is = r.same x.row 2 (omega arith) ∙ x.name_is; layer_is = r.same x.row 3 (omega arith) ∙ x.layer_is }
+  head-to x = record { row = x.row; before = x.before; name_is = name_kept r x.row ∙ x.name_is; layer_is = layer_kept r x.row ∙ x.layer_is }
 
   head-from : {n h i : ℕ} → HeadAt table n h i → HeadAt rows n h i
-  head-from x = record { row = x.row; before = x.before; name_is = sym (r.same x.row 2 (omega arith)) ∙ x.name_is; layer_is = sym (r.same x.row 3 (omega arith)) ∙ x.layer_is }
+  head-from x = record { row = x.row; before = x.before; name_is = sym (name_kept r x.row) ∙ x.name_is; layer_is = sym (layer_kept r x.row) ∙ x.layer_is }
 
   pub overridden-same : {book lower : List ℕ} → Overridden book rows lower table (row_count rows) → Overridden book table lower table (row_count table)
   overridden-same {book} {lower} w = record {
-    sound = λ j h i z. subst (λ (t : ℕ). bit_of (get_or lower t 0) i ≡ 1) (sym (r.same j 3 (omega arith))) (w.sound j (low j h) i z);
+    sound = λ j h i z. subst (λ (t : ℕ). bit_of (get_or lower t 0) i ≡ 1) (sym (layer_kept r j)) (w.sound j (low j h) i z);
     opposed = λ j h i z.
         let o : OpposedAt rows (head_name rows j) i = w.opposed j (low j h) i z in
         record {
           name = o.name;
-          opposite_is = o.opposite_is ∙ ap (λ (t : ℕ). complement (literal_named t)) (sym (r.same j 2 (omega arith)));
+          opposite_is = o.opposite_is ∙ ap (λ (t : ℕ). complement (literal_named t)) (sym (name_kept r j));
           head_at = subst (λ (n : ℕ). HeadAt table n o.name i) (sym (count_same r)) (head-to o.head_at);
         };
     not_leaning = λ j h i z. subst (λ (t : Rule). T (not (leans_on_itself t))) (sym (row_kept r book j)) (w.not_leaning j (low j h) i z);
     full = λ j h i g e p z n.
-        w.full j (low j h) i g (e ∙ ap (λ (t : ℕ). complement (literal_named t)) (r.same j 2 (omega arith)))
+        w.full j (low j h) i g (e ∙ ap (λ (t : ℕ). complement (literal_named t)) (name_kept r j))
         (head-from (subst (λ (n : ℕ). HeadAt table n g i) (count_same r) p))
-        (subst (λ (t : ℕ). bit_of (get_or lower t 0) i ≡ 1) (r.same j 3 (omega arith)) z)
+        (subst (λ (t : ℕ). bit_of (get_or lower t 0) i ≡ 1) (layer_kept r j) z)
         (subst (λ (t : Rule). T (not (leans_on_itself t))) (row_kept r book j) n);
   }
     where

@@ -1,46 +1,64 @@
 -- Rows and the rules that they stand for: which rules are there, a row's body as the code cuts it, whether it is alive or leans on itself,
 -- and when two rows are the same. Used by every loop over rows. Assumes nothing.
-use mathlib.Core.Path.{◌≡◌, sym, ap, subst, ◌∙◌}
+use mathlib.Core.Path.{◌≡◌, refl, sym, ap, ap₂, subst, ◌∙◌}
 use mathlib.Core.Bool.{not}
 use mathlib.Core.List.Memᴰ
-use mathlib.Core.List.{List, map}
-use Prim.Native.Nat.{ℕ, ◌+◌, ◌*◌, ◌-◌, ◌/◌, ◌^◌, ◌<◌}
+use mathlib.Core.List.{List, [], ◌∷◌, ◌++◌, map}
+use Prim.Native.Nat.{ℕ, zero, suc, ◌≤◌, ◌/◌, ◌^◌, ◌<◌}
 use native.Mathlib.Omega.{arith}
 use lib.Bits.{bit_and}
 use lib.Dec.{eqb}
-use lib.ListN.{get_or, take, drop}
+use lib.ListN.{length, get_or, take}
+use lib.Seq.{take-suc, take-length}
+use Rattle.base.proofs.MapLaws.{map_snoc}
 use Rattle.base.specs.Lists.{any, up_to}
 use Rattle.layers.specs.Masks.{bit_of}
 use Rattle.format.specs.Book.{Literal, Rule, literals_of}
 use Rattle.models.specs.StableModels.{same_literal, leans_on_itself}
 use Rattle.base.proofs.Members.{◌∈◌}
-use Rattle.base.proofs.MapLaws.{map_same}
-use Rattle.base.proofs.UpTo.{up_to_lt, up_to_has}
 use Rattle.layers.proofs.WarshallLaws.{test_bit}
 use Rattle.table.specs.Names.{literal_named, literal_numbered}
-use Rattle.table.specs.Rows.{row_size, row_count, head_name, row_layer, row_body, row_at, alive, rows_of, RowsBounded, RowsFit, SameRules}
+use Rattle.table.specs.declared.Row.{Row}
+use Rattle.table.specs.declared.TheConstants.{NO_ROW}
+use Rattle.table.specs.Rows.{nth, SpanFits, row_count, head_name, row_layer, row_body, row_rule, row_at, alive, rows_of, RowsBounded, RowsFit, SameRules}
 use Rattle.table.proofs.NameLaws.{name_back}
 
-module _ (book rows : List ℕ) where
+module _ {A B : Type 0} (f : A → B) (d : A) where
+  member_at : (xs : List A) (j : ℕ) → j < length xs → f (get_or xs j d) ∈ map f xs
+  member_at [] j h = absurd (omega arith)
+  member_at (x ∷ xs) zero h = Memᴰ.head refl
+  member_at (x ∷ xs) (suc j) h = Memᴰ.tail (member_at xs j (omega arith))
+
+  place_of : (xs : List A) {y : B} → y ∈ map f xs → (j : ℕ) × (j < length xs) × (f (get_or xs j d) ≡ y)
+  place_of [] k = elim k [ ]
+  place_of (x ∷ xs) (Memᴰ.head e) = (0, omega arith, sym e)
+  place_of (x ∷ xs) (Memᴰ.tail k) = let v = place_of xs k in (suc v.0, omega (arith, v.1), v.2)
+
+module _ (book : List ℕ) (rows : List Row) where
   pub row_in : (j : ℕ) → j < row_count rows → row_at book rows j ∈ rows_of book rows
-  unfolding rows_of
-  row_in j h = Memᴰ.map (row_at book rows) (up_to_has (row_count rows) j h)
+  unfolding rows_of row_at
+  row_in j h = member_at (row_rule book) NO_ROW rows j h
 
   pub row_of : (r : Rule) → r ∈ rows_of book rows → (j : ℕ) × (j < row_count rows) × (row_at book rows j ≡ r)
-  unfolding rows_of
-  row_of r k =
-      let w : (j : ℕ) × j ∈ up_to (row_count rows) × (row_at book rows j ≡ r) = Memᴰ.of_map (row_at book rows) (up_to (row_count rows)) k in
-      (w.0, up_to_lt (row_count rows) w.0 w.1, w.2)
+  unfolding rows_of row_at
+  row_of r k = place_of (row_rule book) NO_ROW rows k
 
-  -- a row's body, as the code cuts it
-  pub body-part : (j a e : ℕ) → a ≡ get_or rows (row_size * j) 0 → e ≡ get_or rows (row_size * j + 1) 0
-      → take (a + e - a) (drop a book) ≡ take (get_or rows (row_size * j + 1) 0) (drop (get_or rows (row_size * j) 0) book)
-  body-part j a e p q =
-      ap (λ (k : ℕ). take k (drop a book)) {x = a + e - a} {y = get_or rows (row_size * j + 1) 0} (omega (arith, q))
-      ∙ ap (λ (k : ℕ). take (get_or rows (row_size * j + 1) 0) (drop k book)) p
+-- the rules of the rows, place by place
+module _ {A B : Type 0} (f : A → B) (d : A) (xs : List A) where
+  first_ones : (n : ℕ) → n ≤ length xs → map f (take n xs) ≡ map (λ j. f (get_or xs j d)) (up_to n)
+  unfolding up_to
+  first_ones zero h = refl
+  first_ones (suc n) h =
+      ap (map f) (take-suc xs n d h) ∙ map_snoc f (take n xs) (get_or xs n d)
+      ∙ ap (λ (l : List B). l ++ (f (get_or xs n d) ∷ [])) (first_ones n (omega arith))
+      ∙ sym (map_snoc (λ j. f (get_or xs j d)) (up_to n) n)
+
+pub rows_listed : (book : List ℕ) (rows : List Row) → rows_of book rows ≡ map (row_at book rows) (up_to (row_count rows))
+unfolding rows_of row_at
+rows_listed book rows = ap (map (row_rule book)) (sym (take-length rows)) ∙ first_ones (row_rule book) NO_ROW rows (length rows) (omega arith)
 
 -- the bit that the code tests says whether a row is alive: a row's head has one name
-module _ (book rows rejects : List ℕ) (j h i : ℕ) (p : h ≡ head_name rows j) (q : i ≡ row_layer rows j) where
+module _ (book : List ℕ) (rows : List Row) (rejects : List ℕ) (j h i : ℕ) (p : h ≡ head_name rows j) (q : i ≡ row_layer rows j) where
   pub alive-bit : alive rejects (row_at book rows j) ≡ not (eqb (bit_and (get_or rejects h 0 / 2 ^ i) 1) 1)
   unfolding alive row_at
   alive-bit =
@@ -49,48 +67,50 @@ module _ (book rows rejects : List ℕ) (j h i : ℕ) (p : h ≡ head_name rows 
       ∙ ap (λ (z : ℕ). not (eqb z 1)) (sym (test_bit (get_or rejects h 0) i))
 
 -- a row leans on itself where the literal of its head's number is among its body's
-pub row_leans : (book rows : List ℕ) (j h v : ℕ) (body : List ℕ) → h ≡ head_name rows j → literal_numbered v ≡ literal_named h → body ≡ row_body book rows j
+pub row_leans : (book : List ℕ) (rows : List Row) (j h v : ℕ) (body : List ℕ) → h ≡ head_name rows j → literal_numbered v ≡ literal_named h → body ≡ row_body book rows j
     → any (same_literal (literal_numbered v)) (literals_of body) ≡ leans_on_itself (row_at book rows j)
 unfolding row_at leans_on_itself
 row_leans book rows j h v body p q s =
     ap (λ (l : Literal). any (same_literal l) (literals_of body)) (q ∙ ap literal_named p)
     ∙ ap (λ (b : List ℕ). any (same_literal (literal_named (head_name rows j))) (literals_of b)) s
 
--- rows stand for the same rule where the first four of their numbers are the same
-pub row_same : (book rows other : List ℕ) (j : ℕ) → ((c : ℕ) → c < 4 → get_or rows (row_size * j + c) 0 ≡ get_or other (row_size * j + c) 0) → row_at book rows j ≡ row_at book other j
-unfolding row_at
-row_same book rows other j h =
-    ap (λ (x : ℕ). record { layer = x; head = literal_named (get_or rows (row_size * j + 2) 0); body = literals_of (take (get_or rows (row_size * j + 1) 0) (drop (get_or rows (row_size * j) 0) book)) }) (h 3 (omega arith))
-    ∙ ap (λ (x : ℕ). record { layer = get_or other (row_size * j + 3) 0; head = literal_named x; body = literals_of (take (get_or rows (row_size * j + 1) 0) (drop (get_or rows (row_size * j) 0) book)) }) (h 2 (omega arith))
-    ∙ ap (λ (x : ℕ). record { layer = get_or other (row_size * j + 3) 0; head = literal_named (get_or other (row_size * j + 2) 0); body = literals_of (take x (drop (get_or rows (row_size * j) 0) book)) }) (h 1 (omega arith))
-    ∙ ap (λ (x : ℕ). record { layer = get_or other (row_size * j + 3) 0; head = literal_named (get_or other (row_size * j + 2) 0); body = literals_of (take (get_or other (row_size * j + 1) 0) (drop x book)) })
-    (ap (λ (i : ℕ). get_or rows i 0) {x = row_size * j} {y = row_size * j + 0} (omega arith) ∙ h 0 (omega arith) ∙ ap (λ (i : ℕ). get_or other i 0) {x = row_size * j + 0} {y = row_size * j} (omega arith))
+-- lists that are alike at each place give the same values
+map_alike : {A B : Type 0} (f : A → B) (d : A) (xs ys : List A) → length ys ≡ length xs → ((j : ℕ) → f (get_or xs j d) ≡ f (get_or ys j d)) → map f xs ≡ map f ys
+map_alike f d [] [] e h = refl
+map_alike f d [] (y ∷ ys) e h = absurd (omega arith)
+map_alike f d (x ∷ xs) [] e h = absurd (omega arith)
+map_alike f d (x ∷ xs) (y ∷ ys) e h = ap₂ (λ (z : _) (zs : List _). z ∷ zs) (h 0) (map_alike f d xs ys (omega arith) (λ j. h (suc j)))
 
--- so do tables that are the same but for the masks
-module _ {rows table : List ℕ} (r : SameRules rows table) where
+-- tables that are the same but for the masks
+module _ {rows table : List Row} (r : SameRules rows table) where
   pub count_same : row_count table ≡ row_count rows
-  count_same = ap (λ (n : ℕ). n / row_size) r.size
+  count_same = r.size
+
+  pub name_kept : (j : ℕ) → head_name table j ≡ head_name rows j
+  name_kept j = ap (λ (x : Row). x.head) (r.same j)
+
+  pub layer_kept : (j : ℕ) → row_layer table j ≡ row_layer rows j
+  layer_kept j = ap (λ (x : Row). x.layer) (r.same j)
+
+  body_kept : (j : ℕ) → (nth table j).body ≡ (nth rows j).body
+  body_kept j = ap (λ (x : Row). x.body) (r.same j)
 
   pub bounded-same : RowsBounded rows → RowsBounded table
   bounded-same w = record {
-    name = λ j h. omega (arith, r.same j 2 (omega arith), w.name j (omega (arith, count_same)));
-    layer_low = λ j h. omega (arith, r.same j 3 (omega arith), w.layer_low j (omega (arith, count_same)));
+    name = λ j h. omega (arith, name_kept j, w.name j (omega (arith, count_same)));
+    layer_low = λ j h. omega (arith, layer_kept j, w.layer_low j (omega (arith, count_same)));
   }
 
   pub fits-same : {book : List ℕ} → RowsFit book rows → RowsFit book table
-  fits-same w = record {
+  fits-same {book} w = record {
     bounded = bounded-same w.bounded;
-    part = λ j h. omega (arith, start-same j, r.same j 1 (omega arith), w.part j (omega (arith, count_same)));
+    part = λ j h. subst (SpanFits book) (sym (body_kept j)) (w.part j (omega (arith, count_same)));
   }
-    where
-      start-same : (j : ℕ) → get_or table (row_size * j) 0 ≡ get_or rows (row_size * j) 0
-      start-same j = subst (λ (i : ℕ). get_or table i 0 ≡ get_or rows i 0) {x = row_size * j + 0} {y = row_size * j} (omega arith) (r.same j 0 (omega arith))
 
   pub row_kept : (book : List ℕ) (j : ℕ) → row_at book table j ≡ row_at book rows j
-  row_kept book j = row_same book table rows j (λ c d. r.same j c d)
+  unfolding row_at
+  row_kept book j = cc (name_kept j, layer_kept j, body_kept j)
 
   pub rows_same : (book : List ℕ) → rows_of book table ≡ rows_of book rows
-  unfolding rows_of
-  rows_same book =
-      ap (λ (n : ℕ). map (row_at book table) (up_to n)) count_same
-      ∙ map_same (row_at book table) (row_at book rows) (row_count rows) (λ j h. row_kept book j)
+  unfolding rows_of row_at
+  rows_same book = map_alike (row_rule book) NO_ROW table rows (sym r.size) (λ j. row_kept book j)

@@ -5,7 +5,7 @@ use mathlib.Core.Logic.{⊎_elim}
 use mathlib.Core.Bool.{Bool, not, ◌&&◌, ◌||◌}
 use mathlib.Core.List.Memᴰ
 use mathlib.Core.List.{List, ◌++◌, map}
-use Prim.Native.Nat.{ℕ, ◌*◌, ◌-◌, ◌/◌, ◌%◌, ◌^◌, ◌<◌}
+use Prim.Native.Nat.{ℕ, ◌*◌, ◌-◌, ◌%◌, ◌^◌, ◌<◌}
 use native.Mathlib.Decide.{ℕ_discrete}
 use native.Mathlib.Omega.{arith}
 use borrow.Author.Tests.{eq-eqb, ne_eqb}
@@ -19,7 +19,7 @@ use Rattle.base.specs.Lists.{filter}
 use Rattle.layers.specs.Layers.{below}
 use Rattle.layers.specs.Masks.{bit_of}
 use Rattle.format.specs.Book.{Literal, Rule, rule_of, is_constraint, records, book_of}
-use Rattle.models.specs.Program.{Program, in_set, relevant, program_at}
+use Rattle.models.specs.Program.{in_set, relevant, program_at}
 use Rattle.models.specs.StableModels.{complement, same_literal, overrides}
 use Rattle.base.proofs.Members.{◌∈◌, or_cases, or_left, or_right, same_test}
 use Rattle.layers.proofs.BitLaws as bits
@@ -27,7 +27,8 @@ use Rattle.models.proofs.AlikeLaws.{filter-within}
 use Rattle.models.proofs.LeastLaws.{literal_same, literal_refl}
 use Rattle.models.proofs.SelfLeaningLaws.{overrides-asks, overrides_of}
 use Rattle.table.specs.Names.{literal_named}
-use Rattle.table.specs.Rows.{row_size, row_count, head_name, row_layer, overridden, row_at, rows_of, in_mask, takes_rule, takes_constraint, RowsFit, SameRules}
+use Rattle.table.specs.declared.Row.{Row}
+use Rattle.table.specs.Rows.{row_count, head_name, row_layer, overridden, row_at, rows_of, in_mask, takes_rule, takes_constraint, RowsFit, SameRules}
 use Rattle.table.specs.Overriding.{OpposedAt, Overridden}
 use Rattle.table.specs.Table.{program_of, Prepared, layer_counts, RelevantLayers, RowsMade, Tabulates, TableMade}
 use Rattle.table.proofs.NameLaws.{complement_twice}
@@ -103,7 +104,7 @@ module _ (book : List ℕ) (first : ℕ) (lower : List ℕ) (w : Prepared book f
       ∙ ap (map (λ r. r.body))
       (filter-within (takes_constraint mask) (λ r. relevant (book_of book) layer off r && is_constraint r) (book_of book).rules (λ r k. ap (λ (c : Bool). c && is_constraint r) (mask-relevant r k)))
 
-  module _ (rows : List ℕ) (fits : RowsFit book rows) (rs : rows_of book rows ≡ filter (takes_rule mask) (map rule_of (records (drop first book))))
+  module _ (rows : List Row) (fits : RowsFit book rows) (rs : rows_of book rows ≡ filter (takes_rule mask) (map rule_of (records (drop first book))))
       (un : Overridden book rows lower rows (row_count rows)) where
     row-full : (j : ℕ) → j < row_count rows → (x : ℕ) → x < row_count rows → T (overrides (program_of book layer off) (row_at book rows j) (row_at book rows x)) → bit_of (overridden rows j) (row_at book rows x).layer ≡ 1
     unfolding row_at program_at
@@ -145,40 +146,22 @@ module _ (book : List ℕ) (first : ℕ) (lower : List ℕ) (w : Prepared book f
       exact = row-exact;
     }
 
-pub minus_zero : (n : ℕ) → n - 0 ≡ n
-minus_zero n = omega arith
-
-module _ (book : List ℕ) (first mask : ℕ) (rows : List ℕ) (k : ℕ) (w : RowsMade book first mask rows k) where
-  lent_count : length (take (row_size * k - 0) rows) / row_size ≡ k
-  lent_count = let q : length (take (row_size * k - 0) rows) ≡ row_size * k = simp length-take (omega (arith, w.size, w.room)) in omega arith
-
-  pub lent_fits : RowsFit book (take (row_size * k - 0) rows)
-  lent_fits = subst (λ (x : ℕ). RowsFit book (take x rows)) (sym (minus_zero (row_size * k))) w.fits
-
+module _ (book : List ℕ) (first mask : ℕ) (rows : List Row) (k : ℕ) (w : RowsMade book first mask rows k) where
   -- the first k rows come back with their masks, in front of the rest
-  module _ (part : List ℕ) (r : SameRules (take (row_size * k - 0) rows) part) where
-    part-size : length part ≡ row_size * k - 0
+  module _ (part : List Row) (r : SameRules (take k rows) part) where
+    part-size : length part ≡ k
     part-size = r.size ∙ simp length-take (omega (arith, w.size, w.room))
 
-    same : SameRules (take (row_size * k) rows) part
-    same = subst (λ (x : ℕ). SameRules (take x rows) part) (minus_zero (row_size * k)) r
-
-    in_front : take (row_size * k) (put_mid 0 (row_size * k - 0) rows part) ≡ part
-    in_front =
-        ap (λ (n : ℕ). take n (part ++ drop (row_size * k - 0) rows)) (sym (part-size ∙ minus_zero (row_size * k)))
-        ∙ take-append_seam part (drop (row_size * k - 0) rows)
+    in_front : take k (put_mid 0 k rows part) ≡ part
+    in_front = ap (λ (n : ℕ). take n (part ++ drop k rows)) (sym part-size) ∙ take-append_seam part (drop k rows)
 
     pub table-made : (lower : List ℕ) (p : Prepared book first lower) (layer off : ℕ) (h : layer < max_layers) → RelevantLayers lower layer off mask
-        → Overridden book (take (row_size * k - 0) rows) lower part (row_count (take (row_size * k - 0) rows))
-        → TableMade (program_of book layer off) book (put_mid 0 (row_size * k - 0) rows part) k
+        → Overridden book (take k rows) lower part (row_count (take k rows))
+        → TableMade (program_of book layer off) book (put_mid 0 k rows part) k
     table-made lower p layer off h em o = record {
       room = w.room;
-      size = same_len_mid 0 (row_size * k - 0) rows part r.size ∙ w.size;
+      size = same_len_mid 0 k rows part r.size ∙ w.size;
       table =
           subst (Tabulates (program_of book layer off) book) (sym in_front)
-          (tabulates book first lower p layer off h mask em part (fits-same same w.fits) (rows_same same book ∙ w.rules) (overridden-same r o));
+          (tabulates book first lower p layer off h mask em part (fits-same r w.fits) (rows_same r book ∙ w.rules) (overridden-same r o));
     }
-
--- the table, as a caller cuts it out of what rule_table returns
-pub lent_table : {P : Program} {book rows : List ℕ} {k : ℕ} → TableMade P book rows k → Tabulates P book (take (row_size * k - 0) rows)
-lent_table {P} {book} {rows} {k} w = subst (λ (x : ℕ). Tabulates P book (take x rows)) (sym (minus_zero (row_size * k))) w.table

@@ -3,7 +3,7 @@
 use mathlib.Core.Path.{◌≡◌, refl, sym, subst, ◌∙◌}
 use mathlib.Core.Bool.{Bool, ◌&&◌}
 use mathlib.Core.List.{List, []}
-use Prim.Native.Nat.{ℕ, ◌-◌, ◌*◌, ◌<◌}
+use Prim.Native.Nat.{ℕ, ◌<◌}
 use lib.Dec.{T, eqb, eqb_refl, eqb→eq}
 use lib.ListN.{take}
 use Rattle.base.specs.Lists.{any, up_to}
@@ -17,21 +17,21 @@ use Rattle.models.specs.Alike.{Alike}
 use Rattle.models.proofs.AlikeLaws.{has_rule, has_body}
 use Rattle.models.proofs.ConstraintLaws.{constrained-overrides}
 use Rattle.models.proofs.SelfLeaningLaws.{overrides-asks, overrides_of}
-use Rattle.table.specs.Rows.{row_size, row_count, row_layer, overridden, row_at, rows_of}
+use Rattle.table.specs.declared.Row.{Row}
+use Rattle.table.specs.Rows.{row_count, row_layer, overridden, row_at, rows_of}
 use Rattle.table.specs.Table.{Tabulates, TableMade}
 use Rattle.table.specs.Tabled.{tabled}
 use Rattle.table.proofs.RowLaws.{row_of}
-use Rattle.table.proofs.TableLaws.{lent_table}
 
-pub tabled-atoms : (book rows : List ℕ) (n : ℕ) → (tabled book rows n).atoms ≡ n
+pub tabled-atoms : (book : List ℕ) (rows : List Row) (n : ℕ) → (tabled book rows n).atoms ≡ n
 unfolding tabled
 tabled-atoms book rows n = refl
 
-pub tabled-free : (book rows : List ℕ) (n : ℕ) → (tabled book rows n).constraints ≡ []
+pub tabled-free : (book : List ℕ) (rows : List Row) (n : ℕ) → (tabled book rows n).constraints ≡ []
 unfolding tabled
 tabled-free book rows n = refl
 
-module _ {P : Program} {book rows : List ℕ} (w : Tabulates P book rows) where
+module _ {P : Program} {book : List ℕ} {rows : List Row} (w : Tabulates P book rows) where
   abbrev Q : Program
   Q = tabled book rows P.atoms
 
@@ -93,11 +93,11 @@ module _ {P : Program} {book rows : List ℕ} (w : Tabulates P book rows) where
   }
 
 -- the table as the code lends it, with n for the facts of its program
-module _ {P : Program} {book rows : List ℕ} {count : ℕ} (made : TableMade P book rows count) {n : ℕ} (e : n ≡ P.atoms) where
-  pub lent_alike : (bodies : List (List Literal)) → bodies ≡ P.constraints → Alike P (constrained (tabled book (take (row_size * count - 0) rows) n) bodies)
-  lent_alike bodies eb = subst (λ (k : ℕ). Alike P (constrained (tabled book (take (row_size * count - 0) rows) k) bodies)) (sym e) (tabled-alike (lent_table made) bodies eb)
+module _ {P : Program} {book : List ℕ} {rows : List Row} {count : ℕ} (made : TableMade P book rows count) {n : ℕ} (e : n ≡ P.atoms) where
+  pub lent_alike : (bodies : List (List Literal)) → bodies ≡ P.constraints → Alike P (constrained (tabled book (take count rows) n) bodies)
+  lent_alike bodies eb = subst (λ (k : ℕ). Alike P (constrained (tabled book (take count rows) k) bodies)) (sym e) (tabled-alike made.table bodies eb)
 
-  pub lent_tabled : Tabulates (tabled book (take (row_size * count - 0) rows) n) book (take (row_size * count - 0) rows)
+  pub lent_tabled : Tabulates (tabled book (take count rows) n) book (take count rows)
   lent_tabled =
-      subst (λ (k : ℕ). Tabulates (tabled book (take (row_size * count - 0) rows) k) book (take (row_size * count - 0) rows)) (sym e)
-      (tabled-table (lent_table made))
+      subst (λ (k : ℕ). Tabulates (tabled book (take count rows) k) book (take count rows)) (sym e)
+      (tabled-table made.table)

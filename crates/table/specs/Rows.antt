@@ -1,68 +1,70 @@
--- The rows of the table: six numbers a rule, in rows of eight, one rule after the other. Assumes nothing.
-use Rattle.std.specs.Prelude.{◌≡◌, Bool, not, ◌&&◌, List, map, ℕ, ◌+◌, ◌*◌, ◌/◌, ◌%◌, ◌<◌, ◌≤◌, eqb, length, get_or, set, take, drop}
+-- The rows of the table, one rule after the other. Assumes nothing.
+use Rattle.std.specs.Prelude.{◌≡◌, Bool, not, ◌&&◌, List, map, ℕ, ◌+◌, ◌<◌, ◌≤◌, eqb, length, get_or, set, take, drop}
 use Rattle.base.specs.Bounds.{max_names, max_layers}
-use Rattle.base.specs.Lists.{up_to}
 use Rattle.layers.specs.Masks.{bit_of}
 use Rattle.format.specs.Book.{Rule, literals_of, is_constraint}
+use Rattle.table.specs.declared.Row.{Row}
+use Rattle.table.specs.declared.Span.{Span}
+use Rattle.table.specs.declared.TheConstants.{NO_ROW}
 use Rattle.table.specs.Names.{literal_named, name_of}
 
--- numbers of a row, the last two of which say nothing
-abbrev pub row_size : ℕ
-row_size = 8
+-- a body lies in the book, and its bytes
+abbrev pub SpanFits : List ℕ → Span → Type 0
+SpanFits book span = span.start + span.size ≤ length book
 
-abbrev pub row_count : List ℕ → ℕ
-row_count rows = length rows / row_size
+abbrev pub span_bytes : List ℕ → Span → List ℕ
+span_bytes book span = take span.size (drop span.start book)
 
--- where the body starts in the book, the body's bytes, the head's name, the layer
-abbrev pub body_start : List ℕ → ℕ → ℕ
-body_start rows j = get_or rows (row_size * j) 0
+abbrev pub row_count : List Row → ℕ
+row_count rows = length rows
 
-abbrev pub body_bytes : List ℕ → ℕ → ℕ
-body_bytes rows j = get_or rows (row_size * j + 1) 0
+-- row j, or an empty one past the end
+abbrev pub nth : List Row → ℕ → Row
+nth rows j = get_or rows j NO_ROW
 
-abbrev pub head_name : List ℕ → ℕ → ℕ
-head_name rows j = get_or rows (row_size * j + 2) 0
+-- the head's name, the layer
+abbrev pub head_name : List Row → ℕ → ℕ
+head_name rows j = (nth rows j).head
 
-abbrev pub row_layer : List ℕ → ℕ → ℕ
-row_layer rows j = get_or rows (row_size * j + 3) 0
+abbrev pub row_layer : List Row → ℕ → ℕ
+row_layer rows j = (nth rows j).layer
 
--- the layers in which it can displace rules, a mask of 32 bits in two halves
-abbrev pub overridden : List ℕ → ℕ → ℕ
-overridden rows j = get_or rows (row_size * j + 4) 0 * 65536 + get_or rows (row_size * j + 5) 0
+-- the layers in which it can displace rules, a mask
+abbrev pub overridden : List Row → ℕ → ℕ
+overridden rows j = (nth rows j).overridden
 
 -- row j with another such mask
-abbrev pub with_mask : List ℕ → ℕ → ℕ → List ℕ
-with_mask rows j mask = set (set rows (row_size * j + 4) (mask / 65536)) (row_size * j + 5) (mask % 65536)
+abbrev pub with_mask : List Row → ℕ → ℕ → List Row
+with_mask rows j mask = set rows j (record (nth rows j) { overridden = mask })
 
 -- its body's bytes
-abbrev pub row_body : List ℕ → List ℕ → ℕ → List ℕ
-row_body book rows j = take (body_bytes rows j) (drop (body_start rows j) book)
+abbrev pub row_body : List ℕ → List Row → ℕ → List ℕ
+row_body book rows j = span_bytes book (nth rows j).body
 
--- the rule that row j stands for
-unfoldable pub row_at : List ℕ → List ℕ → ℕ → Rule
-row_at book rows j = record {
-  layer = row_layer rows j;
-  head = literal_named (head_name rows j);
-  body = literals_of (row_body book rows j);
-}
+-- the rule that a row stands for
+abbrev pub row_rule : List ℕ → Row → Rule
+row_rule book row = record { layer = row.layer; head = literal_named row.head; body = literals_of (span_bytes book row.body) }
 
-unfoldable pub rows_of : List ℕ → List ℕ → List Rule
-rows_of book rows = map (row_at book rows) (up_to (row_count rows))
+unfoldable pub row_at : List ℕ → List Row → ℕ → Rule
+row_at book rows j = row_rule book (nth rows j)
+
+unfoldable pub rows_of : List ℕ → List Row → List Rule
+rows_of book rows = map (row_rule book) rows
 
 -- every row has the name of a literal and a layer
-pub record RowsBounded (rows : List ℕ) : Type 0 where
+pub record RowsBounded (rows : List Row) : Type 0 where
   pub name : (j : ℕ) → j < row_count rows → head_name rows j < max_names
   pub layer_low : (j : ℕ) → j < row_count rows → row_layer rows j < max_layers
 
 -- and every row's body lies in the book
-pub record RowsFit (book rows : List ℕ) : Type 0 where
+pub record RowsFit (book : List ℕ) (rows : List Row) : Type 0 where
   pub bounded : RowsBounded rows
-  pub part : (j : ℕ) → j < row_count rows → body_start rows j + body_bytes rows j ≤ length book
+  pub part : (j : ℕ) → j < row_count rows → SpanFits book (nth rows j).body
 
 -- the rows are the same, but for what they displace
-pub record SameRules (rows other : List ℕ) : Type 0 where
+pub record SameRules (rows other : List Row) : Type 0 where
   pub size : length other ≡ length rows
-  pub same : (j c : ℕ) → c < 4 → get_or other (row_size * j + c) 0 ≡ get_or rows (row_size * j + c) 0
+  pub same : (j : ℕ) → nth other j ≡ record (nth rows j) { overridden = overridden other j }
 
 -- a rule whose layer is in the mask
 unfoldable pub in_mask : ℕ → Rule → Bool

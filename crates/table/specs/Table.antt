@@ -1,5 +1,5 @@
 -- What the table of a program says, and what it is made from. Assumes nothing.
-use Rattle.std.specs.Prelude.{◌≡◌, Bool, true, false, not, ◌&&◌, ◌||◌, ℕ, ◌*◌, ◌<◌, ◌≤◌, T, eqb, length, get_or, take, drop}
+use Rattle.std.specs.Prelude.{◌≡◌, Bool, true, false, not, ◌&&◌, ◌||◌, ℕ, ◌<◌, ◌≤◌, T, eqb, length, get_or, take, drop}
 use mathlib.Core.List.{List, map, Memᴰ}
 use Rattle.base.specs.Bounds.{max_atoms, max_layers, max_rules}
 use Rattle.base.specs.Lists.{filter}
@@ -8,7 +8,8 @@ use Rattle.layers.specs.Masks.{bit_of}
 use Rattle.format.specs.Book.{Rule, records, meets_end, rule_of, is_constraint, book_of}
 use Rattle.models.specs.Program.{Program, in_set, program_at}
 use Rattle.models.specs.StableModels.{overrides}
-use Rattle.table.specs.Rows.{row_size, row_count, overridden, row_at, rows_of, takes_rule, RowsFit}
+use Rattle.table.specs.declared.Row.{Row}
+use Rattle.table.specs.Rows.{row_count, overridden, row_at, rows_of, takes_rule, RowsFit}
 
 -- the program that a book's bytes give at a layer, with the layers of a set switched off
 abbrev pub program_of : List ℕ → ℕ → ℕ → Program
@@ -45,14 +46,14 @@ abbrev pub RelevantLayers : List ℕ → ℕ → ℕ → ℕ → Type 0
 RelevantLayers lower layer off mask = (i : ℕ) → eqb (bit_of mask i) 1 ≡ layer_counts lower layer off i
 
 -- the first `count` rows are those of the rules that pass the mask, in order
-pub record RowsMade (book : List ℕ) (first mask : ℕ) (rows : List ℕ) (count : ℕ) : Type 0 where
+pub record RowsMade (book : List ℕ) (first mask : ℕ) (rows : List Row) (count : ℕ) : Type 0 where
   pub room : count ≤ max_rules
-  pub size : length rows ≡ row_size * max_rules
-  pub fits : RowsFit book (take (row_size * count) rows)
-  pub rules : rows_of book (take (row_size * count) rows) ≡ filter (takes_rule mask) (map rule_of (records (drop first book)))
+  pub size : length rows ≡ max_rules
+  pub fits : RowsFit book (take count rows)
+  pub rules : rows_of book (take count rows) ≡ filter (takes_rule mask) (map rule_of (records (drop first book)))
 
 -- The table of a program: its rules as rows, each with the mask of the layers in which it overrides a rule.
-pub record Tabulates (P : Program) (book rows : List ℕ) : Type 0 where
+pub record Tabulates (P : Program) (book : List ℕ) (rows : List Row) : Type 0 where
   pub fits : RowsFit book rows
   pub rules : rows_of book rows ≡ P.rules
   pub sound : (j : ℕ) → j < row_count rows → (i : ℕ) → bit_of (overridden rows j) i ≡ 1 → T (P.below i (row_at book rows j).layer)
@@ -62,7 +63,7 @@ pub record Tabulates (P : Program) (book rows : List ℕ) : Type 0 where
       → (r : Rule) × Memᴰ r (rows_of book rows) × (r.layer ≡ i) × T (overrides P (row_at book rows j) r)
 
 -- the first `count` rows are the table
-pub record TableMade (P : Program) (book rows : List ℕ) (count : ℕ) : Type 0 where
+pub record TableMade (P : Program) (book : List ℕ) (rows : List Row) (count : ℕ) : Type 0 where
   pub room : count ≤ max_rules
-  pub size : length rows ≡ row_size * max_rules
-  pub table : Tabulates P book (take (row_size * count) rows)
+  pub size : length rows ≡ max_rules
+  pub table : Tabulates P book (take count rows)

@@ -3,10 +3,11 @@ use Rattle.std.specs.Prelude.{◌&&◌, List, [], ℕ, eqb}
 use Rattle.base.specs.Lists.{any, up_to}
 use Rattle.layers.specs.Masks.{bit_of}
 use Rattle.models.specs.Program.{Program}
+use Rattle.table.specs.declared.Row.{Row}
 use Rattle.table.specs.Rows.{row_count, row_layer, overridden, rows_of}
 
 -- its rules are the rows; layer i is below j where a row of layer j has bit i in its mask; rows are no constraints
-unfoldable pub tabled : List ℕ → List ℕ → ℕ → Program
+unfoldable pub tabled : List ℕ → List Row → ℕ → Program
 tabled book rows n = record {
   atoms = n;
   rules = rows_of book rows;

@@ -1,5 +1,5 @@
-// The table of the rules that count at a layer, as the test and the search read it: six numbers a rule, in rows of eight, in one flat
-// array, with the mask of the layers in which it overrides rules. Made once a call; bodies stay where they are in the book.
+// The table of the rules that count at a layer, as the test and the search read it: a row a rule, with the mask of the layers in which it
+// overrides rules. Made once a call; bodies stay where they are in the book.
 #![tactic(auto)]
 
 ghost use Rattle.std.specs.Prelude.{◌≡◌, ◌*◌, ◌<◌, ◌≤◌, length, drop, not, ◌&&◌, eqb};
@@ -9,15 +9,39 @@ ghost use Rattle.layers.specs.Masks.{bit_of};
 ghost use Rattle.format.specs.Book.{literal_of, literals_of, is_falsity};
 ghost use Rattle.models.specs.StableModels.{atom_holds, complement, same_literal, holds, body_holds, leans_on_itself};
 ghost use Rattle.table.specs.Names.{literal_named, literal_numbered};
-ghost use Rattle.table.specs.Rows.{row_size, row_count, head_name, row_layer, overridden, with_mask, row_body, row_at, alive, RowsBounded, RowsFit, SameRules};
+ghost use Rattle.table.specs.Rows.{SpanFits, span_bytes, row_count, head_name, row_layer, overridden, with_mask, row_body, row_at, alive, RowsBounded, RowsFit, SameRules};
 ghost use Rattle.table.specs.Overriding.{HeadLayers, unless_leaning, Overridden};
 ghost use Rattle.table.specs.Table.{program_of, RuleRecords, Prepared, RelevantLayers, RowsMade, TableMade};
 
-use base::{MAX_ATOMS, MAX_LAYERS, MAX_NAMES, wide, wide16};
+use base::{MAX_ATOMS, MAX_LAYERS, MAX_NAMES};
 use format::{is_falsity, literal_value};
 
-// Numbers of a row: two more than it holds, so that a row's place is a shift and no multiplication, which every pass over the rows feels.
-pub const ROW_SIZE: usize = 8;
+// Where a body stands in the book.
+#[derive(Clone, Copy)]
+pub struct Span {
+    pub start: u16,
+    pub size: u8,
+}
+
+// What stands in an array of bodies before they are found.
+pub const NO_SPAN: Span = Span { start: 0, size: 0 };
+
+// A rule: where its body is, the name of its head, its layer, and the mask of the layers in which it overrides rules.
+#[derive(Clone, Copy)]
+pub struct Row {
+    pub body: Span,
+    pub head: u16,
+    pub layer: u8,
+    pub overridden: u32,
+}
+
+// What stands in an array of rows before they are made.
+pub const NO_ROW: Row = Row {
+    body: NO_SPAN,
+    head: 0,
+    layer: 0,
+    overridden: 0,
+};
 
 // Whether an atom holds: one that the array does not have does not.
 pub fn atom_holds(m: &[bool], f: usize) -> bool
@@ -56,44 +80,51 @@ pub fn body_holds(m: &[bool], body: &[u8]) -> bool
 }
 
 // The name of a row's head.
-pub fn row_head(rows: &[u16], j: usize) -> usize
+pub fn row_head(rows: &[Row], j: usize) -> usize
     requires rows_bounded { RowsBounded rows.now }
     requires j_bound { j < row_count rows.now }
     ensures { (result ≡ head_name rows.now j) × (result < max_names) }
 {
-    wide16(rows[ROW_SIZE * j + 2])
+    rows[j].head as usize
 }
 
 // A row's layer.
-pub fn row_layer(rows: &[u16], j: usize) -> usize
+pub fn row_layer(rows: &[Row], j: usize) -> usize
     requires rows_bounded { RowsBounded rows.now }
     requires j_bound { j < row_count rows.now }
     ensures { (result ≡ row_layer rows.now j) × (result < max_layers) }
 {
-    wide16(rows[ROW_SIZE * j + 3])
+    rows[j].layer as usize
 }
 
 // The mask of the layers in which a row overrides rules.
-pub fn row_overridden(rows: &[u16], j: usize) -> u32
+pub fn row_overridden(rows: &[Row], j: usize) -> u32
     requires { j < row_count rows.now }
     ensures { result ≡ overridden rows.now j }
 {
-    (wide16(rows[ROW_SIZE * j + 4]) * 65536 + wide16(rows[ROW_SIZE * j + 5])) as u32
+    rows[j].overridden
+}
+
+// The bytes of a body, as a part of the book that starts in its middle.
+pub fn span_bytes<'a>(book: &'a [u8], span: Span) -> &'a [u8]
+    requires { SpanFits book.now span }
+    ensures { result.now ≡ span_bytes book.now span }
+{
+    let from = span.start as usize;
+    &book[from..from + span.size as usize]
 }
 
 // A row's body, as a part of the book that starts in its middle.
-pub fn row_body<'a>(book: &'a [u8], rows: &[u16], j: usize) -> &'a [u8]
+pub fn row_body<'a>(book: &'a [u8], rows: &[Row], j: usize) -> &'a [u8]
     requires rows_fit { RowsFit book.now rows.now }
     requires j_bound { j < row_count rows.now }
     ensures { result.now ≡ row_body book.now rows.now j }
 {
-    let from = wide16(rows[ROW_SIZE * j]);
-    let to = from + wide16(rows[ROW_SIZE * j + 1]);
-    &book[from..to]
+    span_bytes(book, rows[j].body)
 }
 
 // Whether a row's body holds.
-pub fn row_holds(book: &[u8], rows: &[u16], m: &[bool], j: usize) -> bool
+pub fn row_holds(book: &[u8], rows: &[Row], m: &[bool], j: usize) -> bool
     requires rows_fit { RowsFit book.now rows.now }
     requires j_bound { j < row_count rows.now }
     ensures { result ≡ body_holds m.now (row_at book.now rows.now j) }
@@ -102,7 +133,7 @@ pub fn row_holds(book: &[u8], rows: &[u16], m: &[bool], j: usize) -> bool
 }
 
 // Whether a row is alive: its layer's bit is not set in the mask at its head's name.
-pub fn row_alive(book: &[u8], rows: &[u16], rejects: &[u32], j: usize) -> bool
+pub fn row_alive(book: &[u8], rows: &[Row], rejects: &[u32], j: usize) -> bool
     requires rows_fit { RowsFit book.now rows.now }
     requires rejects_len { length rejects.now ≡ max_names }
     requires j_bound { j < row_count rows.now }
@@ -157,40 +188,44 @@ fn takes_rule(mask: u32, layer: usize, a: u8, b: u8) -> bool
 
 // Writes the rows of the rules whose layer is in the mask, in their order, and says how many there are: one walk over the records by
 // length byte.
-pub fn make_rows(book: &[u8], first: usize, mask: u32, rows: &mut [u16]) -> usize
+pub fn make_rows(book: &[u8], first: usize, mask: u32, rows: &mut [Row]) -> usize
     requires rule_records { RuleRecords (drop first book.now) }
     requires first_in_bounds { first ≤ length book.now }
     requires book_len_bound { length book.now < 65536 }
-    requires rows_len { length rows.old ≡ row_size * max_rules }
+    requires rows_len { length rows.old ≡ max_rules }
     ensures { RowsMade book.now first mask rows.new result }
 {
     let mut count = 0;
     let mut at = first;
     while at < book.len() {
-        let len = wide(book[at]);
-        let layer = wide(book[at + 1]);
+        let len = book[at];
+        let layer = book[at + 1];
         let a = book[at + 2];
         let b = book[at + 3];
-        if takes_rule(mask, layer, a, b) {
-            let head = name_of(a, b);
-            let i = ROW_SIZE * count;
-            rows[i] = (at + 4) as u16;
-            rows[i + 1] = (len - 3) as u16;
-            rows[i + 2] = head as u16;
-            rows[i + 3] = layer as u16;
+        if takes_rule(mask, layer as usize, a, b) {
+            let body = Span {
+                start: (at + 4) as u16,
+                size: len - 3,
+            };
+            rows[count] = Row {
+                body,
+                head: name_of(a, b) as u16,
+                layer,
+                overridden: 0,
+            };
             count += 1;
         }
-        at = at + 1 + len;
+        at = at + 1 + len as usize;
     }
     count
 }
 
 // Bit i at name h: a row has this head, in layer i.
-fn head_layers(rows: &[u16]) -> [u32; MAX_NAMES]
+fn head_layers(rows: &[Row]) -> [u32; MAX_NAMES]
     requires { RowsBounded rows.now }
     ensures { HeadLayers rows.now result (row_count rows.now) }
 {
-    let count = rows.len() / ROW_SIZE;
+    let count = rows.len();
     let mut masks: [u32; MAX_NAMES] = [0; MAX_NAMES];
     let mut j = 0;
     while j < count {
@@ -229,7 +264,7 @@ fn has_literal(body: &[u8], v: usize) -> bool
 }
 
 // Whether a row leans on itself: its head is among its own body's literals, sign and all.
-fn row_leans(book: &[u8], rows: &[u16], j: usize) -> bool
+fn row_leans(book: &[u8], rows: &[Row], j: usize) -> bool
     requires rows_fit { RowsFit book.now rows.now }
     requires j_bound { j < row_count rows.now }
     ensures { result ≡ leans_on_itself (row_at book.now rows.now j) }
@@ -240,7 +275,7 @@ fn row_leans(book: &[u8], rows: &[u16], j: usize) -> bool
 
 // The mask of the layers in which a row overrides rules, from that of the lower layers in which the opposite head stands: empty where it
 // leans on itself. The body is read only where there is a rule to override.
-fn unless_leaning(book: &[u8], rows: &[u16], j: usize, mask: u32) -> u32
+fn unless_leaning(book: &[u8], rows: &[Row], j: usize, mask: u32) -> u32
     requires rows_fit { RowsFit book.now rows.now }
     requires j_bound { j < row_count rows.now }
     ensures { result ≡ unless_leaning (row_at book.now rows.now j) mask }
@@ -255,21 +290,20 @@ fn unless_leaning(book: &[u8], rows: &[u16], j: usize, mask: u32) -> u32
 }
 
 // Writes a row's mask.
-fn put_overridden(rows: &mut [u16], j: usize, mask: u32)
+fn put_overridden(rows: &mut [Row], j: usize, mask: u32)
     requires { j < row_count rows.old }
     ensures { rows.new ≡ with_mask rows.old j mask }
 {
-    rows[ROW_SIZE * j + 4] = (mask / 65536) as u16;
-    rows[ROW_SIZE * j + 5] = (mask % 65536) as u16;
+    rows[j].overridden = mask;
 }
 
 // Writes each row's mask of the layers in which it overrides a rule: `lower` has each layer's mask of the layers below it.
-pub fn overridden_layers(book: &[u8], rows: &mut [u16], lower: [u32; MAX_LAYERS])
+pub fn overridden_layers(book: &[u8], rows: &mut [Row], lower: [u32; MAX_LAYERS])
     requires { RowsFit book.now rows.old }
     ensures { SameRules rows.old rows.new × Overridden book.now rows.old lower rows.new (row_count rows.old) }
 {
     let heads = head_layers(rows);
-    let count = rows.len() / ROW_SIZE;
+    let count = rows.len();
     let mut j = 0;
     while j < count {
         let o = opposite(row_head(rows, j));
@@ -298,15 +332,15 @@ pub fn rule_table(
     layer: usize,
     off: u32,
     lower: [u32; MAX_LAYERS],
-    rows: &mut [u16],
+    rows: &mut [Row],
 ) -> usize
     requires prepared { Prepared book.now first lower }
     requires layer_lt_max_layers { layer < max_layers }
-    requires rows_len { length rows.old ≡ row_size * max_rules }
+    requires rows_len { length rows.old ≡ max_rules }
     ensures { TableMade (program_of book.now layer off) book.now rows.new result }
 {
     let mask = relevant_layers(lower, layer, off);
     let count = make_rows(book, first, mask, rows);
-    overridden_layers(book, &mut rows[0..ROW_SIZE * count], lower);
+    overridden_layers(book, &mut rows[..count], lower);
     count
 }

@@ -1,8 +1,6 @@
 -- The invariant: the masks have the bit of every row passed. The rows left fall.
 use mathlib.Core.Path.{refl, subst}
-use Prim.Native.Nat.{◌/◌}
 use lib.ListN.{length}
-use Rattle.table.specs.Rows.{row_size}
 use Rattle.table.specs.Overriding.{HeadLayers}
 use Rattle.table.proofs.OverridingLaws.{heads-start, heads-more}
 use native.Mathlib.Omega.{arith}
@@ -18,4 +16,4 @@ loop-j-preserved c =
 
 pub returns : goal.returns
 returns c =
-    subst (HeadLayers c.args.rows.now c.loop-j.masks) {x = c.loop-j.j} {y = length c.args.rows.now / row_size} (omega (arith, c.loop-j-test.false, c.loop-j.invariant.1)) c.loop-j.invariant.2
+    subst (HeadLayers c.args.rows.now c.loop-j.masks) {x = c.loop-j.j} {y = length c.args.rows.now} (omega (arith, c.loop-j-test.false, c.loop-j.invariant.1)) c.loop-j.invariant.2

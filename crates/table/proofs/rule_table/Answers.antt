@@ -1,11 +1,11 @@
 -- The rows are those of the relevant rules, since the mask has the driven layer and those below it, without the layers that are
 -- switched off; their masks are written in front of what is left of the array.
-use Rattle.table.proofs.TableLaws.{lent_fits, table-made}
+use Rattle.table.proofs.TableLaws.{table-made}
 use Rattle.table.proofs.rule_table.Goals as goal
 
 pub overridden_layers-requires : goal.overridden_layers-requires
 overridden_layers-requires c =
-    lent_fits _ _ _ _ c.make_rows-count.result c.make_rows-count.ensures
+    c.make_rows-count.ensures.fits
 
 pub returns : goal.returns
 returns c =

@@ -1,8 +1,0 @@
--- The fourth of the row's four numbers; its bound is the table's.
-use native.Mathlib.Omega.{arith}
-use borrow.Author.Rules.{rules}
-use Rattle.table.proofs.row_layer.Goals as goal
-
-pub returns : goal.returns
-returns c =
-    (search rules, omega (arith, c.wide16.ensures.0, c.requires.rows_bounded.layer_low c.args.j (search rules)))
