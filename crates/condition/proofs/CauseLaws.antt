@@ -15,10 +15,10 @@ use Rattle.grammar.proofs.ParseLaws.{read_exactly, none_unread}
 use Rattle.book.specs.Causes.{verdict_if, first_of}
 use Rattle.book.specs.declared.Cause.TheVariants.{BadCondition, TooDeep, NoSuchFact}
 use Rattle.book.specs.declared.Verdict.TheVariants.{Refused}
-use Rattle.condition.specs.Code.{codes_of, lent_code, odd, run, code_holds, StackFits, deepest, codes_below, peak}
+use Rattle.condition.specs.declared.Code.{Code}
+use Rattle.condition.specs.Code.{odd, run, code_holds, StackFits, deepest, codes_below, peak}
 use Rattle.condition.specs.Causes.{max_condition, max_depth, is_unread, is_deep, names_other, fits_in, is_bad_condition, is_too_deep, names_no_fact, condition_tests, fits_text}
 use Rattle.condition.specs.Outcome.{NoReading, CompiledTo, CodedTo}
-use Rattle.condition.proofs.PlaceLaws.{part-all}
 use Rattle.condition.proofs.DepthLaws.{deepest-depth}
 use Rattle.condition.proofs.BelowLaws.{codes_names}
 use Rattle.condition.proofs.StackLaws.{stack-low}
@@ -36,7 +36,7 @@ bad_condition n s h = go (dec_lt max_condition (length s))
     go (yes k) = rw (lt-ltb max_condition (length s) k) refl
     go (no k) = rw (none_unread s (h (omega (arith, k))), or_true (ltb max_condition (length s))) refl
 
-module _ {s code : List ℕ} {u : ℕ} (h : CompiledTo s code u) (n : ℕ) where
+module _ {s : List ℕ} {codes : List Code} (h : CompiledTo s codes) (n : ℕ) where
   read : reading_of s ≡ Read h.tree
   read = (read_exactly s h.tree).1 h.reads
 
@@ -48,16 +48,16 @@ module _ {s code : List ℕ} {u : ℕ} (h : CompiledTo s code u) (n : ℕ) where
   unfolding is_too_deep is_deep
   deep_is = ap is_deep read
 
-  names_are : names_no_fact n s ≡ not (codes_below n (codes_of (lent_code code u)))
+  names_are : names_no_fact n s ≡ not (codes_below n codes)
   unfolding names_no_fact names_other
-  names_are = ap (names_other n) read ∙ ap not (sym (codes_names n h.tree) ∙ ap (codes_below n) (sym (part-all code u ∙ h.wrote)))
+  names_are = ap (names_other n) read ∙ ap not (sym (codes_names n h.tree) ∙ ap (codes_below n) (sym h.wrote))
 
   module _ (d : ℕ) (e : d ≡ deepest 0 0 s) where
     pub too_deep : max_depth < d → first_of (condition_tests n s) ≡ Refused TooDeep
     unfolding condition_tests first_of verdict_if
     too_deep k = rw (good, deep_is ∙ lt-ltb max_depth (depth h.tree) (omega (arith, e, deepest-depth h.reads))) refl
 
-    module _ (k : d ≤ max_depth) (b : Bool) (f : b ≡ codes_below n (codes_of (lent_code code u))) where
+    module _ (k : d ≤ max_depth) (b : Bool) (f : b ≡ codes_below n codes) where
       shallow : is_too_deep s ≡ false
       shallow = deep_is ∙ le-ltb max_depth (depth h.tree) (omega (arith, e, deepest-depth h.reads))
 
@@ -65,11 +65,10 @@ module _ {s code : List ℕ} {u : ℕ} (h : CompiledTo s code u) (n : ℕ) where
       unfolding condition_tests first_of verdict_if
       unknown_name g = rw (good, shallow, names_are ∙ ap not (sym f ∙ g)) refl
 
-      pub all-ready : b ≡ true → CodedTo s n code u
+      pub all-ready : b ≡ true → CodedTo s n codes
       unfolding condition_tests first_of verdict_if StackFits code_holds fits_text fits_in
       all-ready g = record {
-        size = h.size;
         none = rw (good, shallow, names_are ∙ ap not (sym f ∙ g)) refl;
-        stack = omega (arith, ap (peak 1) (part-all code u ∙ h.wrote), stack-low h.reads (omega (arith, e, deepest-depth h.reads)));
-        value = λ m. ap (λ (l : List ℕ). odd (run m l 0)) (part-all code u ∙ h.wrote) ∙ code_value m h.tree ∙ sym (ap (fits_in m) read);
+        stack = omega (arith, ap (peak 1) (h.wrote), stack-low h.reads (omega (arith, e, deepest-depth h.reads)));
+        value = λ m. ap (λ (l : List Code). odd (run m l 0)) (h.wrote) ∙ code_value m h.tree ∙ sym (ap (fits_in m) read);
       }

@@ -1,25 +1,20 @@
 -- The digits of a name: read from the left, at most four, as far as they go. Used by `read_name`. Assumes nothing.
 use mathlib.Core.Path.{◌≡◌, refl, sym, ap, subst, ◌∙◌}
-use mathlib.Core.List.{List, [], ◌∷◌, ◌++◌, append_assoc}
+use mathlib.Core.List.{List, [], ◌∷◌, ◌++◌}
 use Prim.Native.Nat.{ℕ, suc, ◌+◌, ◌*◌, ◌-◌, ◌^◌, ◌≤◌, ◌<◌}
+use native.Mathlib.Numerals.{add-one}
 use native.Mathlib.Nat.{mul_assoc, mul-le-mul_right, pow-succ', pow-le-pow_right}
 use native.Mathlib.Omega.{arith}
-use lib.ListN.{length, get_or, drop, length-append, length-drop}
+use lib.ListN.{length, get_or, take, drop, drop_of_length-le}
+use lib.Seq.{drop-cons, take-suc}
+use Rattle.std.proofs.lemmas.List.{take-append-drop, length-take, length-take-le}
 use Rattle.grammar.specs.Conditions.{Atom, Digit, Digits, none, more, max_digits}
 use Rattle.grammar.specs.Reader.{bracket, NoDigit, Took, name_took}
-use Rattle.grammar.proofs.OneReadingLaws.{rest-same}
-use Rattle.condition.specs.Outcome.{DigitOf, NameTo}
-use Rattle.condition.proofs.PlaceLaws.{inside, opens, head_at}
+use Rattle.grammar.proofs.OneReadingLaws.{first_same, rest-same}
+use Rattle.condition.specs.Outcome.{NameOf}
 
--- the digits from `at` to i give v so far
-pub record NameSoFar (s : List ℕ) (at i v : ℕ) : Type 0 where
-  pub text : List ℕ
-  pub split : drop at s ≡ text ++ drop i s
-  pub size : at + length text ≡ i
-  pub digits : Digits 0 text v
-
-pub none_so_far : (s : List ℕ) (at : ℕ) → NameSoFar s at at 0
-none_so_far s at = record { text = []; split = refl; size = omega arith; digits = none 0 }
+pub no_digits : (s : List ℕ) → Digits 0 (take 0 s) 0
+no_digits s = none 0
 
 digits_more : {v w c : ℕ} {t : List ℕ} → Digits v t w → Digit c → Digits v (t ++ (c ∷ [])) (w * 10 + (c - 48))
 digits_more (none v) k = more k (none _)
@@ -37,29 +32,22 @@ digits_below (more {v = v} {c = c} {s = s} k d) =
 few_digits : {f : ℕ} {t : List ℕ} (k : ℕ) → Digits 0 t f → length t ≤ k → f < 10 ^ k
 few_digits k d h = omega (arith, digits_below d, pow-le-pow_right {n = 10} (omega arith) h)
 
-pub small_so_far : {s : List ℕ} {at i v : ℕ} → NameSoFar s at i v → i < at + max_digits → v < 1000
-small_so_far n h = few_digits 3 n.digits (omega (arith, n.size))
+pub small_so_far : (s : List ℕ) {i v : ℕ} → Digits 0 (take i s) v → i ≤ max_digits → (i ≡ 4 → ⊥) → v < 1000
+small_so_far s {i} d few n = few_digits 3 d (omega (arith, few, n, length-take i s))
 
-pub digit_at : (s : List ℕ) (i b d : ℕ) → b ≡ get_or s i 0 → DigitOf b d → DigitOf (get_or s i 0) d
-digit_at s i b d e k = subst (λ (x : ℕ). DigitOf x d) e k
+-- the next byte, where it is a digit
+next_byte : (s : List ℕ) (i c : ℕ) → i < length s → get_or s i 0 ≡ c → s ≡ take i s ++ (c ∷ drop (i + 1) s)
+next_byte s i c h e = sym (take-append-drop i s) ∙ ap (λ (l : List ℕ). take i s ++ l) (drop-cons s i 0 h ∙ ap (λ (n : ℕ). get_or s i 0 ∷ drop n s) (sym (add-one i)) ∙ ap (λ (x : ℕ). x ∷ drop (i + 1) s) e)
 
--- a digit's byte
-digit_byte : {c d : ℕ} → DigitOf c d → d < 10 → Digit c
-digit_byte k h = omega (arith, k.digit h)
-
-pub digit_inside : (s : List ℕ) (i d : ℕ) → DigitOf (get_or s i 0) d → d < 10 → i < length s
-digit_inside s i d k h = inside s i (get_or s i 0) refl (omega (arith, k.digit h))
-
-pub next_digit : {s : List ℕ} {at i v : ℕ} (d : ℕ) → NameSoFar s at i v → DigitOf (get_or s i 0) d → d < 10 → NameSoFar s at (i + 1) (v * 10 + d)
-next_digit {s} {at} {i} {v} d n k h =
+pub next_digit : (s : List ℕ) (d : ℕ) {i j v : ℕ} → Digits 0 (take i s) v → i ≡ j → j < length s → Digit (get_or s j 0) × (get_or s j 0 ≡ d + 48) → Digits 0 (take (i + 1) s) (v * 10 + d)
+next_digit s d {i} {j} {v} n q h k =
     let c = get_or s i 0 in
-    let e : c - 48 ≡ d = omega (arith, k.digit h) in
-    record {
-      text = n.text ++ (c ∷ []);
-      split = n.split ∙ ap (λ (l : List ℕ). n.text ++ l) (opens s i c refl (omega (arith, k.digit h))) ∙ sym (append_assoc n.text (c ∷ []) (drop (i + 1) s));
-      size = omega (arith, n.size, length-append n.text (c ∷ []));
-      digits = subst (λ (x : ℕ). Digits 0 (n.text ++ (c ∷ [])) (v * 10 + x)) e (digits_more n.digits (digit_byte k h));
-    }
+    let e : get_or s j 0 ≡ c = ap (λ (x : ℕ). get_or s x 0) (sym q) in
+    let less : i < length s = omega (arith, q, h) in
+    let digit : Digit c = subst Digit e k.0 in
+    let value : c - 48 ≡ d = omega (arith, k.1, e) in
+    let longer : take (i + 1) s ≡ take i s ++ (c ∷ []) = ap (λ (x : ℕ). take x s) (add-one i) ∙ take-suc s i 0 less in
+    subst (λ (l : List ℕ). Digits 0 l (v * 10 + d)) (sym longer) (subst (λ (x : ℕ). Digits 0 (take i s ++ (c ∷ [])) (v * 10 + x)) value (digits_more n digit))
 
 -- a text that goes on with a digit is no longer name's end
 too_long : {v w : ℕ} (c : ℕ) (u x q t : List ℕ) → Digits v q w → Digit c → q ++ (c ∷ x) ≡ t ++ u → length t ≤ length q → NoDigit u → ⊥
@@ -80,29 +68,36 @@ record NameText (x : List ℕ) (f : ℕ) (u : List ℕ) : Type 0 where
 name_text : {x : List ℕ} {f : ℕ} {u : List ℕ} → Took bracket x (Atom f) u → NameText x f u
 name_text (name_took {t = t} e d some few n) = record { text = t; split = e; digits = d; some = some; few = few; ends = n }
 
-pub fifth_digit : {s : List ℕ} {at i v : ℕ} (d : ℕ) → NameSoFar s at i v → DigitOf (get_or s i 0) d → d < 10 → max_digits ≤ i - at → (f : ℕ) (u : List ℕ) → Took bracket (drop at s) (Atom f) u → ⊥
-fifth_digit {s} {at} {i} d n k h four f u p =
+pub fifth_digit : (s : List ℕ) (d : ℕ) {i j v : ℕ} → Digits 0 (take i s) v → i ≡ j → j < length s → Digit (get_or s j 0) × (get_or s j 0 ≡ d + 48) → i ≡ 4 → (f : ℕ) (u : List ℕ) → Took bracket s (Atom f) u → ⊥
+fifth_digit s d {i} {j} n q h k four f u p =
     let x = name_text p in
-    too_long (get_or s i 0) u (drop (i + 1) s) n.text x.text n.digits (digit_byte k h)
-    (ap (λ (l : List ℕ). n.text ++ l) (sym (opens s i (get_or s i 0) refl (omega (arith, k.digit h)))) ∙ sym n.split ∙ x.split)
-    (omega (arith, x.few, n.size)) x.ends
+    let e : get_or s j 0 ≡ get_or s i 0 = ap (λ (y : ℕ). get_or s y 0) (sym q) in
+    too_long (get_or s i 0) u (drop (i + 1) s) (take i s) x.text n (subst Digit e k.0)
+    (sym (next_byte s i (get_or s i 0) (omega (arith, q, h)) refl) ∙ x.split) (omega (arith, x.few, length-take-le i s (omega (arith, q, h)), four)) x.ends
+
+-- the digits end at the text's end, or before a byte that is none
+pub ends_there : (s : List ℕ) (i : ℕ) → length s ≤ i → NoDigit (drop i s)
+ends_there s i h c t e k = omega (arith, ap length (sym (drop_of_length-le s {i = i} h) ∙ e))
+
+pub ends_before : (s : List ℕ) {i j : ℕ} → i ≡ j → j < length s → (Digit (get_or s j 0) → ⊥) → NoDigit (drop i s)
+ends_before s {i} {j} q h n c t e k =
+    n (subst Digit (first_same (sym e ∙ ap (λ (x : ℕ). drop x s) q ∙ drop-cons s j 0 h)) k)
 
 -- no digit at all
-starts : {v f : ℕ} {x : List ℕ} (t u : List ℕ) → Digits v t f → 1 ≤ length t → x ≡ t ++ u → (c : ℕ) → ((y : List ℕ) (b : ℕ) → x ≡ b ∷ y → b ≡ c) → Digit c
-starts t u (none v) h e c g = absurd (omega arith)
-starts t u (more {c = b} {s = r} k d) h e c g = subst Digit (g (r ++ u) b e) k
+starts : {v f : ℕ} {x : List ℕ} (t u : List ℕ) → Digits v t f → 1 ≤ length t → x ≡ t ++ u → NoDigit x → ⊥
+starts t u (none v) h e n = omega arith
+starts t u (more {c = b} {s = r} k d) h e n = n b (r ++ u) e k
 
-pub no_digit_there : (s : List ℕ) (at d : ℕ) → DigitOf (get_or s at 0) d → 10 ≤ d → (f : ℕ) (u : List ℕ) → Took bracket (drop at s) (Atom f) u → ⊥
-no_digit_there s at d k h f u p =
+pub no_digit_there : (s : List ℕ) {i : ℕ} → i ≡ 0 → NoDigit (drop i s) → (f : ℕ) (u : List ℕ) → Took bracket s (Atom f) u → ⊥
+no_digit_there s e n f u p =
     let x = name_text p in
-    k.other h (starts x.text u x.digits x.some x.split (get_or s at 0) (λ y b e. sym (head_at s at b y e)))
+    starts x.text u x.digits x.some x.split (subst (λ (k : ℕ). NoDigit (drop k s)) e n)
 
-pub name_ends : {s : List ℕ} {at i v : ℕ} (d : ℕ) → NameSoFar s at i v → DigitOf (get_or s i 0) d → 10 ≤ d → i ≤ at + max_digits → at < i → NameTo s at i v
-name_ends {s} {at} {i} {v} d n k h four some =
-    let e : length (drop at s) ≡ length n.text + length (drop i s) = ap length n.split ∙ length-append n.text (drop i s) in
+pub name_ends : (s : List ℕ) {i v : ℕ} → Digits 0 (take i s) v → i ≤ max_digits → (i ≡ 0 → ⊥) → i ≤ length s → NoDigit (drop i s) → NameOf s i v
+name_ends s {i} n few some h ends =
+    let size : length (take i s) ≡ i = length-take-le i s h in
     record {
-      behind = some;
-      within = omega (arith, n.size, some, e, length-drop at s, length-drop i s);
-      small = omega (arith, few_digits max_digits n.digits (omega (arith, n.size)));
-      took = name_took n.split n.digits (omega (arith, n.size, some)) (omega (arith, n.size)) (λ c t g b. k.other h (subst Digit (sym (head_at s i c t g)) b));
+      some = omega (arith, some);
+      within = h;
+      took = name_took (sym (take-append-drop i s)) n (omega (arith, size, some)) (omega (arith, size, few)) ends;
     }

@@ -1,134 +1,104 @@
--- What the three readers owe each other: an operand and what goes on behind it, `!`, brackets, a name. Used by the proof of their cycle.
--- Assumes nothing.
+-- What the readers owe: operands and what goes on behind them, `!`, brackets, a name. Used by the proof of their cycle. Assumes nothing.
 use mathlib.Core.Path.{◌≡◌, refl, sym, ap, subst, ◌∙◌}
-use mathlib.Core.Bool.{Bool, true, false}
-use mathlib.Core.List.{List, [], ◌∷◌, ◌++◌, append_assoc, append-nil}
-use Prim.Native.Nat.{ℕ, ◌+◌, ◌*◌, ◌≤◌, ◌<◌}
+use mathlib.Core.Bool.{true, false}
+use mathlib.Core.List.{List, [], ◌∷◌, ◌++◌, append_assoc}
+use Prim.Native.Nat.{ℕ, ◌+◌, ◌-◌, ◌≤◌}
 use native.Mathlib.Omega.{arith}
-use lib.ListN.{length, get_or, drop}
+use lib.ListN.{length, take, drop, length-append, length-drop}
+use lib.Seq.{take-length}
 use Rattle.grammar.specs.Conditions.{Condition, Atom, Not, Bracket}
-use Rattle.grammar.specs.Reader.{Operator, disjunction, conjunction, byte_of, Before, nothing, after, joined, Task, from, on, bracket, operand, Stops, Took, operand_took, operator_stop, operator_go, not_took, shut_took, name_took}
+use Rattle.grammar.specs.Reader as grammar
+use Rattle.grammar.specs.Reader.{disjunction, conjunction, nothing, after, joined, Task, from, on, bracket, operand, Stops, Took, operand_took, operator_stop, operator_go, not_took, shut_took, name_took}
 use Rattle.grammar.proofs.OneReadingLaws.{first_same, rest-same, begins, once}
-use Rattle.condition.specs.Code.{postfix, codes_in, code_of, code_before, is_first, pending, joint}
-use Rattle.condition.specs.Outcome.{Joined, CodeRoom, Written, ReadTo, NothingRead, Outcome, NameTo, NameRead}
-use Rattle.condition.specs.declared.Got.{Got}
-use Rattle.condition.specs.declared.Got.TheVariants.{At, Outside}
-use Rattle.condition.specs.declared.Name.{Name}
-use Rattle.condition.specs.declared.Name.TheVariants.{Ends, Absent}
-use Rattle.condition.proofs.PlaceLaws.{inside, opens, stops, never_both}
+use Rattle.condition.specs.declared.Code.{Code}
+use Rattle.condition.specs.declared.Code.TheVariants as code
+use Rattle.condition.specs.declared.Operator.{Operator}
+use Rattle.condition.specs.declared.Operator.TheVariants.{Or, And}
+use Rattle.condition.specs.declared.Reader.{Reader}
+use Rattle.condition.specs.Code.{postfix}
+use Rattle.condition.specs.Outcome.{meant, byte_of, code_of, task_of, operand_of, Passes, Written, NameOf}
 
--- an answer by its case
-pub read_to : (k : Before → Task) (s : List ℕ) (at : ℕ) (old : List ℕ) (used : ℕ) (first : Bool) (new : List ℕ) (r : Got) {i u : ℕ} → r ≡ At i u → Outcome k s at old used first new r → ReadTo k s at old used first new i u
-read_to k s at old used first new r e h = subst (λ (x : Got). Outcome k s at old used first new x) e h
+-- a byte that was passed, or not
+abbrev Passed : ℕ → Reader → Reader → Type 0
+Passed c old new = Passes c old new true
 
-pub nothing_read : (k : Before → Task) (s : List ℕ) (at : ℕ) (old : List ℕ) (used : ℕ) (first : Bool) (new : List ℕ) (r : Got) → r ≡ Outside → Outcome k s at old used first new r → NothingRead k s at old new
-nothing_read k s at old used first new r e h = subst (λ (x : Got). Outcome k s at old used first new x) e h
+abbrev Stayed : ℕ → Reader → Reader → Type 0
+Stayed c old new = Passes c old new false
 
-pub name-to : (s : List ℕ) (at : ℕ) (r : Name) {i f : ℕ} → r ≡ Ends i f → NameRead s at r → NameTo s at i f
-name-to s at r e h = subst (λ (x : Name). NameRead s at x) e h
+-- the same reading from an equal reader
+pub read_from : {k : Task} {old mid new : Reader} → mid ≡ old → Written k mid new → Written k old new
+read_from {k} {new = new} e h = subst (λ (r : Reader). Written k r new) e h
 
-pub no_name : (s : List ℕ) (at : ℕ) (r : Name) → r ≡ Absent → NameRead s at r → NameRead s at Absent
-no_name s at r e h = subst (λ (x : Name). NameRead s at x) e h
+abbrev pub Unread : Task → Reader → Type 0
+Unread k r = (w : Condition) (u : List ℕ) → Took k r.rest.now w u → ⊥
 
--- the room that calls ask for
-pub room_first : {s code : List ℕ} {at used : ℕ} {first : Bool} → CodeRoom s at code used first → CodeRoom s at code used true
-room_first r = record { fits = r.fits; free = omega (arith, r.free) }
+pub unread_from : (k : Task) {old mid : Reader} → mid ≡ old → Unread k mid → Unread k old
+unread_from k e h = subst (λ (r : Reader). Unread k r) e h
 
-pub room_inner : {s code : List ℕ} {at used : ℕ} → CodeRoom s at code used true → CodeRoom s (at + 1) code used true
-room_inner r = record { fits = r.fits; free = omega (arith, r.free) }
+-- ---- operands
+-- the condition so far, of the operands that were passed
+pub record Operands (o : Operator) (old new : Reader) : Type 0 where
+  pub tree : Condition
+  pub onward : (w : Condition) (u : List ℕ) → Took (on (meant o) tree) new.rest.now w u → Took (task_of o) old.rest.now w u
+  pub back : (w : Condition) (u : List ℕ) → Took (task_of o) old.rest.now w u → Took (on (meant o) tree) new.rest.now w u
+  pub wrote : new.code ≡ old.code ++ postfix tree
+  pub room : length new.code + length new.rest.now ≤ length old.code + length old.rest.now
 
-pub room-join : {k : Before → Task} {s old new : List ℕ} {at used i u : ℕ} {first : Bool} → CodeRoom s at old used first → ReadTo k s at old used true new i u → 2 * (u + pending first) ≤ length new
-room-join r h = omega (arith, r.fits, r.free, h.free, h.within, h.size)
+-- what goes on behind an operand is the same behind the same operand
+behind : (o : grammar.Operator) (p : grammar.Before) {s t u : List ℕ} {b w : Condition} → Took (operand o) s b t → Took (from o p) s w u → Took (on o (joined o p b)) t w u
+behind o p {t = t} {u = u} {b = b} {w = w} h (operand_took {t = y} {a = a} f e g) =
+    let x = once h f in
+    subst (λ (l : List ℕ). Took (on o (joined o p b)) l w u) (sym x.left) (subst (λ (z : Condition). Took (on o z) y w u) (e ∙ ap (joined o p) (sym x.tree)) g)
 
-pub not-room : {s old new : List ℕ} {at used i u : ℕ} → CodeRoom s at old used true → ReadTo (λ _. bracket) s (at + 1) old used true new i u → 2 * (u + pending false) ≤ length new
-not-room r h = omega (arith, r.fits, r.free, h.free, h.within, h.size)
-
-pub room_next : {k : Before → Task} {s old new code : List ℕ} {at used i u c v : ℕ} {first : Bool} → CodeRoom s at old used first → ReadTo k s at old used true new i u → Joined new u c first code v → CodeRoom s (i + 1) code v false
-room_next r h j = record { fits = omega (arith, r.fits, h.size, j.size); free = omega (arith, r.free, h.free, j.count) }
-
--- the code of an operand, behind what stands before it
-postfix-joined : (o : Operator) (p : Before) (b : Condition) → code_before p ++ (postfix b ++ joint (is_first p) (code_of o)) ≡ postfix (joined o p b)
-unfolding postfix
-postfix-joined o nothing b = append-nil (postfix b)
-postfix-joined disjunction (after a) b = refl
-postfix-joined conjunction (after a) b = refl
-
-operand_read : {k : Before → Task} {s old new : List ℕ} {at used i u : ℕ} → ReadTo k s at old used true new i u → Written (k nothing) (drop at s) (drop i s) (codes_in used old) (codes_in u new)
-operand_read {old = old} {used = used} h = h.written nothing (codes_in used old) refl (sym (append-nil (codes_in used old)))
-
-wrote-joined : (o : Operator) {new code : List ℕ} {u v : ℕ} {first : Bool} (all base : List ℕ) (p : Before) (b : Condition) → is_first p ≡ first → all ≡ base ++ code_before p → codes_in u new ≡ all ++ postfix b → Joined new u (code_of o) first code v → codes_in v code ≡ base ++ postfix (joined o p b)
-wrote-joined o {first = first} all base p b f e w j =
-    j.wrote ∙ ap (λ (l : List ℕ). l ++ joint first (code_of o)) (w ∙ ap (λ (l : List ℕ). l ++ postfix b) e)
-    ∙ ap (λ (x : Bool). ((base ++ code_before p) ++ postfix b) ++ joint x (code_of o)) (sym f)
-    ∙ append_assoc (base ++ code_before p) (postfix b) (joint (is_first p) (code_of o))
-    ∙ append_assoc base (code_before p) (postfix b ++ joint (is_first p) (code_of o))
-    ∙ ap (λ (l : List ℕ). base ++ l) (postfix-joined o p b)
-
--- an operand with no operator behind it
-pub operands_end : (o : Operator) {s old new code : List ℕ} {at used i u v : ℕ} {first : Bool} (k : Before → Task) → k nothing ≡ operand o
-    → ReadTo k s at old used true new i u → Joined new u (code_of o) first code v → (get_or s i 0 ≡ byte_of o → ⊥) → ReadTo (from o) s at old used first code i v
-operands_end o {s} {old} {new} {code} {at} {used} {i} {u} {v} {first} k q h j n =
-    let x = operand_read h in
-    let t = subst (λ (z : Task). Took z (drop at s) x.tree (drop i s)) q x.took in
-    record {
-      behind = h.behind;
-      within = h.within;
-      size = j.size ∙ h.size;
-      free = omega (arith, h.free, j.count);
-      written = λ p base f e. record {
-        tree = joined o p x.tree;
-        took = operand_took t refl (operator_stop (stops s i (byte_of o) n));
-        wrote = wrote-joined o (codes_in used old) base p x.tree f e x.wrote j;
-      };
-    }
-
--- an operator: the rest goes on with what was read so far
-on_one : (o : Operator) {t u y : List ℕ} {a w : Condition} → t ≡ byte_of o ∷ y → Took (on o a) t w u → Took (from o (after a)) y w u
-on_one o {y = y} e (operator_stop n) = absurd (n y e)
-on_one o {u = u} {a = a} {w = w} e (operator_go f g) = subst (λ (l : List ℕ). Took (from o (after a)) l w u) (rest-same (sym f ∙ e)) g
-
-goes_on : (o : Operator) (p : Before) {s t u y : List ℕ} {b w : Condition} → Took (operand o) s b t → t ≡ byte_of o ∷ y → Took (from o p) s w u → ((a : Condition) → Took (from o (after a)) y w u → ⊥) → ⊥
-goes_on o p {w = w} h e (operand_took {a = a} f q g) n = n a (on_one o (sym (once h f).left ∙ e) g)
-
-byte_some : (o : Operator) → 0 < byte_of o
-byte_some disjunction = omega arith
-byte_some conjunction = omega arith
-
-pub operands_more : (o : Operator) {s old new code : List ℕ} {at used i u v : ℕ} {first : Bool} (k : Before → Task) → k nothing ≡ operand o
-    → ReadTo k s at old used true new i u → Joined new u (code_of o) first code v → get_or s i 0 ≡ byte_of o
-    → (last : List ℕ) (r : Got) → Outcome (from o) s (i + 1) code v false last r → Outcome (from o) s at old used first last r
-operands_more o {s} {old} {new} {code} {at} {used} {i} {u} {v} {first} k q h j b last (At l m) g =
-    let x = operand_read h in
-    let t = subst (λ (z : Task). Took z (drop at s) x.tree (drop i s)) q x.took in
-    record {
-      behind = omega (arith, h.behind, g.behind);
-      within = g.within;
-      size = g.size ∙ j.size ∙ h.size;
-      free = omega (arith, h.free, j.count, g.free);
-      written = λ p base f e.
-          let y = g.written (after (joined o p x.tree)) base refl (wrote-joined o (codes_in used old) base p x.tree f e x.wrote j) in
-          record { tree = y.tree; took = operand_took t refl (operator_go (opens s i (byte_of o) b (byte_some o)) y.took); wrote = y.wrote };
-    }
-operands_more o {s} {old} {new} {code} {at} {used} {i} {u} {v} {first} k q h j b last Outside g =
-    let x = operand_read h in
-    let t = subst (λ (z : Task). Took z (drop at s) x.tree (drop i s)) q x.took in
-    record { size = g.size ∙ j.size ∙ h.size; never = λ p w z f. goes_on o p t (opens s i (byte_of o) b (byte_some o)) f (λ a d. g.never (after a) w z d) }
-
-no_operand : (o : Operator) (p : Before) {s u : List ℕ} {w : Condition} → Took (from o p) s w u → ((b : Condition) (t : List ℕ) → Took (operand o) s b t → ⊥) → ⊥
-no_operand o p (operand_took {t = t} {b = b} h e g) n = n b t h
-
-pub operands_none : (o : Operator) {s old new : List ℕ} {at : ℕ} (k : Before → Task) → k nothing ≡ operand o → NothingRead k s at old new → NothingRead (from o) s at old new
-operands_none o {s} {at = at} k q h = record {
-  size = h.size;
-  never = λ p w u f. no_operand o p f (λ b t d. h.never nothing b t (subst (λ (z : Task). Took z (drop at s) b t) (sym q) d));
+pub first_operand : (o : Operator) {old new : Reader} → Written (operand_of o) old new → Operands o old new
+first_operand o h = record {
+  tree = h.tree;
+  onward = λ w u g. operand_took h.took refl g;
+  back = λ w u f. behind (meant o) nothing h.took f;
+  wrote = h.wrote;
+  room = h.room;
 }
 
--- where nothing stands before, the base is all of the codes so far
-only_base : {x y all code : List ℕ} → Written bracket x y all code → (p : Before) (base : List ℕ) → is_first p ≡ true → all ≡ base ++ code_before p → Written bracket x y base code
-only_base {x} {y} {all} {code} h nothing base f e = subst (λ (l : List ℕ). Written bracket x y l code) (e ∙ append-nil base) h
-only_base h (after a) base f e = absurd (never_both false f refl)
+pub no_operand : (o : grammar.Operator) {p : grammar.Before} {s u : List ℕ} {w : Condition} → Took (from o p) s w u → ((b : Condition) (t : List ℕ) → Took (operand o) s b t → ⊥) → ⊥
+no_operand o (operand_took {t = t} {b = b} h e g) n = n b t h
 
--- what can stand in an operand of `&`, by its first byte
+-- an operator and what stands behind it
+go_on : (o : grammar.Operator) {t u y : List ℕ} {a w : Condition} → t ≡ grammar.byte_of o ∷ y → Took (on o a) t w u → Took (from o (after a)) y w u
+go_on o {y = y} e (operator_stop n) = absurd (n y e)
+go_on o {u = u} {a = a} {w = w} e (operator_go f g) = subst (λ (l : List ℕ). Took (from o (after a)) l w u) (rest-same (sym f ∙ e)) g
+
+postfix-joined : (o : Operator) (a b : Condition) → postfix a ++ (postfix b ++ (code_of o ∷ [])) ≡ postfix (joined (meant o) (after a) b)
+unfolding postfix
+postfix-joined Or a b = refl
+postfix-joined And a b = refl
+
+pub next_operand : (o : Operator) {old mid next last new : Reader} {c : ℕ} {d : Code} → c ≡ byte_of o → d ≡ code_of o → Operands o old mid → Passed c mid next → Written (operand_of o) next last → new.rest ≡ last.rest → new.code ≡ last.code ++ (d ∷ []) → Operands o old new
+next_operand o {old} {mid} {next} {last} {new} {c} {d} bytes codes h q x r f =
+    let p : Passed (byte_of o) mid next = subst (λ (y : ℕ). Passed y mid next) bytes q in
+    let e : new.code ≡ last.code ++ (code_of o ∷ []) = f ∙ ap (λ (y : Code). last.code ++ (y ∷ [])) codes in
+    let rest : last.rest.now ≡ new.rest.now = ap (λ y. y.now) (sym r) in
+    record {
+      tree = joined (meant o) (after h.tree) x.tree;
+      onward = λ w u g. h.onward w u (operator_go p.0 (operand_took (subst (λ (l : List ℕ). Took (operand_of o) next.rest.now x.tree l) rest x.took) refl g));
+      back = λ w u f. subst (λ (l : List ℕ). Took (on (meant o) (joined (meant o) (after h.tree) x.tree)) l w u) rest (behind (meant o) (after h.tree) x.took (go_on (meant o) p.0 (h.back w u f)));
+      wrote = e ∙ ap (λ (l : List Code). l ++ (code_of o ∷ [])) (x.wrote ∙ ap (λ (l : List Code). l ++ postfix x.tree) (p.1 ∙ h.wrote))
+          ∙ append_assoc (old.code ++ postfix h.tree) (postfix x.tree) (code_of o ∷ []) ∙ append_assoc old.code (postfix h.tree) (postfix x.tree ++ (code_of o ∷ []))
+          ∙ ap (λ (l : List Code). old.code ++ l) (postfix-joined o h.tree x.tree);
+      room = omega (arith, h.room, ap length p.0, ap length p.1, x.room, ap length rest, ap length e, length-append last.code (code_of o ∷ []));
+    }
+
+pub operands_end : (o : Operator) {old mid new : Reader} {c : ℕ} → c ≡ byte_of o → Operands o old mid → Stayed c mid new → Written (task_of o) old new
+operands_end o {old} {mid} {new} bytes h q =
+    let n : Stayed (byte_of o) mid new = subst (λ (y : ℕ). Stayed y mid new) bytes q in
+    subst (λ (r : Reader). Written (task_of o) old r) (sym n.0)
+    record { tree = h.tree; took = h.onward h.tree _ (operator_stop n.1); wrote = h.wrote; room = h.room }
+
+pub operands_none : (o : Operator) (old mid next : Reader) {c : ℕ} → c ≡ byte_of o → Operands o old mid → Passed c mid next → Unread (operand_of o) next → Unread (task_of o) old
+operands_none o old mid next bytes h q n w u f =
+    let p : Passed (byte_of o) mid next = subst (λ (y : ℕ). Passed y mid next) bytes q in
+    no_operand (meant o) (go_on (meant o) p.0 (h.back w u f)) n
+
+-- ---- an operand of `&`, by its first byte
 not_only : {x y u : List ℕ} {w : Condition} → x ≡ 33 ∷ y → Took bracket x w u → ((a : Condition) → Took bracket y a u → ⊥) → ⊥
 not_only {u = u} e (not_took {a = a} f h) n = n a (subst (λ (l : List ℕ). Took bracket l a u) (rest-same (sym f ∙ e)) h)
 not_only e (shut_took f h g) n = omega (arith, first_same (sym e ∙ f))
@@ -145,63 +115,52 @@ name_only a b (shut_took {t = t} f h g) n = b t f
 name_only a b (name_took {f = f} e d some few m) n = n f (name_took e d some few m)
 
 -- behind `!`
-pub negated_read : {s old new code : List ℕ} {at used i u v : ℕ} → get_or s at 0 ≡ 33 → ReadTo (λ _. bracket) s (at + 1) old used true new i u → Joined new u 0 false code v → ReadTo (λ _. bracket) s at old used true code i v
+pub negated_read : {old next last new : Reader} → Passed 33 old next → Written bracket next last → new.rest ≡ last.rest → new.code ≡ last.code ++ (code.Not ∷ []) → Written bracket old new
 unfolding postfix
-negated_read {s} {old} {new} {code} {at} {used} {i} {u} {v} b h j =
-    let x = operand_read h in
+negated_read {old} {next} {last} {new} p x r e =
+    let rest : last.rest.now ≡ new.rest.now = ap (λ y. y.now) (sym r) in
     record {
-      behind = omega (arith, h.behind);
-      within = h.within;
-      size = j.size ∙ h.size;
-      free = omega (arith, h.free, j.count);
-      written = only_base (record {
-        tree = Not x.tree;
-        took = not_took (opens s at 33 b (omega arith)) x.took;
-        wrote = j.wrote ∙ ap (λ (l : List ℕ). l ++ (0 ∷ [])) x.wrote ∙ append_assoc (codes_in used old) (postfix x.tree) (0 ∷ []);
-      });
+      tree = Not x.tree;
+      took = not_took p.0 (subst (λ (l : List ℕ). Took bracket next.rest.now x.tree l) rest x.took);
+      wrote = e ∙ ap (λ (l : List Code). l ++ (code.Not ∷ [])) (x.wrote ∙ ap (λ (l : List Code). l ++ postfix x.tree) p.1) ∙ append_assoc old.code (postfix x.tree) (code.Not ∷ []);
+      room = omega (arith, ap length p.0, ap length p.1, x.room, ap length rest, ap length e, length-append last.code (code.Not ∷ []));
     }
 
-pub negated-none : {s old new : List ℕ} {at : ℕ} → get_or s at 0 ≡ 33 → NothingRead (λ _. bracket) s (at + 1) old new → NothingRead (λ _. bracket) s at old new
-negated-none {s} {at = at} b h = record { size = h.size; never = λ p w u f. not_only (opens s at 33 b (omega arith)) f (λ a d. h.never nothing a u d) }
+pub negated-none : (old next : Reader) → Passed 33 old next → Unread bracket next → Unread bracket old
+negated-none old next p n w u f = not_only p.0 f (λ a d. n a u d)
 
 -- in brackets
-pub shut_read : {s old new : List ℕ} {at used i u : ℕ} → get_or s at 0 ≡ 40 → ReadTo (from disjunction) s (at + 1) old used true new i u → get_or s i 0 ≡ 41 → ReadTo (λ _. bracket) s at old used true new (i + 1) u
+pub shut_read : {old next last new : Reader} → Passed 40 old next → Written (from disjunction nothing) next last → Passed 41 last new → Written bracket old new
 unfolding postfix
-shut_read {s} {old} {new} {at} {used} {i} {u} b h e =
-    let x = operand_read h in
-    record {
-      behind = omega (arith, h.behind);
-      within = omega (arith, inside s i 41 e (omega arith));
-      size = h.size;
-      free = omega (arith, h.free);
-      written = only_base (record {
-        tree = Bracket x.tree;
-        took = shut_took (opens s at 40 b (omega arith)) x.took (opens s i 41 e (omega arith));
-        wrote = x.wrote;
-      });
-    }
-
-pub unshut_none : {s old new : List ℕ} {at used i u : ℕ} → get_or s at 0 ≡ 40 → ReadTo (from disjunction) s (at + 1) old used true new i u → (get_or s i 0 ≡ 41 → ⊥) → NothingRead (λ _. bracket) s at old new
-unshut_none {s} {at = at} {i = i} b h n =
-    let x = operand_read h in
-    record { size = h.size; never = λ p w u f. shut_only (opens s at 40 b (omega arith)) f (λ a v d e. stops s i 41 n u ((once x.took d).left ∙ e)) }
-
-pub bracket-none : {s old new : List ℕ} {at : ℕ} → get_or s at 0 ≡ 40 → NothingRead (from disjunction) s (at + 1) old new → NothingRead (λ _. bracket) s at old new
-bracket-none {s} {at = at} b h = record { size = h.size; never = λ p w u f. shut_only (opens s at 40 b (omega arith)) f (λ a v d e. h.never nothing a v d) }
-
--- a name
-pub name_read : {s old code : List ℕ} {at used i f v : ℕ} → NameTo s at i f → Joined old used (f + 3) false code v → ReadTo (λ _. bracket) s at old used true code i v
-unfolding postfix
-name_read h j = record {
-  behind = h.behind;
-  within = h.within;
-  size = j.size;
-  free = omega (arith, h.behind, j.count);
-  written = only_base (record { tree = Atom _; took = h.took; wrote = j.wrote });
+shut_read {old} p x q = record {
+  tree = Bracket x.tree;
+  took = shut_took p.0 x.took q.0;
+  wrote = q.1 ∙ x.wrote ∙ ap (λ (l : List Code). l ++ postfix x.tree) p.1;
+  room = omega (arith, ap length p.0, ap length p.1, x.room, ap length q.0, ap length q.1);
 }
 
-pub name-room : {s old : List ℕ} {at used i f : ℕ} → CodeRoom s at old used true → NameTo s at i f → 2 * (used + pending false) ≤ length old
-name-room r h = omega (arith, r.fits, r.free, h.behind, h.within)
+pub unshut_none : (old next last new : Reader) → Passed 40 old next → Written (from disjunction nothing) next last → Stayed 41 last new → Unread bracket old
+unshut_none old next last new p x n w u f = shut_only p.0 f (λ a v d e. n.1 u ((once x.took d).left ∙ e))
 
-pub name-none : (s old : List ℕ) (at : ℕ) → (get_or s at 0 ≡ 33 → ⊥) → (get_or s at 0 ≡ 40 → ⊥) → NameRead s at Absent → NothingRead (λ _. bracket) s at old old
-name-none s old at a b h = record { size = refl; never = λ p w u f. name_only (stops s at 33 a) (stops s at 40 b) f (λ n d. h n u d) }
+pub bracket-none : (old next : Reader) → Passed 40 old next → Unread (from disjunction nothing) next → Unread bracket old
+bracket-none old next p n w u f = shut_only p.0 f (λ a v d e. n a v d)
+
+-- a name
+pub name_read : {old new : Reader} (digits : ℕ) {f : ℕ} → NameOf old.rest.now digits f → new.rest.now ≡ take (length old.rest.now - digits) (drop digits old.rest.now) → new.code ≡ old.code ++ (code.Name f ∷ []) → Written bracket old new
+unfolding postfix
+name_read {old} {new} digits {f} h q e =
+    let r : new.rest.now ≡ drop digits old.rest.now = q ∙ ap (λ (n : ℕ). take n (drop digits old.rest.now)) (sym (length-drop digits old.rest.now)) ∙ take-length (drop digits old.rest.now) in
+    record {
+      tree = Atom f;
+      took = subst (λ (l : List ℕ). Took bracket old.rest.now (Atom f) l) (sym r) h.took;
+      wrote = e;
+      room = omega (arith, h.some, h.within, ap length r, length-drop digits old.rest.now, ap length e, length-append old.code (code.Name f ∷ []));
+    }
+
+pub name-none : (old : Reader) → Stops 33 old.rest.now → Stops 40 old.rest.now → ((f : ℕ) (u : List ℕ) → Took bracket old.rest.now (Atom f) u → ⊥) → Unread bracket old
+name-none old a b h w u f = name_only a b f (λ n d. h n u d)
+
+-- ---- the levels below an operator's operand
+abbrev pub levels : Operator → ℕ
+levels Or = 3
+levels And = 1

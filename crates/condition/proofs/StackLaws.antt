@@ -4,9 +4,10 @@ use mathlib.Core.Path.{◌≡◌, refl, sym, ap, ◌∙◌}
 use mathlib.Core.List.{List, [], ◌∷◌, ◌++◌, append_assoc, append-nil}
 use Prim.Native.Nat.{ℕ, ◌+◌, ◌*◌, ◌-◌, ◌≤◌, max}
 use native.Mathlib.Omega.{arith}
-use borrow.Author.Tests.{le-ltb}
 use Rattle.grammar.specs.Conditions.{Condition, Atom, Not, And, Or, Bracket, Level, or-level, and-level, bracket-level, Reads, or_one, or_more, and_one, and_more, negated, bracketed, named, depth}
-use Rattle.condition.specs.Code.{name_code, postfix, height_by, peak}
+use Rattle.condition.specs.Code.{postfix, height_by, peak}
+use Rattle.condition.specs.declared.Code.{Code}
+use Rattle.condition.specs.declared.Code.TheVariants as code
 use Rattle.condition.specs.Causes.{max_depth}
 
 -- by how many bits a condition's code raises the stack at most
@@ -25,39 +26,37 @@ rise_some (And a b) = omega (arith, rise_some a)
 rise_some (Or a b) = omega (arith, rise_some a)
 rise_some (Bracket a) = rise_some a
 
-pub peak-least : (h : ℕ) (cs : List ℕ) → h ≤ peak h cs
+pub peak-least : (h : ℕ) (cs : List Code) → h ≤ peak h cs
 unfolding peak
 peak-least h [] = omega arith
 peak-least h (c ∷ cs) = omega arith
 
-name-peak : (h f : ℕ) (cs : List ℕ) → peak h ((f + name_code) ∷ cs) ≡ peak (h + 1) cs
+name-peak : (h f : ℕ) (cs : List Code) → peak h (code.Name f ∷ cs) ≡ peak (h + 1) cs
 unfolding peak
-name-peak h f cs =
-    let e : height_by h (f + name_code) ≡ h + 1 = rw (le-ltb (f + name_code) name_code (omega arith)) refl in
-    ap (λ (x : ℕ). max h (peak x cs)) e ∙ omega (arith, peak-least (h + 1) cs)
+name-peak h f cs = omega (arith, peak-least (h + 1) cs)
 
 -- an operator of two operands, behind the second
-two_peak : (h c : ℕ) (cs : List ℕ) → height_by (h + 1 + 1) c ≡ max 1 (h + 1 + 1 - 1) → peak (h + 1 + 1) (c ∷ cs) ≡ max (h + 2) (peak (h + 1) cs)
+two_peak : (h : ℕ) (c : Code) (cs : List Code) → height_by (h + 1 + 1) c ≡ max 1 (h + 1 + 1 - 1) → peak (h + 1 + 1) (c ∷ cs) ≡ max (h + 2) (peak (h + 1) cs)
 unfolding peak
 two_peak h c cs e =
     let f : max 1 (h + 1 + 1 - 1) ≡ h + 1 = omega arith in
     let g : h + 1 + 1 ≡ h + 2 = omega arith in
     ap (λ (x : ℕ). max (h + 1 + 1) (peak x cs)) (e ∙ f) ∙ ap (λ (x : ℕ). max x (peak (h + 1) cs)) g
 
-peak-postfix : (w : Condition) (h : ℕ) (cs : List ℕ) → peak h (postfix w ++ cs) ≡ max (h + rise w) (peak (h + 1) cs)
+peak-postfix : (w : Condition) (h : ℕ) (cs : List Code) → peak h (postfix w ++ cs) ≡ max (h + rise w) (peak (h + 1) cs)
 unfolding peak postfix rise
 peak-postfix (Atom f) h cs = name-peak h f cs ∙ omega (arith, peak-least (h + 1) cs)
 peak-postfix (Not a) h cs =
-    ap (peak h) (append_assoc (postfix a) (0 ∷ []) cs) ∙ peak-postfix a h (0 ∷ cs) ∙ omega (arith, peak-least (h + 1) cs)
+    ap (peak h) (append_assoc (postfix a) (code.Not ∷ []) cs) ∙ peak-postfix a h (code.Not ∷ cs) ∙ omega (arith, peak-least (h + 1) cs)
 peak-postfix (And a b) h cs =
-    ap (peak h) (append_assoc (postfix a) (postfix b ++ (1 ∷ [])) cs ∙ ap (λ (l : List ℕ). postfix a ++ l) (append_assoc (postfix b) (1 ∷ []) cs))
-    ∙ peak-postfix a h (postfix b ++ (1 ∷ cs))
-    ∙ ap (λ (x : ℕ). max (h + rise a) x) (peak-postfix b (h + 1) (1 ∷ cs) ∙ ap (λ (x : ℕ). max (h + 1 + rise b) x) (two_peak h 1 cs refl))
+    ap (peak h) (append_assoc (postfix a) (postfix b ++ (code.And ∷ [])) cs ∙ ap (λ (l : List Code). postfix a ++ l) (append_assoc (postfix b) (code.And ∷ []) cs))
+    ∙ peak-postfix a h (postfix b ++ (code.And ∷ cs))
+    ∙ ap (λ (x : ℕ). max (h + rise a) x) (peak-postfix b (h + 1) (code.And ∷ cs) ∙ ap (λ (x : ℕ). max (h + 1 + rise b) x) (two_peak h code.And cs refl))
     ∙ omega (arith, rise_some b)
 peak-postfix (Or a b) h cs =
-    ap (peak h) (append_assoc (postfix a) (postfix b ++ (2 ∷ [])) cs ∙ ap (λ (l : List ℕ). postfix a ++ l) (append_assoc (postfix b) (2 ∷ []) cs))
-    ∙ peak-postfix a h (postfix b ++ (2 ∷ cs))
-    ∙ ap (λ (x : ℕ). max (h + rise a) x) (peak-postfix b (h + 1) (2 ∷ cs) ∙ ap (λ (x : ℕ). max (h + 1 + rise b) x) (two_peak h 2 cs refl))
+    ap (peak h) (append_assoc (postfix a) (postfix b ++ (code.Or ∷ [])) cs ∙ ap (λ (l : List Code). postfix a ++ l) (append_assoc (postfix b) (code.Or ∷ []) cs))
+    ∙ peak-postfix a h (postfix b ++ (code.Or ∷ cs))
+    ∙ ap (λ (x : ℕ). max (h + rise a) x) (peak-postfix b (h + 1) (code.Or ∷ cs) ∙ ap (λ (x : ℕ). max (h + 1 + rise b) x) (two_peak h code.Or cs refl))
     ∙ omega (arith, rise_some b)
 peak-postfix (Bracket a) h cs = peak-postfix a h cs
 

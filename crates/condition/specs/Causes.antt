@@ -1,6 +1,6 @@
 -- Document 02, (e): causes 16, 17 and 11 of a condition, in order of test, and the states in which it holds, by its one reading.
 -- Assumes nothing.
-use Rattle.std.specs.Prelude.{Bool, true, false, not, ◌||◌, List, [], ◌∷◌, ℕ, ◌*◌, ltb, length}
+use Rattle.std.specs.Prelude.{Bool, true, false, not, ◌||◌, List, [], ◌∷◌, ℕ, ltb, length}
 use Rattle.models.specs.StableModels.{Interpretation}
 use Rattle.grammar.specs.Conditions.{fits, depth, names_below}
 use Rattle.grammar.specs.Parse.{TextRead, Read, Unread, reading_of}
@@ -10,10 +10,6 @@ use Rattle.book.specs.declared.Cause.TheVariants.{BadCondition, TooDeep, NoSuchF
 -- "one over 255 bytes"
 abbrev pub max_condition : ℕ
 max_condition = 255
-
--- the bytes of a condition's code: two for each of its bytes at most
-abbrev pub code_bytes : ℕ
-code_bytes = 2 * max_condition
 
 -- "brackets nested over 16 deep"
 abbrev pub max_depth : ℕ

@@ -1,95 +1,95 @@
 -- What the functions that read a condition answer: a reading and its code, or the first cause. Assumes nothing.
-use Rattle.std.specs.Prelude.{◌≡◌, Bool, List, ◌++◌, ℕ, ◌+◌, ◌*◌, ◌≤◌, ◌<◌, length, drop}
+use Rattle.std.specs.Prelude.{◌≡◌, Bool, true, false, List, ◌∷◌, ◌++◌, ℕ, ◌+◌, ◌≤◌, length, drop, Some, None, Ok, Err}
+use Rattle.std.specs.declared.option.Option.{Option}
+use Rattle.std.specs.declared.result.Result.{Result}
 use Rattle.models.specs.StableModels.{Interpretation}
 use Rattle.grammar.specs.Conditions.{Condition, Atom, Digit, Reads, or-level}
-use Rattle.grammar.specs.Reader.{Before, Task, bracket, Took}
+use Rattle.grammar.specs.Reader as grammar
+use Rattle.grammar.specs.Reader.{Task, from, bracket, operand, nothing, Took, disjunction, conjunction}
 use Rattle.book.specs.Causes.{first_of}
+use Rattle.book.specs.declared.Cause.{Cause}
 use Rattle.book.specs.declared.Verdict.TheVariants as verdict
-use Rattle.condition.specs.Code.{postfix, codes_in, lent_code, code_before, is_first, pending, joint, code_holds, StackFits}
+use Rattle.condition.specs.Code.{postfix, code_holds, StackFits}
 use Rattle.condition.specs.Causes.{max_condition, condition_tests, fits_text}
-use Rattle.condition.specs.declared.Name.{Name}
-use Rattle.condition.specs.declared.Name.TheVariants.{Ends, Absent}
-use Rattle.condition.specs.declared.Got.{Got}
-use Rattle.condition.specs.declared.Got.TheVariants.{At, Outside}
-use Rattle.condition.specs.declared.Compiled.{Compiled}
-use Rattle.condition.specs.declared.Compiled.TheVariants.{Codes, Ungrammatical}
-use Rattle.condition.specs.declared.Prepared.{Prepared}
-use Rattle.condition.specs.declared.Prepared.TheVariants.{Coded, Refused}
+use Rattle.condition.specs.declared.Code.{Code}
+use Rattle.condition.specs.declared.Code.TheVariants as code
+use Rattle.condition.specs.declared.Operator.{Operator}
+use Rattle.condition.specs.declared.Operator.TheVariants.{Or, And}
+use Rattle.condition.specs.declared.Reader.{Reader}
 
--- below 10 the value of the digit c, and 10 where c is none
-pub record DigitOf (c r : ℕ) : Type 0 where
-  pub most : r ≤ 10
-  pub digit : r < 10 → c ≡ r + 48
-  pub other : 10 ≤ r → Digit c → ⊥
+-- an operator of the grammar, its byte and its code
+abbrev pub meant : Operator → grammar.Operator
+meant Or = disjunction
+meant And = conjunction
 
--- a name goes from `at` to i, and is the number f
-pub record NameTo (s : List ℕ) (at i f : ℕ) : Type 0 where
-  pub behind : at < i
-  pub within : i ≤ length s
-  pub small : f ≤ 9999
-  pub took : Took bracket (drop at s) (Atom f) (drop i s)
+abbrev pub byte_of : Operator → ℕ
+byte_of o = grammar.byte_of (meant o)
 
-abbrev pub NameRead : List ℕ → ℕ → Name → Type 0
-NameRead s at (Ends i f) = NameTo s at i f
-NameRead s at Absent = (f : ℕ) (u : List ℕ) → Took bracket (drop at s) (Atom f) u → ⊥
+abbrev pub code_of : Operator → Code
+code_of Or = code.Or
+code_of And = code.And
 
--- behind a second operand stands its operator c
-pub record Joined (old : List ℕ) (used c : ℕ) (first : Bool) (new : List ℕ) (r : ℕ) : Type 0 where
-  pub size : length new ≡ length old
-  pub count : r ≡ used + pending first
-  pub wrote : codes_in r new ≡ codes_in used old ++ joint first c
+-- operands of an operator, and one of them
+abbrev pub task_of : Operator → Task
+task_of o = from (meant o) nothing
 
--- there is a place for every code: at most as many as bytes before `at`, and one less where an operator is due
-pub record CodeRoom (s : List ℕ) (at : ℕ) (code : List ℕ) (used : ℕ) (first : Bool) : Type 0 where
-  pub fits : 2 * length s ≤ length code
-  pub free : used + pending first ≤ at
+abbrev pub operand_of : Operator → Task
+operand_of o = operand (meant o)
 
--- a condition was read, and its code stands behind the base
-pub record Written (k : Task) (s left base code : List ℕ) : Type 0 where
+-- the value of the digit c, or that c is none
+abbrev pub DigitOf : ℕ → Option ℕ → Type 0
+DigitOf c (Some d) = Digit c × (c ≡ d + 48)
+DigitOf c None = Digit c → ⊥
+
+-- a name of so many digits is the number f
+pub record NameOf (s : List ℕ) (digits f : ℕ) : Type 0 where
+  pub some : 1 ≤ digits
+  pub within : digits ≤ length s
+  pub took : Took bracket s (Atom f) (drop digits s)
+
+abbrev pub NameRead : List ℕ → Option (ℕ × ℕ) → Type 0
+NameRead s (Some (digits, f)) = NameOf s digits f
+NameRead s None = (f : ℕ) (u : List ℕ) → Took bracket s (Atom f) u → ⊥
+
+abbrev pub Passes : ℕ → Reader → Reader → Bool → Type 0
+Passes c old new true = (old.rest.now ≡ c ∷ new.rest.now) × (new.code ≡ old.code)
+Passes c old new false = (new ≡ old) × ((s : List ℕ) → old.rest.now ≡ c ∷ s → ⊥)
+
+abbrev pub Room : Reader → Type 0
+Room r = length r.code + length r.rest.now ≤ max_condition
+
+-- a condition was read, and its code stands behind the codes before
+pub record Written (k : Task) (old new : Reader) : Type 0 where
   pub tree : Condition
-  pub took : Took k s tree left
-  pub wrote : code ≡ base ++ postfix tree
+  pub took : Took k old.rest.now tree new.rest.now
+  pub wrote : new.code ≡ old.code ++ postfix tree
+  pub room : length new.code + length new.rest.now ≤ length old.code + length old.rest.now
 
--- the reading went from `at` to i, and the codes from used to u
-pub record ReadTo (k : Before → Task) (s : List ℕ) (at : ℕ) (old : List ℕ) (used : ℕ) (first : Bool) (new : List ℕ) (i u : ℕ) : Type 0 where
-  pub behind : at < i
-  pub within : i ≤ length s
-  pub size : length new ≡ length old
-  pub free : u + at ≤ i + used + pending first
-  pub written : (p : Before) (base : List ℕ) → is_first p ≡ first → codes_in used old ≡ base ++ code_before p → Written (k p) (drop at s) (drop i s) base (codes_in u new)
+abbrev pub Outcome : Task → Reader → Reader → Option (Unit {0}) → Type 0
+Outcome k old new (Some u) = Written k old new
+Outcome k old new None = (w : Condition) (u : List ℕ) → Took k old.rest.now w u → ⊥
 
--- nothing that stands at `at` can be read
-pub record NothingRead (k : Before → Task) (s : List ℕ) (at : ℕ) (old new : List ℕ) : Type 0 where
-  pub size : length new ≡ length old
-  pub never : (p : Before) (w : Condition) (u : List ℕ) → Took (k p) (drop at s) w u → ⊥
-
-abbrev pub Outcome : (Before → Task) → List ℕ → ℕ → List ℕ → ℕ → Bool → List ℕ → Got → Type 0
-Outcome k s at old used first new (At i u) = ReadTo k s at old used first new i u
-Outcome k s at old used first new Outside = NothingRead k s at old new
-
--- the text has a reading, and the first u codes are its postfix code
-pub record CompiledTo (s code : List ℕ) (u : ℕ) : Type 0 where
+-- the text has a reading, and these are its postfix code
+pub record CompiledTo (s : List ℕ) (codes : List Code) : Type 0 where
   pub tree : Condition
   pub short : length s ≤ max_condition
   pub reads : Reads or-level tree s
-  pub size : 2 * u ≤ length code
-  pub wrote : codes_in u code ≡ postfix tree
+  pub wrote : codes ≡ postfix tree
 
 -- cause 16
 abbrev pub NoReading : List ℕ → Type 0
 NoReading s = length s ≤ max_condition → (a : Condition) → Reads or-level a s → ⊥
 
-abbrev pub Compiles : List ℕ → List ℕ → Compiled → Type 0
-Compiles s code (Codes u) = CompiledTo s code u
-Compiles s code Ungrammatical = NoReading s
+abbrev pub Compiles : List ℕ → Option (List Code) → Type 0
+Compiles s (Some codes) = CompiledTo s codes
+Compiles s None = NoReading s
 
--- none of the condition's causes applies, and the first u codes say of every state whether it holds there
-pub record CodedTo (s : List ℕ) (n : ℕ) (code : List ℕ) (u : ℕ) : Type 0 where
-  pub size : 2 * u ≤ length code
+-- none of the condition's causes applies, and the codes say of every state whether it holds there
+pub record CodedTo (s : List ℕ) (n : ℕ) (codes : List Code) : Type 0 where
   pub none : first_of (condition_tests n s) ≡ verdict.Accepted
-  pub stack : StackFits (lent_code code u)
-  pub value : (m : Interpretation) → code_holds (lent_code code u) m ≡ fits_text s m
+  pub stack : StackFits codes
+  pub value : (m : Interpretation) → code_holds codes m ≡ fits_text s m
 
-abbrev pub Prepares : List ℕ → ℕ → List ℕ → Prepared → Type 0
-Prepares s n code (Coded u) = CodedTo s n code u
-Prepares s n code (Refused c) = first_of (condition_tests n s) ≡ verdict.Refused c
+abbrev pub Prepares : List ℕ → ℕ → Result (List Code) Cause → Type 0
+Prepares s n (Ok codes) = CodedTo s n codes
+Prepares s n (Err c) = first_of (condition_tests n s) ≡ verdict.Refused c

@@ -1,21 +1,18 @@
 // Conditions such as 3&!14|(2&5): read once a call into postfix code, judged by their brackets and names, and evaluated at each state.
 #![tactic(auto)]
 
-ghost use Rattle.std.specs.Prelude.{◌≡◌, true, false, ◌+◌, ◌*◌, ◌^◌, ◌≤◌, ◌<◌, max, length, get_or};
-ghost use Rattle.grammar.specs.Reader.{from, bracket, disjunction, conjunction};
-ghost use Rattle.condition.specs.Code.{pending, name_code, codes_of, step, code_holds, StackFits, opened, deepest, code_below, codes_below};
-ghost use Rattle.condition.specs.Causes.{code_bytes};
-ghost use Rattle.condition.specs.Outcome.{DigitOf, NameRead, Joined, CodeRoom, Outcome, Compiles, Prepares};
+ghost use Rattle.std.specs.Prelude.{◌≡◌, List, [], ◌∷◌, ◌++◌, ◌+◌, ◌*◌, ◌^◌, ◌≤◌, ◌<◌, length, take, ℕ};
+ghost use Rattle.models.specs.Listing.{bit_value};
+ghost use Rattle.grammar.specs.Reader.{bracket};
+ghost use Rattle.condition.specs.Causes.{max_condition};
+ghost use Rattle.condition.specs.Code.{push, step, Fits, code_holds, StackFits, opened, deepest, code_below, codes_below};
+ghost use Rattle.condition.specs.Outcome.{byte_of, code_of, task_of, operand_of, DigitOf, NameRead, Passes, Room, Outcome, Compiles, Prepares};
 
-use base::wide;
 use book::Cause;
-use format::be16;
-use records::atom_bit;
+use std::marker::Model;
 
-// The bytes of the longest condition; it has no more codes than bytes, of two bytes each.
+// The bytes of the longest condition; it has no more codes than bytes.
 pub const MAX_CONDITION: usize = 255;
-
-pub const CODE_BYTES: usize = 2 * MAX_CONDITION;
 
 const MAX_DIGITS: usize = 4;
 
@@ -25,164 +22,196 @@ const MAX_DEPTH: usize = 16;
 // How many brackets can be shut within the longest condition: two bytes each, and one for a name.
 const MAX_SHUT: usize = 127;
 
-// Postfix code: three operators, and from NAME_CODE on a fact's number plus NAME_CODE.
-const NOT_CODE: usize = 0;
-
-const AND_CODE: usize = 1;
-
-const OR_CODE: usize = 2;
-
-const NAME_CODE: usize = 3;
-
-// The place behind a name and its number, or that no name of one to four digits stands there.
-#[derive(Clone, Copy)]
-enum Name {
-    Ends(usize, usize),
-    Absent,
+// A fact's name pushes whether it stands; an operator takes its operands off the stack and pushes its value.
+#[derive(Clone, Copy, PartialEq, Eq, Debug)]
+pub enum Code {
+    Not,
+    And,
+    Or,
+    Name(u16),
 }
 
-// The place behind what was read and the number of codes written, or that what stands there is outside the grammar.
-#[derive(Clone, Copy)]
-enum Got {
-    At(usize, usize),
-    Outside,
-}
-
-// The byte at a place, and 0 past the end.
-fn byte_at(s: &[u8], at: usize) -> u8
-    ensures { result ≡ get_or s.now at 0 }
-{
-    if at < s.len() {
-        return s[at];
+impl Code {
+    // Whether a code is an operator or a fact below n.
+    fn is_below(self, n: usize) -> bool
+        ensures { result ≡ code_below n self }
+    {
+        match self {
+            Code::Name(f) => usize::from(f) < n,
+            _ => true,
+        }
     }
-    0
 }
 
-// A digit's value, and 10 for every other byte.
-fn digit_of(c: u8) -> usize
+// A condition's postfix code, of at most MAX_CONDITION codes.
+#[derive(Drop)]
+pub struct Postfix {
+    codes: [Code; MAX_CONDITION],
+    used: usize,
+}
+
+// Clauses see the codes.
+impl Model for Postfix {
+    ghost use Rattle.std.specs.Prelude.{◌≤◌, List, take};
+    ghost use Rattle.condition.specs.declared.Code.{Code};
+    ghost use Rattle.condition.specs.Causes.{max_condition};
+
+    ghost Value = { List Code };
+
+    ghost view = { λ p. take p.used p.codes };
+
+    ghost invariant = { λ p. p.used ≤ max_condition };
+}
+
+impl Postfix {
+    fn new() -> Postfix
+        ensures { result ≡ [] }
+    {
+        Postfix {
+            codes: [Code::Not; MAX_CONDITION],
+            used: 0,
+        }
+    }
+
+    pub fn as_slice(&self) -> &[Code]
+        ensures { result.now ≡ self.now }
+    {
+        &self.codes[..self.used]
+    }
+
+    fn push(&mut self, code: Code)
+        requires { length self.old < max_condition }
+        ensures { self.new ≡ self.old ++ code ∷ [] }
+    {
+        self.codes[self.used] = code;
+        self.used += 1;
+    }
+}
+
+// The operators that stand between operands.
+#[derive(Clone, Copy)]
+enum Operator {
+    Or,
+    And,
+}
+
+impl Operator {
+    fn byte(self) -> u8
+        ensures { result ≡ byte_of self }
+    {
+        match self {
+            Operator::Or => b'|',
+            Operator::And => b'&',
+        }
+    }
+
+    fn code(self) -> Code
+        ensures { result ≡ code_of self }
+    {
+        match self {
+            Operator::Or => Code::Or,
+            Operator::And => Code::And,
+        }
+    }
+}
+
+// A digit's value.
+fn digit_of(c: u8) -> Option<u16>
     ensures { DigitOf c result }
 {
-    if c < b'0' {
-        return 10;
-    }
-    if b'9' < c {
-        return 10;
-    }
-    wide(c - b'0')
-}
-
-// A name of one to four digits.
-fn read_name(s: &[u8], at: usize) -> Name
-    ensures { NameRead s.now at result }
-{
-    let mut i = at;
-    let mut v = 0;
-    let mut d = digit_of(byte_at(s, at));
-    while d < 10 {
-        if MAX_DIGITS <= i - at {
-            return Name::Absent;
-        }
-        v = v * 10 + d;
-        i += 1;
-        d = digit_of(byte_at(s, i));
-    }
-    if i == at {
-        Name::Absent
+    if c.is_ascii_digit() {
+        Some(u16::from(c - b'0'))
     } else {
-        Name::Ends(i, v)
+        None
     }
 }
 
-// Writes an operator behind its second operand; behind a first operand there is nothing to write.
-fn join(code: &mut [u8], used: usize, operator: usize, first: bool) -> usize
-    requires { (2 * (used + pending first) ≤ length code.old) × (operator < 65536) }
-    ensures { Joined code.old used operator first code.new result }
+// A name of one to four digits: how many, and the fact.
+fn read_name(text: &[u8]) -> Option<(usize, u16)>
+    ensures { NameRead text.now result }
 {
-    if first {
-        return used;
+    let mut digits = 0;
+    let mut fact = 0;
+    for c in text {
+        let Some(d) = digit_of(*c) else {
+            break;
+        };
+        if digits == MAX_DIGITS {
+            return None;
+        }
+        fact = fact * 10 + d;
+        digits += 1;
     }
-    code[2 * used] = (operator / 256 % 256) as u8;
-    code[2 * used + 1] = (operator % 256) as u8;
-    used + 1
+    if digits == 0 {
+        return None;
+    }
+    Some((digits, fact))
 }
 
-// Operands of `|`, from the left; `first` where none stands before them.
-#[cycle(and_level_bracket_level_or_level)]
-fn or_level(s: &[u8], at: usize, code: &mut [u8], used: usize, first: bool) -> Got
-    requires { CodeRoom s.now at code.old used first }
-    ensures { Outcome (from disjunction) s.now at code.old used first code.new result }
-{
-    let a = and_level(s, at, code, used, true);
-    match a {
-        Got::At(i, u) => {
-            let v = join(code, u, OR_CODE, first);
-            if byte_at(s, i) == b'|' {
-                or_level(s, i + 1, code, v, false)
-            } else {
-                Got::At(i, v)
-            }
-        }
-        Got::Outside => Got::Outside,
-    }
+// What is left of a condition's text, and the code of what was read. There is room for a code where a byte is left.
+#[derive(Drop)]
+struct Reader<'a> {
+    rest: &'a [u8],
+    code: Postfix,
 }
 
-// Operands of `&`, from the left.
-#[cycle(and_level_bracket_level_or_level)]
-fn and_level(s: &[u8], at: usize, code: &mut [u8], used: usize, first: bool) -> Got
-    requires { CodeRoom s.now at code.old used first }
-    ensures { Outcome (from conjunction) s.now at code.old used first code.new result }
-{
-    let a = bracket_level(s, at, code, used);
-    match a {
-        Got::At(i, u) => {
-            let v = join(code, u, AND_CODE, first);
-            if byte_at(s, i) == b'&' {
-                and_level(s, i + 1, code, v, false)
-            } else {
-                Got::At(i, v)
-            }
+impl Reader<'_> {
+    // Goes past a byte if it is the next.
+    fn passes(&mut self, byte: u8) -> bool
+        ensures { Passes byte self.old self.new result }
+    {
+        if self.rest.first() == Some(&byte) {
+            self.rest = &self.rest[1..];
+            return true;
         }
-        Got::Outside => Got::Outside,
+        false
     }
-}
 
-// An operand of `&`: a name, a bracket, or either behind `!`.
-#[cycle(and_level_bracket_level_or_level)]
-fn bracket_level(s: &[u8], at: usize, code: &mut [u8], used: usize) -> Got
-    requires { CodeRoom s.now at code.old used true }
-    ensures { Outcome (λ _. bracket) s.now at code.old used true code.new result }
-{
-    let b = byte_at(s, at);
-    if b == b'!' {
-        let a = bracket_level(s, at + 1, code, used);
-        match a {
-            Got::At(i, u) => {
-                let v = join(code, u, NOT_CODE, false);
-                Got::At(i, v)
-            }
-            Got::Outside => Got::Outside,
+    // Operands of an operator, from the left.
+    #[cycle(operands_under_operand)]
+    fn operands(&mut self, operator: Operator) -> Option<()>
+        requires { Room self.old }
+        ensures { Outcome (task_of operator) self.old self.new result }
+    {
+        self.under(operator)?;
+        while self.passes(operator.byte()) {
+            self.under(operator)?;
+            self.code.push(operator.code());
         }
-    } else if b == b'(' {
-        let a = or_level(s, at + 1, code, used, true);
-        match a {
-            Got::At(i, u) => {
-                if byte_at(s, i) == b')' {
-                    Got::At(i + 1, u)
-                } else {
-                    Got::Outside
-                }
-            }
-            Got::Outside => Got::Outside,
+        Some(())
+    }
+
+    // An operand of an operator.
+    #[cycle(operands_under_operand)]
+    fn under(&mut self, operator: Operator) -> Option<()>
+        requires { Room self.old }
+        ensures { Outcome (operand_of operator) self.old self.new result }
+    {
+        match operator {
+            Operator::Or => self.operands(Operator::And),
+            Operator::And => self.operand(),
         }
-    } else {
-        let a = read_name(s, at);
-        match a {
-            Name::Ends(i, f) => {
-                let v = join(code, used, f + NAME_CODE, false);
-                Got::At(i, v)
-            }
-            Name::Absent => Got::Outside,
+    }
+
+    // An operand of `&`: a name, a bracket, or either behind `!`.
+    #[cycle(operands_under_operand)]
+    fn operand(&mut self) -> Option<()>
+        requires { Room self.old }
+        ensures { Outcome bracket self.old self.new result }
+    {
+        if self.passes(b'!') {
+            self.operand()?;
+            self.code.push(Code::Not);
+            return Some(());
         }
+        if self.passes(b'(') {
+            self.operands(Operator::Or)?;
+            return if self.passes(b')') { Some(()) } else { None };
+        }
+        let (digits, fact) = read_name(self.rest)?;
+        self.rest = &self.rest[digits..];
+        self.code.push(Code::Name(fact));
+        Some(())
     }
 }
 
@@ -191,156 +220,98 @@ fn open_behind(unshut: usize, c: u8) -> usize
     requires { unshut < 18446744073709551615 }
     ensures { result ≡ opened unshut c }
 {
-    if c == b'(' {
-        return unshut + 1;
+    match c {
+        b'(' => unshut + 1,
+        b')' => unshut.saturating_sub(1),
+        _ => unshut,
     }
-    if c == b')' {
-        if 0 < unshut {
-            return unshut - 1;
-        }
-        return 0;
-    }
-    unshut
-}
-
-// The larger of two numbers.
-fn larger(a: usize, b: usize) -> usize
-    ensures { result ≡ max a b }
-{
-    if a < b {
-        return b;
-    }
-    a
 }
 
 // The most brackets that are open at once.
-fn bracket_depth(s: &[u8]) -> usize
-    ensures { result ≡ deepest 0 0 s.now }
+fn bracket_depth(text: &[u8]) -> usize
+    ensures { result ≡ deepest 0 0 text.now }
 {
     let mut unshut = 0;
     let mut most = 0;
-    let mut i = 0;
-    while i < s.len() {
-        unshut = open_behind(unshut, s[i]);
-        most = larger(most, unshut);
-        i += 1;
+    for c in text {
+        unshut = open_behind(unshut, *c);
+        most = most.max(unshut);
     }
     most
 }
 
-// The number of codes written, or that the text is empty, over 255 bytes long or outside the grammar.
-#[derive(Clone, Copy)]
-enum Compiled {
-    Codes(usize),
-    Ungrammatical,
-}
-
-// A condition's postfix code, written at the start of `code`. Where more brackets stand open at once than can be shut, nothing is read: this bounds
-// the stack.
-fn compile(s: &[u8], code: &mut [u8]) -> Compiled
-    requires { code_bytes ≤ length code.old }
-    ensures { Compiles s.now code.new result }
+// A condition's postfix code, or none where the text is empty, over 255 bytes long or outside the grammar. Where more brackets stand open at once
+// than can be shut, nothing is read: this bounds the stack.
+fn compile(text: &[u8]) -> Option<Postfix>
+    ensures { Compiles text.now result }
 {
-    if MAX_CONDITION < s.len() {
-        return Compiled::Ungrammatical;
+    if MAX_CONDITION < text.len() || MAX_SHUT < bracket_depth(text) {
+        return None;
     }
-    if MAX_SHUT < bracket_depth(s) {
-        return Compiled::Ungrammatical;
-    }
-    let a = or_level(s, 0, code, 0, true);
-    match a {
-        Got::At(i, u) => {
-            if i == s.len() {
-                Compiled::Codes(u)
-            } else {
-                Compiled::Ungrammatical
-            }
-        }
-        Got::Outside => Compiled::Ungrammatical,
-    }
-}
-
-// Whether a code is an operator or a fact below n.
-fn code_below(c: usize, n: usize) -> bool
-    ensures { result ≡ code_below n c }
-{
-    if c < NAME_CODE {
-        return true;
-    }
-    c - NAME_CODE < n
+    let mut reader = Reader {
+        rest: text,
+        code: Postfix::new(),
+    };
+    reader.operands(Operator::Or)?;
+    let Reader { rest, code } = reader;
+    if rest.is_empty() { Some(code) } else { None }
 }
 
 // Whether every fact that the code names is below n.
-fn names_below(code: &[u8], n: usize) -> bool
-    ensures { result ≡ codes_below n (codes_of code.now) }
+fn names_below(codes: &[Code], n: usize) -> bool
+    ensures { result ≡ codes_below n codes.now }
 {
-    let mut i = 0;
-    while i < code.len() / 2 {
-        if !code_below(be16(code, 2 * i), n) {
-            return false;
-        }
-        i += 1;
+    codes.iter().all(|code| code.is_below(n))
+}
+
+// Reads a condition over n facts, or says the first of causes 16, 17 and 11 that applies.
+pub fn read_condition(text: &[u8], n: usize) -> Result<Postfix, Cause>
+    ensures { Prepares text.now n result }
+{
+    let Some(code) = compile(text) else {
+        return Err(Cause::BadCondition);
+    };
+    if MAX_DEPTH < bracket_depth(text) {
+        return Err(Cause::TooDeep);
     }
-    true
-}
-
-// The number of codes written, or the first of causes 16, 17 and 11 that applies.
-#[derive(Clone, Copy)]
-pub enum Prepared {
-    Coded(usize),
-    Refused(Cause),
-}
-
-// Reads a condition over n facts into `code`.
-pub fn read_condition(s: &[u8], n: usize, code: &mut [u8]) -> Prepared
-    requires { code_bytes ≤ length code.old }
-    ensures { Prepares s.now n code.new result }
-{
-    let a = compile(s, code);
-    match a {
-        Compiled::Codes(u) => {
-            if MAX_DEPTH < bracket_depth(s) {
-                return Prepared::Refused(Cause::TooDeep);
-            }
-            if names_below(&code[0..2 * u], n) {
-                Prepared::Coded(u)
-            } else {
-                Prepared::Refused(Cause::NoSuchFact)
-            }
-        }
-        Compiled::Ungrammatical => Prepared::Refused(Cause::BadCondition),
+    if names_below(code.as_slice(), n) {
+        Ok(code)
+    } else {
+        Err(Cause::NoSuchFact)
     }
 }
 
-// Runs one code on a stack of bits, the top in the lowest.
-fn run_code(c: usize, state: &[bool], stack: u64) -> u64
-    requires { name_code ≤ c → 2 * stack + 1 < 2 ^ 64 }
-    ensures { result ≡ step state.now c stack }
+// Pushes a bit on a stack of bits, the top in the lowest.
+fn push(stack: u64, bit: bool) -> u64
+    requires { 2 * stack + 1 < 2 ^ 64 }
+    ensures { result ≡ push stack bit }
 {
-    if NAME_CODE <= c {
-        return 2 * stack + (atom_bit(state, c - NAME_CODE) as u64);
+    2 * stack + u64::from(bit)
+}
+
+// Runs one code on the stack.
+fn run_code(code: Code, state: &[bool], stack: u64) -> u64
+    requires { Fits code stack }
+    ensures { result ≡ step state.now code stack }
+{
+    let top = stack % 2 == 1;
+    let second = stack / 2 % 2 == 1;
+    match code {
+        Code::Not => push(stack / 2, !top),
+        Code::And => push(stack / 4, second && top),
+        Code::Or => push(stack / 4, second || top),
+        Code::Name(f) => push(stack, state.get(usize::from(f)).copied().unwrap_or(false)),
     }
-    if c == NOT_CODE {
-        return stack / 2 * 2 + (1 - stack % 2);
-    }
-    let rest = stack / 4 * 2;
-    let set = stack / 2 % 2 + stack % 2;
-    if c == AND_CODE {
-        return rest + set / 2;
-    }
-    rest + (set + 1) / 2
 }
 
 // The value of a condition in a state, by its code.
-pub fn evaluate(code: &[u8], state: &[bool]) -> bool
-    requires { StackFits code.now }
-    ensures { result ≡ code_holds code.now state.now }
+pub fn evaluate(codes: &[Code], state: &[bool]) -> bool
+    requires { StackFits codes.now }
+    ensures { result ≡ code_holds codes.now state.now }
 {
-    let mut stack: u64 = 0;
-    let mut i = 0;
-    while i < code.len() / 2 {
-        stack = run_code(be16(code, 2 * i), state, stack);
-        i += 1;
+    let mut stack = 0;
+    for code in codes {
+        stack = run_code(*code, state, stack);
     }
     stack % 2 == 1
 }

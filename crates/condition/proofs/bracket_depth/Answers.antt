@@ -1,22 +1,20 @@
--- `bracket_depth` meets its contract. The invariant: the rest, with what is open and the most so far, decides. The bytes left fall.
--- Assumes nothing.
-use mathlib.Core.Path.{refl, sym, ap, ◌∙◌}
+-- `bracket_depth` meets its contract (DepthLaws).
+use mathlib.Core.Path.{sym, ap, ◌∙◌}
 use mathlib.Core.List.{List}
 use Prim.Native.Nat.{ℕ}
 use lib.ListN.{get_or, drop_of_length-le}
 use Rattle.condition.specs.Code.{deepest}
-use Rattle.condition.proofs.DepthLaws.{opened-fits, deepest_next, deepest_end}
+use Rattle.condition.proofs.DepthLaws.{greater, opened-fits, deepest_next, deepest_end}
 use native.Mathlib.Omega.{arith}
 use Rattle.condition.proofs.bracket_depth.Goals as goal
 
-pub loop-i-init : goal.loop-i-init
-loop-i-init c =
-    (omega arith, omega arith, refl)
-
-pub loop-i-preserved : goal.loop-i-preserved
-loop-i-preserved c =
-    (omega arith, opened-fits c.loop-i.unshut (get_or c.args.s.now c.loop-i.i 0) _ _ c.open_behind-unshut.ensures c.loop-i.invariant.1, c.loop-i.invariant.2 ∙ deepest_next c.args.s.now c.loop-i.unshut c.loop-i.most c.loop-i.i _ _ (omega arith) c.open_behind-unshut.ensures c.larger-most.ensures)
+pub loop-c-preserved : goal.loop-c-preserved
+loop-c-preserved c =
+    record {
+      few = opened-fits c.loop-c.unshut (get_or c.args.text.now c.loop-c.c-index 0) _ _ c.open_behind-unshut.ensures c.loop-c.invariant.few;
+      rest = c.loop-c.invariant.rest ∙ deepest_next c.args.text.now c.loop-c.unshut c.loop-c.most c.loop-c.c-index _ _ c.loop-c-test.true c.open_behind-unshut.ensures (c.max-most.ensures ∙ greater c.loop-c.most c.open_behind-unshut.result);
+    }
 
 pub returns : goal.returns
 returns c =
-    sym (c.loop-i.invariant.2 ∙ ap (λ (x : List ℕ). deepest c.loop-i.unshut c.loop-i.most x) (drop_of_length-le c.args.s.now {i = c.loop-i.i} (omega arith)) ∙ deepest_end c.loop-i.unshut c.loop-i.most)
+    sym (c.loop-c.invariant.rest ∙ ap (λ (x : List ℕ). deepest c.loop-c.unshut c.loop-c.most x) (drop_of_length-le c.args.text.now {i = c.loop-c.c-index} (omega arith)) ∙ deepest_end c.loop-c.unshut c.loop-c.most)

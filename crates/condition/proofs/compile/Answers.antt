@@ -1,25 +1,21 @@
--- `compile` meets its contract: what `or_level` answers at 0 is a reading of all exactly if nothing is left. Assumes nothing.
-use mathlib.Core.Bool.{true}
-use Rattle.grammar.specs.Reader.{from, disjunction}
-use Rattle.condition.proofs.ReaderLaws.{read_to, nothing_read}
-use Rattle.condition.proofs.CompileLaws.{deep_text, whole_text, part_text, no_text}
-use native.Mathlib.Omega.{arith}
+-- `compile` meets its contract (CompileLaws).
+use Rattle.condition.proofs.CompileLaws.{long_text, deep_text, whole_text, part_text, no_text}
+use mathlib.Core.Path.{sym, ◌∙◌}
+use borrow.Author.Tests.{eqb-true, eqb-false}
 use Rattle.condition.proofs.compile.Goals as goal
+use Rattle.condition.proofs.compile.Goals.{then-text-gt-MAX_CONDITION-via-then-text-gt-MAX_CONDITION, then-text-gt-MAX_CONDITION-via-else-text-gt-MAX_CONDITION+then-bracket_depth-gt-MAX_SHUT}
 
-pub returns-then-bracket_depth-gt-MAX_SHUT : goal.returns-then-bracket_depth-gt-MAX_SHUT
-returns-then-bracket_depth-gt-MAX_SHUT c =
-    deep_text c.args.s.now c.bracket_depth.result c.bracket_depth.ensures (omega arith)
+pub returns-then-text-gt-MAX_CONDITION : goal.returns-then-text-gt-MAX_CONDITION
+returns-then-text-gt-MAX_CONDITION c = elim c.then-text-gt-MAX_CONDITION.branch [
+  | then-text-gt-MAX_CONDITION-via-then-text-gt-MAX_CONDITION w ↦ long_text c.args.text.now w.if-text-gt-MAX_CONDITION.true
+  | then-text-gt-MAX_CONDITION-via-else-text-gt-MAX_CONDITION+then-bracket_depth-gt-MAX_SHUT w ↦ deep_text c.args.text.now w.bracket_depth.result w.bracket_depth.ensures w.if-bracket_depth-gt-MAX_SHUT.true
+]
 
-pub returns-then-i-s : goal.returns-then-i-s
-returns-then-i-s c =
-    let h = read_to (from disjunction) c.args.s.now 0 c.args.code.now 0 true c.or_level-a.new.code c.or_level-a.result c.in-At.is c.or_level-a.ensures in
-    whole_text h (omega (arith, c.if-i-s.true)) (omega arith) c.requires
+pub returns-in_err-operands : goal.returns-in_err-operands
+returns-in_err-operands c = rw c.from_residual.ensures (no_text record { rest = c.args.text; code = c.new.result } c.in_err-operands.ensures)
 
-pub returns-else-i-s : goal.returns-else-i-s
-returns-else-i-s c =
-    let h = read_to (from disjunction) c.args.s.now 0 c.args.code.now 0 true c.or_level-a.new.code c.or_level-a.result c.in-At.is c.or_level-a.ensures in
-    part_text h (λ e. omega (arith, e, c.if-i-s.false))
+pub returns-then-is_empty : goal.returns-then-is_empty
+returns-then-is_empty c = whole_text c.in_ok-operands.ensures c.new.ensures (eqb-true _ _ (sym c.is_empty.ensures ∙ c.if-is_empty.true)) c.if-text-gt-MAX_CONDITION.false
 
-pub returns-in-Outside : goal.returns-in-Outside
-returns-in-Outside c =
-    no_text (nothing_read (from disjunction) c.args.s.now 0 c.args.code.now 0 true c.or_level-a.new.code c.or_level-a.result c.in-Outside.is c.or_level-a.ensures)
+pub returns-else-is_empty : goal.returns-else-is_empty
+returns-else-is_empty c = part_text c.in_ok-operands.ensures (eqb-false _ _ (sym c.is_empty.ensures ∙ c.if-is_empty.false))

@@ -1,12 +1,6 @@
--- `evaluate` meets its contract. The invariant: running the codes left on the stack as it is comes to what running all does. They fall.
--- Assumes nothing.
-use Prim.Native.Nat.{◌-◌, ◌/◌}
-use lib.ListN.{length}
+-- The stack has so many bits at most, and running the codes left on it comes to what running all does.
 use Rattle.condition.proofs.RunLaws.{Running}
 use Rattle.condition.proofs.evaluate.Given as goal
 
-abbrev pub invariant-loop-i : goal.invariant-loop-i
-invariant-loop-i l = Running l.code l.state l.stack l.i
-
-abbrev pub decreases-loop-i : goal.decreases-loop-i
-decreases-loop-i l = length l.code / 2 - l.i
+abbrev pub invariant-loop-code : goal.invariant-loop-code
+invariant-loop-code l = Running l.codes l.state l.stack l.code-index

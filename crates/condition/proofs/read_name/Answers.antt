@@ -1,46 +1,43 @@
--- `read_name` meets its contract. The invariant: the digits so far, at most four, give v, and d is the next byte's. The bytes left fall.
--- Assumes nothing.
-use mathlib.Core.Path.{◌≡◌, subst}
-use Prim.Native.Nat.{ℕ, ◌+◌}
-use lib.ListN.{get_or}
-use Rattle.condition.specs.Outcome.{DigitOf}
-use Rattle.condition.proofs.NameLaws.{none_so_far, small_so_far, digit_at, next_digit, digit_inside, fifth_digit, no_digit_there, name_ends}
+-- `read_name` meets its contract: the digits go as far as they can, and are four at most (NameLaws).
+use Rattle.condition.proofs.NameLaws.{no_digits, next_digit, small_so_far, fifth_digit, ends_there, ends_before, no_digit_there, name_ends}
 use native.Mathlib.Omega.{arith}
 use Rattle.condition.proofs.read_name.Goals as goal
+use Rattle.condition.proofs.read_name.Goals.{else-loop-c-test, then-loop-c-test+in_default}
 
-pub loop-d-init : goal.loop-d-init
-loop-d-init c =
-    (none_so_far c.args.s.now c.args.at, digit_at c.args.s.now c.args.at _ _ c.byte_at.ensures c.digit_of-d.ensures, omega arith, omega arith)
+pub loop-c-init : goal.loop-c-init
+loop-c-init c =
+    record { all = omega arith; few = omega arith; number = no_digits c.args.text.now }
 
-pub returns-then-i-at-ge-MAX_DIGITS : goal.returns-then-i-at-ge-MAX_DIGITS
-returns-then-i-at-ge-MAX_DIGITS c =
-    fifth_digit c.loop-d.d c.loop-d.invariant.0 c.loop-d.invariant.1 (omega arith) (omega arith)
+pub returns-then-digits-eq-MAX_DIGITS : goal.returns-then-digits-eq-MAX_DIGITS
+returns-then-digits-eq-MAX_DIGITS c =
+    fifth_digit c.args.text.now c.in-Some.d c.loop-c.invariant.number c.loop-c.invariant.all (omega arith) c.in-Some.ensures c.if-digits-eq-MAX_DIGITS.true
 
-pub overflow_mul-v : goal.overflow_mul-v
-overflow_mul-v c =
-    omega (arith, small_so_far c.loop-d.invariant.0 (omega arith))
+pub overflow_mul-fact : goal.overflow_mul-fact
+overflow_mul-fact c =
+    omega (arith, small_so_far c.args.text.now c.loop-c.invariant.number c.loop-c.invariant.few c.if-digits-eq-MAX_DIGITS.false)
 
-pub overflow_add-v : goal.overflow_add-v
-overflow_add-v c =
-    omega (arith, small_so_far c.loop-d.invariant.0 (omega arith))
+pub overflow_add-fact : goal.overflow_add-fact
+overflow_add-fact c =
+    omega (arith, small_so_far c.args.text.now c.loop-c.invariant.number c.loop-c.invariant.few c.if-digits-eq-MAX_DIGITS.false, c.in-Some.ensures)
 
-pub overflow_add-i : goal.overflow_add-i
-overflow_add-i c =
-    omega (arith, digit_inside c.args.s.now c.loop-d.i c.loop-d.d c.loop-d.invariant.1 (omega arith))
+pub loop-c-preserved : goal.loop-c-preserved
+loop-c-preserved c =
+    record {
+      all = omega (arith, c.loop-c.invariant.all);
+      few = omega (arith, c.loop-c.invariant.few, c.if-digits-eq-MAX_DIGITS.false);
+      number = next_digit c.args.text.now c.in-Some.d c.loop-c.invariant.number c.loop-c.invariant.all (omega arith) c.in-Some.ensures;
+    }
 
-pub loop-d-smaller : goal.loop-d-smaller
-loop-d-smaller c =
-    omega (arith, digit_inside c.args.s.now c.loop-d.i c.loop-d.d c.loop-d.invariant.1 (omega arith))
+pub returns-then-digits-eq0 : goal.returns-then-digits-eq0
+returns-then-digits-eq0 c =
+    no_digit_there c.args.text.now c.if-digits-eq0.true (elim c.loop-c-test.branch [
+      | else-loop-c-test w ↦ ends_there c.args.text.now c.loop-c.digits (omega (arith, c.loop-c.invariant.all))
+      | then-loop-c-test+in_default w ↦ ends_before c.args.text.now c.loop-c.invariant.all w.loop-c-test.true w.in_default.ensures
+    ])
 
-pub loop-d-preserved : goal.loop-d-preserved
-loop-d-preserved c =
-    (next_digit c.loop-d.d c.loop-d.invariant.0 c.loop-d.invariant.1 (omega arith), digit_at c.args.s.now (c.loop-d.i + 1) _ _ c.byte_at-in-loop-d.ensures c.digit_of-d-in-loop-d.ensures, omega arith, omega arith)
-
-pub returns-then-i-at : goal.returns-then-i-at
-returns-then-i-at c =
-    let e : c.loop-d.i ≡ c.args.at = omega (arith, c.if-i-at.true) in
-    no_digit_there c.args.s.now c.args.at c.loop-d.d (subst (λ (x : ℕ). DigitOf (get_or c.args.s.now x 0) c.loop-d.d) e c.loop-d.invariant.1) (omega arith)
-
-pub returns-else-i-at : goal.returns-else-i-at
-returns-else-i-at c =
-    name_ends c.loop-d.d c.loop-d.invariant.0 c.loop-d.invariant.1 (omega arith) (omega arith) (omega (arith, c.if-i-at.false))
+pub returns : goal.returns
+returns c =
+    name_ends c.args.text.now c.loop-c.invariant.number c.loop-c.invariant.few c.if-digits-eq0.false (omega (arith, c.loop-c.invariant.all)) (elim c.loop-c-test.branch [
+      | else-loop-c-test w ↦ ends_there c.args.text.now c.loop-c.digits (omega (arith, c.loop-c.invariant.all))
+      | then-loop-c-test+in_default w ↦ ends_before c.args.text.now c.loop-c.invariant.all w.loop-c-test.true w.in_default.ensures
+    ])

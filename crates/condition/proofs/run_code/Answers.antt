@@ -1,28 +1,20 @@
--- `run_code` meets its contract: each branch is one step of the stack (RunLaws). Assumes nothing.
-use Rattle.condition.proofs.RunLaws.{bit-low, name_stepped, not_stepped, and_stepped, or_stepped}
+-- `run_code` meets its contract: a fact's bit is pushed, which past the state's end is none.
+use mathlib.Core.Path.{◌≡◌, sym, ap, ◌∙◌}
+use mathlib.Core.Bool.{Bool, false}
+use Prim.Native.Nat.{ℕ}
 use native.Mathlib.Omega.{arith}
+use lib.ListN.{get_or}
+use Rattle.std.specs.declared.option.Option.{Option}
+use Rattle.std.specs.Option.{unwrap_or}
+use Rattle.models.specs.StableModels.{atom_holds}
+use Rattle.condition.specs.declared.Code.{Code}
+use Rattle.condition.specs.Code.{push, step}
 use Rattle.condition.proofs.run_code.Goals as goal
 
-pub overflow_mul-result : goal.overflow_mul-result
-overflow_mul-result c =
-    omega (arith, c.requires (omega arith))
-
-pub overflow_add-result : goal.overflow_add-result
-overflow_add-result c =
-    omega (arith, c.requires (omega arith), bit-low c.atom_bit.result _ c.atom_bit.ensures)
-
-pub returns-then-c-ge-NAME_CODE : goal.returns-then-c-ge-NAME_CODE
-returns-then-c-ge-NAME_CODE c =
-    name_stepped c.args.state.now c.args.c c.args.stack _ (omega arith) c.atom_bit.ensures
-
-pub returns-then-c-eq-NOT_CODE : goal.returns-then-c-eq-NOT_CODE
-returns-then-c-eq-NOT_CODE c =
-    not_stepped c.args.state.now c.args.c c.args.stack c.if-c-eq-NOT_CODE.true
-
-pub returns-then-c-eq-AND_CODE : goal.returns-then-c-eq-AND_CODE
-returns-then-c-eq-AND_CODE c =
-    and_stepped c.args.state.now c.args.c c.args.stack c.if-c-eq-AND_CODE.true
-
-pub returns : goal.returns
-returns c =
-    or_stepped c.args.state.now c.args.c c.args.stack (omega (arith, c.if-c-eq-AND_CODE.false, c.if-c-eq-NOT_CODE.false))
+pub returns-in-Name : goal.returns-in-Name
+unfolding atom_holds
+returns-in-Name c =
+    let holds : c.unwrap_or.result ≡ get_or c.args.state.now c.in-Name.f false =
+    c.unwrap_or.ensures ∙ ap (λ (r : Option Bool). unwrap_or r false) c.copied.ensures ∙ c.get.ensures.lookup.4 (omega arith) false
+    ∙ ap (λ (i : ℕ). get_or c.args.state.now i false) c.from.ensures in
+    c.push-in-Name.ensures ∙ ap (push c.args.stack) holds ∙ sym (ap (λ (x : Code). step c.args.state.now x c.args.stack) c.in-Name.is)
