@@ -14,7 +14,7 @@ use Rattle.grammar.specs.Parse.{Read, reading_of}
 use Rattle.grammar.proofs.ParseLaws.{read_exactly, none_unread}
 use Rattle.book.specs.Causes.{verdict_if, first_of}
 use Rattle.book.specs.declared.Cause.TheVariants.{BadCondition, TooDeep, NoSuchFact}
-use Rattle.book.specs.declared.Verdict.TheVariants.{Refused}
+use Rattle.std.specs.Prelude.{Err}
 use Rattle.condition.specs.declared.Code.{Code}
 use Rattle.condition.specs.Code.{odd, run, code_holds, StackFits, deepest, codes_below, peak}
 use Rattle.condition.specs.Causes.{max_condition, max_depth, is_unread, is_deep, names_other, fits_in, is_bad_condition, is_too_deep, names_no_fact, condition_tests, fits_text}
@@ -28,11 +28,11 @@ or_true : (a : Bool) → (a || true) ≡ true
 or_true true = refl
 or_true false = refl
 
-pub bad_condition : (n : ℕ) (s : List ℕ) → NoReading s → first_of (condition_tests n s) ≡ Refused BadCondition
+pub bad_condition : (n : ℕ) (s : List ℕ) → NoReading s → first_of (condition_tests n s) ≡ Err BadCondition
 unfolding condition_tests first_of verdict_if is_bad_condition is_unread
 bad_condition n s h = go (dec_lt max_condition (length s))
   where
-    go : Dec (max_condition < length s) → first_of (condition_tests n s) ≡ Refused BadCondition
+    go : Dec (max_condition < length s) → first_of (condition_tests n s) ≡ Err BadCondition
     go (yes k) = rw (lt-ltb max_condition (length s) k) refl
     go (no k) = rw (none_unread s (h (omega (arith, k))), or_true (ltb max_condition (length s))) refl
 
@@ -53,7 +53,7 @@ module _ {s : List ℕ} {codes : List Code} (h : CompiledTo s codes) (n : ℕ) w
   names_are = ap (names_other n) read ∙ ap not (sym (codes_names n h.tree) ∙ ap (codes_below n) (sym h.wrote))
 
   module _ (d : ℕ) (e : d ≡ deepest 0 0 s) where
-    pub too_deep : max_depth < d → first_of (condition_tests n s) ≡ Refused TooDeep
+    pub too_deep : max_depth < d → first_of (condition_tests n s) ≡ Err TooDeep
     unfolding condition_tests first_of verdict_if
     too_deep k = rw (good, deep_is ∙ lt-ltb max_depth (depth h.tree) (omega (arith, e, deepest-depth h.reads))) refl
 
@@ -61,7 +61,7 @@ module _ {s : List ℕ} {codes : List Code} (h : CompiledTo s codes) (n : ℕ) w
       shallow : is_too_deep s ≡ false
       shallow = deep_is ∙ le-ltb max_depth (depth h.tree) (omega (arith, e, deepest-depth h.reads))
 
-      pub unknown_name : b ≡ false → first_of (condition_tests n s) ≡ Refused NoSuchFact
+      pub unknown_name : b ≡ false → first_of (condition_tests n s) ≡ Err NoSuchFact
       unfolding condition_tests first_of verdict_if
       unknown_name g = rw (good, shallow, names_are ∙ ap not (sym f ∙ g)) refl
 

@@ -8,7 +8,6 @@ use Rattle.grammar.specs.Reader as grammar
 use Rattle.grammar.specs.Reader.{Task, from, bracket, operand, nothing, Took, disjunction, conjunction}
 use Rattle.book.specs.Causes.{first_of}
 use Rattle.book.specs.declared.Cause.{Cause}
-use Rattle.book.specs.declared.Verdict.TheVariants as verdict
 use Rattle.condition.specs.Code.{postfix, code_holds, StackFits}
 use Rattle.condition.specs.Causes.{max_condition, condition_tests, fits_text}
 use Rattle.condition.specs.declared.Code.{Code}
@@ -86,10 +85,10 @@ Compiles s None = NoReading s
 
 -- none of the condition's causes applies, and the codes say of every state whether it holds there
 pub record CodedTo (s : List ℕ) (n : ℕ) (codes : List Code) : Type 0 where
-  pub none : first_of (condition_tests n s) ≡ verdict.Accepted
+  pub none : first_of (condition_tests n s) ≡ Ok tt
   pub stack : StackFits codes
   pub value : (m : Interpretation) → code_holds codes m ≡ fits_text s m
 
 abbrev pub Prepares : List ℕ → ℕ → Result (List Code) Cause → Type 0
 Prepares s n (Ok codes) = CodedTo s n codes
-Prepares s n (Err c) = first_of (condition_tests n s) ≡ verdict.Refused c
+Prepares s n (Err c) = first_of (condition_tests n s) ≡ Err c
