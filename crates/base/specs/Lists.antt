@@ -1,5 +1,6 @@
 -- Lists: tests over all and some members, filtering, concatenation, the numbers below n. Assumes nothing.
 use Rattle.std.specs.Prelude.{Bool, true, false, ◌&&◌, ◌||◌, List, [], ◌∷◌, ◌++◌, ℕ, zero, suc}
+use Rattle.std.specs.List.{list_all, list_any}
 
 module _ {A : Type 0} where
   -- the element in front of the list, where the test passes
@@ -8,12 +9,10 @@ module _ {A : Type 0} where
   cons_if false x xs = xs
 
   unfoldable pub all : (A → Bool) → List A → Bool
-  all p [] = true
-  all p (x ∷ xs) = let rest : Bool = all p xs in p x && rest
+  all p xs = list_all p xs
 
   unfoldable pub any : (A → Bool) → List A → Bool
-  any p [] = false
-  any p (x ∷ xs) = let rest : Bool = any p xs in p x || rest
+  any p xs = list_any p xs
 
   unfoldable pub filter : (A → Bool) → List A → List A
   filter p [] = []

@@ -1,3 +1,4 @@
 pub mod Offsets
 pub mod SectionLaws
 pub mod LiteralLaws
+pub mod Walks

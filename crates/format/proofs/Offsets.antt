@@ -25,9 +25,19 @@ fuel (suc k) (suc j) [] h i = refl
 fuel (suc k) (suc j) (x ∷ s) h i = ap (λ (rs : List (List ℕ)). take x s ∷ rs) (fuel k j (drop x s) (simp length-drop (omega arith)) (simp length-drop (omega arith)))
 
 -- the law of records: the first, and those of what follows it
-records_next : (len : ℕ) (s : List ℕ) → records (len ∷ s) ≡ take len s ∷ records (drop len s)
+pub records_next : (len : ℕ) (s : List ℕ) → records (len ∷ s) ≡ take len s ∷ records (drop len s)
 unfolding records records_in
 records_next len s = ap (λ (rs : List (List ℕ)). take len s ∷ rs) (fuel (length s) (length (drop len s)) (drop len s) (simp length-drop (omega arith)) (omega arith))
+
+-- the same, as `Records` cuts it
+pub records_first : (len : ℕ) (s : List ℕ) → records (len ∷ s) ≡ take (min (length s) len) s ∷ records (drop (min (length s) len) s)
+records_first len s = records_next len s ∙ go (dec_lt (length s) len)
+  where
+    go : Dec (length s < len) → take len s ∷ records (drop len s) ≡ take (min (length s) len) s ∷ records (drop (min (length s) len) s)
+    go (yes b) =
+        let m : min (length s) len ≡ length s = omega arith in
+        rw (m, take_all len s (omega arith), take_all (length s) s (omega arith), drop_of_length-le s {i = len} (omega arith), drop_of_length-le s {i = length s} (omega arith)) refl
+    go (no b) = let m : min (length s) len ≡ len = omega arith in rw m refl
 
 meets_fuel : (k j : ℕ) (s : List ℕ) → length s ≤ k → length s ≤ j → meets_end_in k s ≡ meets_end_in j s
 unfolding meets_end_in
@@ -39,7 +49,7 @@ meets_fuel (suc k) zero (x ∷ s) h i = absurd (omega arith)
 meets_fuel (suc k) (suc j) [] h i = refl
 meets_fuel (suc k) (suc j) (x ∷ s) h i = ap (λ (b : Bool). leb x (length s) && b) (meets_fuel k j (drop x s) (simp length-drop (omega arith)) (simp length-drop (omega arith)))
 
-meets_next : (len : ℕ) (s : List ℕ) → meets_end (len ∷ s) ≡ (leb len (length s) && meets_end (drop len s))
+pub meets_next : (len : ℕ) (s : List ℕ) → meets_end (len ∷ s) ≡ (leb len (length s) && meets_end (drop len s))
 unfolding meets_end meets_end_in
 meets_next len s = ap (λ (b : Bool). leb len (length s) && b) (meets_fuel (length s) (length (drop len s)) (drop len s) (simp length-drop (omega arith)) (omega arith))
 

@@ -2,6 +2,7 @@
 -- Each definition is total: a byte past the end reads as 0, and what that means is left to the causes. Assumes nothing.
 use Rattle.std.specs.Prelude.{Bool, true, not, ◌&&◌, List, [], ◌∷◌, map, ℕ, zero, suc, ◌+◌, ◌*◌, ◌%◌, min, eqb, leb, length, get_or, take, drop}
 use Rattle.layers.specs.Layers.{Arrow}
+use Rattle.format.specs.declared.Literal.{Literal as LiteralRecord}
 
 -- fields are big-endian
 unfoldable pub u16_at : List ℕ → ℕ → ℕ
@@ -46,12 +47,9 @@ module _ (s : List ℕ) (at : ℕ) where
   unfoldable pub section_records : List ℕ
   section_records = take section_bytes (drop (at + 6) s)
 
--- A literal: a fact, or its negation.
-pub record Literal : Type 0 where
-  -- document 01: a fact
-  pub atom : ℕ
-  -- document 01: "not f"
-  pub negated : Bool
+-- a literal: a fact `atom`, or its negation, "not f", where `negated` is true
+abbrev pub Literal : Type 0
+Literal = LiteralRecord
 
 pub record Rule : Type 0 where
   pub layer : ℕ

@@ -1,12 +1,10 @@
--- `whole_records` meets its contract. The invariant (`Passed`): the records passed fit and were counted, and the rest decides. Each
--- turn takes one record, so the bytes left fall. Assumes nothing.
-use Prim.Native.Nat.{◌-◌}
-use lib.ListN.{length}
-use Rattle.format.proofs.Offsets.{Passed}
+-- The records passed fit and were counted, and the rest decides. Assumes nothing.
+use Rattle.std.proofs.Common.{◌≡◌, ◌+◌, ◌≤◌, length}
+use Rattle.format.specs.Book.{records, meets_end}
 use Rattle.format.proofs.whole_records.Given as goal
 
-abbrev pub invariant-loop-at : goal.invariant-loop-at
-invariant-loop-at l = Passed l.part l.at l.n
+abbrev pub invariant-loop-len : goal.invariant-loop-len
+invariant-loop-len l = (l.n + length l.rest ≤ length l.part) × (meets_end l.part ≡ meets_end l.rest) × (length (records l.part) ≡ l.n + length (records l.rest))
 
-abbrev pub decreases-loop-at : goal.decreases-loop-at
-decreases-loop-at l = length l.part - l.at
+abbrev pub decreases-loop-len : goal.decreases-loop-len
+decreases-loop-len l = length l.rest
