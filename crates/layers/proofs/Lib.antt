@@ -1,3 +1,4 @@
 pub mod BelowLaws
 pub mod BitLaws
 pub mod WarshallLaws
+pub mod UpToLaws

@@ -1,6 +1,8 @@
 -- The closure by Warshall: a turn at layer k joins the ways through k, mask by mask (`Row`, `Step`), and after the turns up to k the
 -- masks are closed under ways through those layers (`Turns`). Used by transitive_closure. Assumes nothing.
-use mathlib.Core.Path.{◌≡◌, refl, sym, ◌∙◌, subst}
+use mathlib.Core.Path.{◌≡◌, refl, sym, ap, ◌∙◌, subst}
+use mathlib.Core.Bool.{Bool, true, false, false≢true}
+use borrow.Author.Tests.{eq-eqb, eqb-true}
 use mathlib.Core.Logic.{◌⊎◌, inl, inr, ⊎_elim}
 use mathlib.Core.List.{List}
 use Prim.Native.Nat.{ℕ, ◌+◌, ◌/◌, ◌^◌, ◌≤◌, ◌<◌, max}
@@ -10,7 +12,7 @@ use lib.Bits.{bit_or, bit_and, and_mask}
 use lib.ListN.{length, get_or, set, length-set}
 use lib.Seq.{get_or-set_same, get_or-set_other}
 use Rattle.base.specs.Bounds.{max_layers}
-use Rattle.layers.specs.Masks.{bit_of, Linked, Way, edge, join, EmptyFrom}
+use Rattle.layers.specs.Masks.{bit_of, marked, Linked, Way, edge, join, EmptyFrom}
 use Rattle.layers.proofs.BitLaws.{bit-or, bit-small}
 
 -- a bit as the code tests it
@@ -34,7 +36,7 @@ lt_or_eq x i h = go (dec_lt x i)
     go (yes a) = inl a
     go (no a) = inr (omega arith)
 
-pub row_miss : (m₀ m : List ℕ) (k i : ℕ) → Row m₀ m k i → (Linked m₀ i k → ⊥) → Row m₀ m k (i + 1)
+row_miss : (m₀ m : List ℕ) (k i : ℕ) → Row m₀ m k i → (Linked m₀ i k → ⊥) → Row m₀ m k (i + 1)
 row_miss m₀ m k i r n = record {
   len = r.len;
   same = λ x h. r.same x (omega arith);
@@ -42,7 +44,7 @@ row_miss m₀ m k i r n = record {
   miss = λ x h a. ⊎_elim (λ b. r.miss x b a) (λ e. r.same x (omega arith)) (lt_or_eq x i h);
 }
 
-pub row_hit : (m₀ m : List ℕ) (k i v : ℕ) → Row m₀ m k i → i < length m → v ≡ bit_or (get_or m₀ i 0) (get_or m₀ k 0) → Linked m₀ i k → Row m₀ (set m i v) k (i + 1)
+row_hit : (m₀ m : List ℕ) (k i v : ℕ) → Row m₀ m k i → i < length m → v ≡ bit_or (get_or m₀ i 0) (get_or m₀ k 0) → Linked m₀ i k → Row m₀ (set m i v) k (i + 1)
 row_hit m₀ m k i v r b e y = record {
   len = length-set m i v ∙ r.len;
   same = λ x h. get_or-set_other m i x v 0 (omega arith) ∙ r.same x (omega arith);
@@ -55,6 +57,19 @@ row_hit m₀ m k i v r b e y = record {
       (λ q. absurd (a (subst (λ (z : ℕ). Linked m₀ z k) (sym q) y)))
       (lt_or_eq x i h);
 }
+
+-- the same, from what `bit_of` answers
+module _ (m₀ m : List ℕ) (k i : ℕ) (r : Row m₀ m k i) where
+  tested : (t : Bool) → t ≡ marked m i k → t ≡ true → Linked m₀ i k
+  unfolding marked
+  tested t e q = subst (λ (x : ℕ). bit_of x k ≡ 1) (r.same i (omega arith)) (eqb-true (bit_of (get_or m i 0) k) 1 (sym e ∙ q))
+
+  pub turn_hit : i < length m → (t : Bool) → t ≡ marked m i k → t ≡ true → Row m₀ (set m i (bit_or (get_or m i 0) (get_or m₀ k 0))) k (i + 1)
+  turn_hit b t e q = row_hit m₀ m k i (bit_or (get_or m i 0) (get_or m₀ k 0)) r b (ap (λ (x : ℕ). bit_or x (get_or m₀ k 0)) (r.same i (omega arith))) (tested t e q)
+
+  pub turn_miss : (t : Bool) → t ≡ marked m i k → t ≡ false → Row m₀ m k (i + 1)
+  unfolding marked
+  turn_miss t e q = row_miss m₀ m k i r (λ a. let z : true ≡ false = sym (eq-eqb (bit_of (get_or m i 0) k) 1 (subst (λ (x : ℕ). bit_of x k ≡ 1) (sym (r.same i (omega arith))) a)) ∙ sym e ∙ q in absurd (false≢true (sym z)))
 
 -- what a turn at k does to the ways
 pub record Step (m₀ m : List ℕ) (k : ℕ) : Type 0 where

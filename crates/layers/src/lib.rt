@@ -23,7 +23,7 @@ pub fn set_bit(m: &mut [u32], i: usize, j: usize)
     requires { (i < length m.old) × (j < max_layers) }
     ensures { (x y : ℕ) → marked m.new x y ≡ (marked m.old x y || same_arrow (link i j) (link x y)) }
 {
-    m[i] = m[i] | (1 << (j as u32));
+    m[i] |= 1 << (j as u32);
 }
 
 // The closure, by Warshall: mask i has bit j where there is a way from i to j. No way leads from a layer whose mask is empty, so the
@@ -34,18 +34,13 @@ pub fn transitive_closure(start: [u32; MAX_LAYERS], count: usize) -> [u32; MAX_L
     ensures full { (i j : ℕ) → Way start i j → Linked result i j }
 {
     let mut m = start;
-    let mut k = 0;
-    while k < count {
+    for k in 0..count {
         let row = m[k];
-        let mut i = 0;
-        while i < count {
-            let old = m[i];
-            if (old >> (k as u32)) & 1 == 1 {
-                m[i] = old | row;
+        for i in 0..count {
+            if bit_of(&m, i, k) {
+                m[i] |= row;
             }
-            i += 1;
         }
-        k += 1;
     }
     m
 }
@@ -55,12 +50,5 @@ pub fn has_cycle(m: &[u32], count: usize) -> bool
     requires { (count ≤ max_layers) × (count ≤ length m.now) }
     ensures { result ≡ any (λ i. marked m.now i i) (up_to count) }
 {
-    let mut i: usize = 0;
-    while i < count {
-        if bit_of(m, i, i) {
-            return true;
-        }
-        i += 1;
-    }
-    false
+    (0..count).any(|i| bit_of(m, i, i))
 }
