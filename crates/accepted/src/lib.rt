@@ -2,12 +2,11 @@
 // bytes are believed because the check has walked them.
 #![tactic(auto)]
 
-ghost use Rattle.std.specs.Prelude.{◌≡◌, ◌*◌, ◌<◌, ◌≤◌, length, IfOk};
+ghost use Rattle.std.specs.Prelude.{◌≡◌, ◌<◌, ◌≤◌, length, IfOk};
 ghost use Rattle.base.specs.Bounds.{max_atoms, max_rules};
 ghost use Rattle.layers.specs.Masks.{LowerMasks};
 ghost use Rattle.format.specs.Book.{arrows_of, book_of};
-ghost use Rattle.table.specs.Rows.{row_size};
-ghost use Rattle.table.specs.Table.{program_of, TableMade};
+ghost use Rattle.table.specs.Table.{TableMade};
 ghost use Rattle.bans.specs.Bans.{BansMade};
 ghost use Rattle.book.specs.Causes.{first_of, verdict_of};
 ghost use Rattle.std.proofs.Props.{props};
@@ -17,53 +16,7 @@ ghost use Rattle.accepted.specs.Driven.{has_absent_layer, driven_tests, layer_te
 use bans::ban_table;
 use base::MAX_LAYERS;
 use book::{Cause, check_book, read_header};
-use table::rule_table;
-
-// The number of facts.
-pub fn atom_count(book: &[u8]) -> usize
-    requires { IsAccepted book.now }
-    ensures { (result ≡ (book_of book.now).atoms) × (0 < result) × (result ≤ max_atoms) }
-{
-    let header = read_header(book);
-    header.atoms
-}
-
-// Writes the table of the rules that count at a layer, with the layers of a set switched off, from each layer's mask of the layers below
-// it, and says how many there are.
-pub fn prepare(
-    book: &[u8],
-    layer: usize,
-    off: u32,
-    lower: [u32; MAX_LAYERS],
-    rows: &mut [u16],
-) -> usize
-    requires accepted { IsAccepted book.now }
-    requires layer_bound { layer < (book_of book.now).layers }
-    requires lower_masks { LowerMasks (arrows_of book.now) lower }
-    requires rows_len { length rows.old ≡ row_size * max_rules }
-    ensures { TableMade (program_of book.now layer off) book.now rows.new result }
-{
-    let header = read_header(book);
-    rule_table(book, header.rules + 6, layer, off, lower, rows)
-}
-
-// Writes the numbers of the constraints that count at a layer, as `prepare` does the rules' rows, and says how many there are.
-pub fn prepare_bans(
-    book: &[u8],
-    layer: usize,
-    off: u32,
-    lower: [u32; MAX_LAYERS],
-    bans: &mut [u32],
-) -> usize
-    requires accepted { IsAccepted book.now }
-    requires layer_bound { layer < (book_of book.now).layers }
-    requires lower_masks { LowerMasks (arrows_of book.now) lower }
-    requires bans_len { length bans.old ≡ max_rules }
-    ensures { BansMade (program_of book.now layer off).constraints book.now bans.new result }
-{
-    let header = read_header(book);
-    ban_table(book, header.rules + 6, layer, off, lower, bans)
-}
+use table::{Row, Span, rule_table};
 
 // Whether the set has a layer that a book of so many layers lacks. A book of MAX_LAYERS lacks none: every set is lawful there, and 32 bits
 // are never shifted by 32.
@@ -115,35 +68,21 @@ impl<'a> Driving<'a> {
     }
 
     // Writes the table of the rules that count at the layer, and says how many there are.
-    pub fn prepare(&self, rows: &mut [u16]) -> usize
-        requires { length rows.old ≡ row_size * max_rules }
+    pub fn prepare(&self, rows: &mut [Row]) -> usize
+        requires { length rows.old ≡ max_rules }
         ensures { TableMade (driven_program self.now) self.now.book.now rows.new result }
     {
-        let header = read_header(self.book);
-        rule_table(
-            self.book,
-            header.rules + 6,
-            self.layer,
-            self.off,
-            self.lower,
-            rows,
-        )
+        let from = read_header(self.book).rules + 6;
+        rule_table(self.book, from, self.layer, self.off, self.lower, rows)
     }
 
-    // Writes the numbers of the constraints that count at the layer, as `prepare` does the rules' rows, and says how many there are.
-    pub fn prepare_bans(&self, bans: &mut [u32]) -> usize
+    // Writes where the bodies of the constraints that count at the layer stand, as `prepare` does the rules' rows, and says how many there are.
+    pub fn prepare_bans(&self, bans: &mut [Span]) -> usize
         requires { length bans.old ≡ max_rules }
         ensures { BansMade (driven_program self.now).constraints self.now.book.now bans.new result }
     {
-        let header = read_header(self.book);
-        ban_table(
-            self.book,
-            header.rules + 6,
-            self.layer,
-            self.off,
-            self.lower,
-            bans,
-        )
+        let from = read_header(self.book).rules + 6;
+        ban_table(self.book, from, self.layer, self.off, self.lower, bans)
     }
 }
 

@@ -6,17 +6,17 @@ use Rattle.accepted.proofs.PreparedLaws.{prepared}
 use native.Mathlib.Omega.{arith}
 use Rattle.accepted.proofs.Driving.prepare.Goals as goal
 
-pub read_header-header-requires : goal.read_header-header-requires
-read_header-header-requires c =
+pub read_header-from-requires : goal.read_header-from-requires
+read_header-from-requires c =
     (accepted_lawful c.args.self.now.book.now c.args.self.now.accepted).not4
 
-pub overflow_add-header : goal.overflow_add-header
-overflow_add-header c =
-    omega (arith, header_in c.read_header-header.ensures)
+pub overflow_add-from : goal.overflow_add-from
+overflow_add-from c =
+    omega (arith, header_in c.read_header-from.ensures)
 
 pub rule_table-requires-clause-prepared : goal.rule_table-requires-clause-prepared
 rule_table-requires-clause-prepared c =
-    prepared c.args.self.now.book.now c.args.self.now.accepted c.read_header-header.result.rules c.read_header-header.ensures.rules_at_lem c.args.self.now.lower c.args.self.now.lower_masks
+    prepared c.args.self.now.book.now c.args.self.now.accepted c.read_header-from.result.rules c.read_header-from.ensures.rules_at_lem c.args.self.now.lower c.args.self.now.lower_masks
 
 pub rule_table-requires-clause-layer_lt_max_layers : goal.rule_table-requires-clause-layer_lt_max_layers
 rule_table-requires-clause-layer_lt_max_layers c =
