@@ -9,7 +9,7 @@ ghost use Rattle.branching.specs.Marks.{BodyMarked, BranchingMarks, Listed};
 
 use base::MAX_ATOMS;
 use format::literal_value;
-use table::{Row, row_body, row_overridden};
+use table::{Row, Table, span_bytes};
 
 // Whether the literal of number v makes its fact branch: it is negated, or its rule can displace. No fact is past the bound.
 fn branches(v: usize, rejecting: bool) -> bool
@@ -41,16 +41,13 @@ fn mark_body(body: &[u8], rejecting: bool, marks: &mut [bool])
 
 // Marks the branching facts, where nothing is marked yet: a rule can displace exactly where its mask of overridden layers is not
 // empty. How many facts there are plays no part.
-fn mark_branching(book: &[u8], rows: &[Row], marks: &mut [bool])
-    requires tabulates { Tabulates (tabled book.now rows.now 0) book.now rows.now }
+fn mark_branching(table: Table, marks: &mut [bool])
+    requires tabulates { Tabulates (tabled table.book.now table.rows.now 0) table.book.now table.rows.now }
     requires marks_value { marks.old ≡ replicate max_atoms false }
-    ensures { BranchingMarks (tabled book.now rows.now 0) marks.new }
+    ensures { BranchingMarks (tabled table.entry.book.now table.entry.rows.now 0) marks.new }
 {
-    let count = rows.len();
-    let mut j = 0;
-    while j < count {
-        mark_body(row_body(book, rows, j), row_overridden(rows, j) != 0, marks);
-        j += 1;
+    for row in table.rows {
+        mark_body(span_bytes(table.book, row.body), row.overridden != 0, marks);
     }
 }
 
@@ -72,7 +69,7 @@ pub fn branching_atoms(book: &[u8], rows: &[Row], n: usize, atoms: &mut [u32]) -
     ensures { Listed (tabled book.now rows.now n) atoms.new result }
 {
     let mut marks = [false; MAX_ATOMS];
-    mark_branching(book, rows, &mut marks);
+    mark_branching(Table { book, rows }, &mut marks);
     let mut count = 0;
     let mut f = 0;
     while f < n {

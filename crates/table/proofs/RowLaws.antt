@@ -1,7 +1,7 @@
 -- Rows and the rules that they stand for: which rules are there, a row's body as the code cuts it, whether it is alive or leans on itself,
 -- and when two rows are the same. Used by every loop over rows. Assumes nothing.
 use mathlib.Core.Path.{◌≡◌, refl, sym, ap, ap₂, subst, ◌∙◌}
-use mathlib.Core.Bool.{not}
+use mathlib.Core.Bool.{Bool, not}
 use mathlib.Core.List.Memᴰ
 use mathlib.Core.List.{List, [], ◌∷◌, ◌++◌, map}
 use Prim.Native.Nat.{ℕ, zero, suc, ◌≤◌, ◌/◌, ◌^◌, ◌<◌}
@@ -65,6 +65,12 @@ module _ (book : List ℕ) (rows : List Row) (rejects : List ℕ) (j h i : ℕ) 
       ap (λ (x : ℕ). not (eqb (bit_of (get_or rejects x 0) (row_layer rows j)) 1)) (name_back (head_name rows j) ∙ sym p)
       ∙ ap (λ (y : ℕ). not (eqb (bit_of (get_or rejects h 0) y) 1)) (sym q)
       ∙ ap (λ (z : ℕ). not (eqb z 1)) (sym (test_bit (get_or rejects h 0) i))
+
+-- the same, as the bit of the layer tells it
+pub alive_told : (book : List ℕ) (rows : List Row) (rejects : List ℕ) (j : ℕ) (t : Bool) → t ≡ eqb (bit_of (get_or rejects (head_name rows j) 0) (row_layer rows j)) 1
+    → not t ≡ alive rejects (row_at book rows j)
+unfolding alive row_at
+alive_told book rows rejects j t e = ap not (e ∙ ap (λ (x : ℕ). eqb (bit_of (get_or rejects x 0) (row_layer rows j)) 1) (sym (name_back (head_name rows j))))
 
 -- a row leans on itself where the literal of its head's number is among its body's
 pub row_leans : (book : List ℕ) (rows : List Row) (j h v : ℕ) (body : List ℕ) → h ≡ head_name rows j → literal_numbered v ≡ literal_named h → body ≡ row_body book rows j

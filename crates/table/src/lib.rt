@@ -344,3 +344,77 @@ pub fn rule_table(
     overridden_layers(book, &mut rows[..count], lower);
     count
 }
+
+// The rows of a table, with the book that their bodies lie in.
+#[derive(Clone, Copy)]
+pub struct Table<'a> {
+    pub book: &'a [u8],
+    pub rows: &'a [Row],
+    ghost fit: { RowsFit book.now rows.now },
+}
+
+impl<'a> Table<'a> {
+    pub fn len(self) -> usize
+        ensures { result ≡ row_count self.entry.rows.now }
+    {
+        self.rows.len()
+    }
+
+    // The name of a row's head.
+    pub fn head(self, j: usize) -> usize
+        requires { j < row_count self.rows.now }
+        ensures { (result ≡ head_name self.entry.rows.now j) × (result < max_names) }
+    {
+        self.rows[j].head as usize
+    }
+
+    // A row's layer.
+    pub fn layer(self, j: usize) -> usize
+        requires { j < row_count self.rows.now }
+        ensures { (result ≡ row_layer self.entry.rows.now j) × (result < max_layers) }
+    {
+        self.rows[j].layer as usize
+    }
+
+    // The mask of the layers in which a row overrides rules.
+    pub fn overridden(self, j: usize) -> u32
+        requires { j < row_count self.rows.now }
+        ensures { result ≡ overridden self.entry.rows.now j }
+    {
+        self.rows[j].overridden
+    }
+
+    // A row's body, as a part of the book that starts in its middle.
+    pub fn body(self, j: usize) -> &'a [u8]
+        requires { j < row_count self.rows.now }
+        ensures { result.now ≡ row_body self.entry.book.now self.entry.rows.now j }
+    {
+        span_bytes(self.book, self.rows[j].body)
+    }
+
+    // Whether a row's body holds.
+    pub fn holds(self, m: &[bool], j: usize) -> bool
+        requires { j < row_count self.rows.now }
+        ensures { result ≡ body_holds m.now (row_at self.entry.book.now self.entry.rows.now j) }
+    {
+        body_holds(m, self.body(j))
+    }
+
+    // Whether a row is alive: its layer's bit is not set in the mask at its head's name.
+    pub fn alive(self, rejects: &[u32], j: usize) -> bool
+        requires rejects_len { length rejects.now ≡ max_names }
+        requires j_bound { j < row_count self.rows.now }
+        ensures { result ≡ alive rejects.now (row_at self.entry.book.now self.entry.rows.now j) }
+    {
+        let row = self.rows[j];
+        !has_layer(rejects[row.head as usize], row.layer as usize)
+    }
+
+    // Whether a row leans on itself: its head is among its own body's literals, sign and all.
+    pub fn leans(self, j: usize) -> bool
+        requires { j < row_count self.rows.now }
+        ensures { result ≡ leans_on_itself (row_at self.entry.book.now self.entry.rows.now j) }
+    {
+        has_literal(self.body(j), number_of(self.head(j)))
+    }
+}
