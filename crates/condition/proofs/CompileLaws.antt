@@ -1,9 +1,14 @@
 -- The readers' answer for a whole text: a reading and its code, or none. Used by `compile`. Assumes nothing.
 use mathlib.Core.Path.{◌≡◌, refl, ap, subst, ◌∙◌}
+use mathlib.Core.Bool.{Bool, true, false}
 use mathlib.Core.List.{List, [], ◌∷◌, ◌++◌}
 use Prim.Native.Nat.{ℕ, ◌≤◌, ◌<◌}
 use native.Mathlib.Omega.{arith}
+use borrow.Author.Tests.{eqb-true, eqb-false}
+use lib.Dec.{eqb}
 use lib.ListN.{length}
+use Rattle.std.specs.Bool.{then_some}
+use Rattle.grammar.specs.Conditions.{Condition}
 use Rattle.grammar.specs.Reader.{disjunction, nothing, from, Took}
 use Rattle.grammar.proofs.OneReadingLaws.{once, whole}
 use Rattle.grammar.proofs.SoundLaws.{read_whole}
@@ -11,8 +16,8 @@ use Rattle.condition.specs.declared.Reader.{Reader}
 use Rattle.condition.specs.declared.Code.{Code}
 use Rattle.condition.specs.Code.{postfix, deepest}
 use Rattle.condition.specs.Causes.{max_condition}
-use Rattle.condition.specs.Outcome.{Written, NoReading, CompiledTo}
-use Rattle.condition.proofs.ReaderLaws.{Unread}
+use Rattle.condition.specs.Outcome.{NoReading, CompiledTo, Compiles}
+use Rattle.condition.specs.Readers.{Written}
 use Rattle.condition.proofs.DepthLaws.{deepest-depth, depth-short}
 
 pub long_text : (s : List ℕ) → max_condition < length s → NoReading s
@@ -25,7 +30,7 @@ nothing_left : (s : List ℕ) → length s ≡ 0 → s ≡ []
 nothing_left [] e = refl
 nothing_left (x ∷ s) e = absurd (omega arith)
 
-pub whole_text : {old new : Reader} → Written (from disjunction nothing) old new → old.code ≡ [] → length new.rest.now ≡ 0 → length old.rest.now ≤ max_condition → CompiledTo old.rest.now new.code
+whole_text : {old new : Reader} → Written (from disjunction nothing) old new → old.code ≡ [] → length new.rest.now ≡ 0 → length old.rest.now ≤ max_condition → CompiledTo old.rest.now new.code
 whole_text {old} {new} x b e k = record {
   tree = x.tree;
   short = k;
@@ -33,8 +38,15 @@ whole_text {old} {new} x b e k = record {
   wrote = x.wrote ∙ ap (λ (l : List Code). l ++ postfix x.tree) b;
 }
 
-pub part_text : {old new : Reader} → Written (from disjunction nothing) old new → (length new.rest.now ≡ 0 → ⊥) → NoReading old.rest.now
+part_text : {old new : Reader} → Written (from disjunction nothing) old new → (length new.rest.now ≡ 0 → ⊥) → NoReading old.rest.now
 part_text x n k a d = n (ap length (once x.took (whole d)).left)
 
-pub no_text : (r : Reader) → Unread (from disjunction nothing) r → NoReading r.rest.now
-no_text r h k a d = h a [] (whole d)
+pub no_text : (s : List ℕ) → ((w : Condition) (u : List ℕ) → Took (from disjunction nothing) s w u → ⊥) → NoReading s
+no_text s h k a d = h a [] (whole d)
+
+pub whole_or_none : (old new : Reader) → Written (from disjunction nothing) old new → old.code ≡ [] → length old.rest.now ≤ max_condition → Compiles old.rest.now (then_some (eqb (length new.rest.now) 0) new.code)
+whole_or_none old new x b k = go (eqb (length new.rest.now) 0) refl
+  where
+    go : (t : Bool) → eqb (length new.rest.now) 0 ≡ t → Compiles old.rest.now (then_some t new.code)
+    go true e = whole_text x b (eqb-true (length new.rest.now) 0 e) k
+    go false e = part_text x (eqb-false (length new.rest.now) 0 e)

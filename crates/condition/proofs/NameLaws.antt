@@ -1,17 +1,20 @@
 -- The digits of a name: read from the left, at most four, as far as they go. Used by `read_name`. Assumes nothing.
 use mathlib.Core.Path.{◌≡◌, refl, sym, ap, subst, ◌∙◌}
 use mathlib.Core.List.{List, [], ◌∷◌, ◌++◌}
-use Prim.Native.Nat.{ℕ, suc, ◌+◌, ◌*◌, ◌-◌, ◌^◌, ◌≤◌, ◌<◌}
+use Prim.Native.Nat.{ℕ, zero, suc, ◌+◌, ◌*◌, ◌-◌, ◌^◌, ◌≤◌, ◌<◌}
 use native.Mathlib.Numerals.{add-one}
 use native.Mathlib.Nat.{mul_assoc, mul-le-mul_right, pow-succ', pow-le-pow_right}
 use native.Mathlib.Omega.{arith}
+use borrow.Author.Tests.{lt-ltb}
+use Rattle.std.specs.Bool.{then_some}
+use lib.Dec.{ltb}
 use lib.ListN.{length, get_or, take, drop, drop_of_length-le}
 use lib.Seq.{drop-cons, take-suc}
 use Rattle.std.proofs.lemmas.List.{take-append-drop, length-take, length-take-le}
 use Rattle.grammar.specs.Conditions.{Atom, Digit, Digits, none, more, max_digits}
 use Rattle.grammar.specs.Reader.{bracket, NoDigit, Took, name_took}
 use Rattle.grammar.proofs.OneReadingLaws.{first_same, rest-same}
-use Rattle.condition.specs.Outcome.{NameOf}
+use Rattle.condition.specs.Outcome.{NameOf, NameRead}
 
 pub no_digits : (s : List ℕ) → Digits 0 (take 0 s) 0
 no_digits s = none 0
@@ -88,12 +91,12 @@ starts : {v f : ℕ} {x : List ℕ} (t u : List ℕ) → Digits v t f → 1 ≤ 
 starts t u (none v) h e n = omega arith
 starts t u (more {c = b} {s = r} k d) h e n = n b (r ++ u) e k
 
-pub no_digit_there : (s : List ℕ) {i : ℕ} → i ≡ 0 → NoDigit (drop i s) → (f : ℕ) (u : List ℕ) → Took bracket s (Atom f) u → ⊥
+no_digit_there : (s : List ℕ) {i : ℕ} → i ≡ 0 → NoDigit (drop i s) → (f : ℕ) (u : List ℕ) → Took bracket s (Atom f) u → ⊥
 no_digit_there s e n f u p =
     let x = name_text p in
     starts x.text u x.digits x.some x.split (subst (λ (k : ℕ). NoDigit (drop k s)) e n)
 
-pub name_ends : (s : List ℕ) {i v : ℕ} → Digits 0 (take i s) v → i ≤ max_digits → (i ≡ 0 → ⊥) → i ≤ length s → NoDigit (drop i s) → NameOf s i v
+name_ends : (s : List ℕ) {i v : ℕ} → Digits 0 (take i s) v → i ≤ max_digits → (i ≡ 0 → ⊥) → i ≤ length s → NoDigit (drop i s) → NameOf s i v
 name_ends s {i} n few some h ends =
     let size : length (take i s) ≡ i = length-take-le i s h in
     record {
@@ -101,3 +104,7 @@ name_ends s {i} n few some h ends =
       within = h;
       took = name_took (sym (take-append-drop i s)) n (omega (arith, size, some)) (omega (arith, size, few)) ends;
     }
+
+pub name_or_none : (s : List ℕ) (i : ℕ) {v : ℕ} → Digits 0 (take i s) v → i ≤ max_digits → i ≤ length s → NoDigit (drop i s) → NameRead s (then_some (ltb 0 i) (i, v))
+name_or_none s zero n few h ends = no_digit_there s refl ends
+name_or_none s (suc k) n few h ends = rw (lt-ltb 0 (suc k) (omega arith)) (name_ends s n few (λ e. omega (arith, e)) h ends)

@@ -1,6 +1,6 @@
 -- What the readers owe: operands and what goes on behind them, `!`, brackets, a name. Used by the proof of their cycle. Assumes nothing.
 use mathlib.Core.Path.{◌≡◌, refl, sym, ap, subst, ◌∙◌}
-use mathlib.Core.Bool.{true, false}
+use mathlib.Core.Bool.{Bool, true, false}
 use mathlib.Core.List.{List, [], ◌∷◌, ◌++◌, append_assoc}
 use Prim.Native.Nat.{ℕ, ◌+◌, ◌-◌, ◌≤◌}
 use native.Mathlib.Omega.{arith}
@@ -10,13 +10,16 @@ use Rattle.grammar.specs.Conditions.{Condition, Atom, Not, Bracket}
 use Rattle.grammar.specs.Reader as grammar
 use Rattle.grammar.specs.Reader.{disjunction, conjunction, nothing, after, joined, Task, from, on, bracket, operand, Stops, Took, operand_took, operator_stop, operator_go, not_took, shut_took, name_took}
 use Rattle.grammar.proofs.OneReadingLaws.{first_same, rest-same, begins, once}
+use Rattle.std.specs.declared.option.Option.{Option}
+use Rattle.std.specs.Bool.{then_some}
 use Rattle.condition.specs.declared.Code.{Code}
 use Rattle.condition.specs.declared.Code.TheVariants as code
 use Rattle.condition.specs.declared.Operator.{Operator}
 use Rattle.condition.specs.declared.Operator.TheVariants.{Or, And}
 use Rattle.condition.specs.declared.Reader.{Reader}
 use Rattle.condition.specs.Code.{postfix}
-use Rattle.condition.specs.Outcome.{meant, byte_of, code_of, task_of, operand_of, Passes, Written, NameOf}
+use Rattle.condition.specs.Outcome.{meant, byte_of, code_of, NameOf}
+use Rattle.condition.specs.Readers.{task_of, operand_of, Passes, Written, Outcome}
 
 -- a byte that was passed, or not
 abbrev Passed : ℕ → Reader → Reader → Type 0
@@ -32,8 +35,8 @@ read_from {k} {new = new} e h = subst (λ (r : Reader). Written k r new) e h
 abbrev pub Unread : Task → Reader → Type 0
 Unread k r = (w : Condition) (u : List ℕ) → Took k r.rest.now w u → ⊥
 
-pub unread_from : (k : Task) {old mid : Reader} → mid ≡ old → Unread k mid → Unread k old
-unread_from k e h = subst (λ (r : Reader). Unread k r) e h
+pub outcome_from : (k : Task) {old mid : Reader} (new : Reader) (r : Option (Unit {0})) → mid ≡ old → Outcome k mid new r → Outcome k old new r
+outcome_from k new r e h = subst (λ (x : Reader). Outcome k x new r) e h
 
 -- ---- operands
 -- the condition so far, of the operands that were passed
@@ -130,7 +133,7 @@ pub negated-none : (old next : Reader) → Passed 33 old next → Unread bracket
 negated-none old next p n w u f = not_only p.0 f (λ a d. n a u d)
 
 -- in brackets
-pub shut_read : {old next last new : Reader} → Passed 40 old next → Written (from disjunction nothing) next last → Passed 41 last new → Written bracket old new
+shut_read : {old next last new : Reader} → Passed 40 old next → Written (from disjunction nothing) next last → Passed 41 last new → Written bracket old new
 unfolding postfix
 shut_read {old} p x q = record {
   tree = Bracket x.tree;
@@ -139,8 +142,12 @@ shut_read {old} p x q = record {
   room = omega (arith, ap length p.0, ap length p.1, x.room, ap length q.0, ap length q.1);
 }
 
-pub unshut_none : (old next last new : Reader) → Passed 40 old next → Written (from disjunction nothing) next last → Stayed 41 last new → Unread bracket old
+unshut_none : (old next last new : Reader) → Passed 40 old next → Written (from disjunction nothing) next last → Stayed 41 last new → Unread bracket old
 unshut_none old next last new p x n w u f = shut_only p.0 f (λ a v d e. n.1 u ((once x.took d).left ∙ e))
+
+pub shut_or_none : (old next last new : Reader) (b : Bool) → Passed 40 old next → Written (from disjunction nothing) next last → Passes 41 last new b → Outcome bracket old new (then_some b tt)
+shut_or_none old next last new true p x q = shut_read p x q
+shut_or_none old next last new false p x n = unshut_none old next last new p x n
 
 pub bracket-none : (old next : Reader) → Passed 40 old next → Unread (from disjunction nothing) next → Unread bracket old
 bracket-none old next p n w u f = shut_only p.0 f (λ a v d e. n a v d)

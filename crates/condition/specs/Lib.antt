@@ -2,3 +2,4 @@
 pub mod Code
 pub mod Causes
 pub mod Outcome
+pub mod Readers

@@ -1,11 +1,11 @@
 -- What the functions that read a condition answer: a reading and its code, or the first cause. Assumes nothing.
-use Rattle.std.specs.Prelude.{◌≡◌, Bool, true, false, List, ◌∷◌, ◌++◌, ℕ, ◌+◌, ◌≤◌, length, drop, Some, None, Ok, Err}
+use Rattle.std.specs.Prelude.{◌≡◌, List, ℕ, ◌+◌, ◌≤◌, length, drop, Some, None, Ok, Err}
 use Rattle.std.specs.declared.option.Option.{Option}
 use Rattle.std.specs.declared.result.Result.{Result}
 use Rattle.models.specs.StableModels.{Interpretation}
 use Rattle.grammar.specs.Conditions.{Condition, Atom, Digit, Reads, or-level}
 use Rattle.grammar.specs.Reader as grammar
-use Rattle.grammar.specs.Reader.{Task, from, bracket, operand, nothing, Took, disjunction, conjunction}
+use Rattle.grammar.specs.Reader.{bracket, Took, disjunction, conjunction}
 use Rattle.book.specs.Causes.{first_of}
 use Rattle.book.specs.declared.Cause.{Cause}
 use Rattle.condition.specs.Code.{postfix, code_holds, StackFits}
@@ -14,7 +14,6 @@ use Rattle.condition.specs.declared.Code.{Code}
 use Rattle.condition.specs.declared.Code.TheVariants as code
 use Rattle.condition.specs.declared.Operator.{Operator}
 use Rattle.condition.specs.declared.Operator.TheVariants.{Or, And}
-use Rattle.condition.specs.declared.Reader.{Reader}
 
 -- an operator of the grammar, its byte and its code
 abbrev pub meant : Operator → grammar.Operator
@@ -27,13 +26,6 @@ byte_of o = grammar.byte_of (meant o)
 abbrev pub code_of : Operator → Code
 code_of Or = code.Or
 code_of And = code.And
-
--- operands of an operator, and one of them
-abbrev pub task_of : Operator → Task
-task_of o = from (meant o) nothing
-
-abbrev pub operand_of : Operator → Task
-operand_of o = operand (meant o)
 
 -- the value of the digit c, or that c is none
 abbrev pub DigitOf : ℕ → Option ℕ → Type 0
@@ -49,24 +41,6 @@ pub record NameOf (s : List ℕ) (digits f : ℕ) : Type 0 where
 abbrev pub NameRead : List ℕ → Option (ℕ × ℕ) → Type 0
 NameRead s (Some (digits, f)) = NameOf s digits f
 NameRead s None = (f : ℕ) (u : List ℕ) → Took bracket s (Atom f) u → ⊥
-
-abbrev pub Passes : ℕ → Reader → Reader → Bool → Type 0
-Passes c old new true = (old.rest.now ≡ c ∷ new.rest.now) × (new.code ≡ old.code)
-Passes c old new false = (new ≡ old) × ((s : List ℕ) → old.rest.now ≡ c ∷ s → ⊥)
-
-abbrev pub Room : Reader → Type 0
-Room r = length r.code + length r.rest.now ≤ max_condition
-
--- a condition was read, and its code stands behind the codes before
-pub record Written (k : Task) (old new : Reader) : Type 0 where
-  pub tree : Condition
-  pub took : Took k old.rest.now tree new.rest.now
-  pub wrote : new.code ≡ old.code ++ postfix tree
-  pub room : length new.code + length new.rest.now ≤ length old.code + length old.rest.now
-
-abbrev pub Outcome : Task → Reader → Reader → Option (Unit {0}) → Type 0
-Outcome k old new (Some u) = Written k old new
-Outcome k old new None = (w : Condition) (u : List ℕ) → Took k old.rest.now w u → ⊥
 
 -- the text has a reading, and these are its postfix code
 pub record CompiledTo (s : List ℕ) (codes : List Code) : Type 0 where

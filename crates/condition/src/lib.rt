@@ -3,10 +3,9 @@
 
 ghost use Rattle.std.specs.Prelude.{◌≡◌, List, [], ◌∷◌, ◌++◌, ◌+◌, ◌*◌, ◌^◌, ◌≤◌, ◌<◌, length, take, ℕ};
 ghost use Rattle.models.specs.Listing.{bit_value};
-ghost use Rattle.grammar.specs.Reader.{bracket};
 ghost use Rattle.condition.specs.Causes.{max_condition};
 ghost use Rattle.condition.specs.Code.{push, step, Fits, code_holds, StackFits, opened, deepest, code_below, codes_below};
-ghost use Rattle.condition.specs.Outcome.{byte_of, code_of, task_of, operand_of, DigitOf, NameRead, Passes, Room, Outcome, Compiles, Prepares};
+ghost use Rattle.condition.specs.Outcome.{byte_of, code_of, DigitOf, NameRead, Compiles, Prepares};
 
 use book::Cause;
 use std::marker::Model;
@@ -119,11 +118,7 @@ impl Operator {
 fn digit_of(c: u8) -> Option<u16>
     ensures { DigitOf c result }
 {
-    if c.is_ascii_digit() {
-        Some(u16::from(c - b'0'))
-    } else {
-        None
-    }
+    c.is_ascii_digit().then(|| u16::from(c - b'0'))
 }
 
 // A name of one to four digits: how many, and the fact.
@@ -142,20 +137,21 @@ fn read_name(text: &[u8]) -> Option<(usize, u16)>
         fact = fact * 10 + d;
         digits += 1;
     }
-    if digits == 0 {
-        return None;
-    }
-    Some((digits, fact))
+    (0 < digits).then_some((digits, fact))
 }
 
-// What is left of a condition's text, and the code of what was read. There is room for a code where a byte is left.
+// What is left of a condition's text, and the code of what was read: each byte that is left has room for a code.
 #[derive(Drop)]
 struct Reader<'a> {
     rest: &'a [u8],
     code: Postfix,
+    ghost room: { length code + length rest.now ≤ max_condition },
 }
 
 impl Reader<'_> {
+    ghost use Rattle.grammar.specs.Reader.{bracket};
+    ghost use Rattle.condition.specs.Readers.{task_of, operand_of, Passes, Outcome};
+
     // Goes past a byte if it is the next.
     fn passes(&mut self, byte: u8) -> bool
         ensures { Passes byte self.old self.new result }
@@ -170,7 +166,6 @@ impl Reader<'_> {
     // Operands of an operator, from the left.
     #[cycle(operands_under_operand)]
     fn operands(&mut self, operator: Operator) -> Option<()>
-        requires { Room self.old }
         ensures { Outcome (task_of operator) self.old self.new result }
     {
         self.under(operator)?;
@@ -184,7 +179,6 @@ impl Reader<'_> {
     // An operand of an operator.
     #[cycle(operands_under_operand)]
     fn under(&mut self, operator: Operator) -> Option<()>
-        requires { Room self.old }
         ensures { Outcome (operand_of operator) self.old self.new result }
     {
         match operator {
@@ -196,7 +190,6 @@ impl Reader<'_> {
     // An operand of `&`: a name, a bracket, or either behind `!`.
     #[cycle(operands_under_operand)]
     fn operand(&mut self) -> Option<()>
-        requires { Room self.old }
         ensures { Outcome bracket self.old self.new result }
     {
         if self.passes(b'!') {
@@ -206,7 +199,7 @@ impl Reader<'_> {
         }
         if self.passes(b'(') {
             self.operands(Operator::Or)?;
-            return if self.passes(b')') { Some(()) } else { None };
+            return self.passes(b')').then_some(());
         }
         let (digits, fact) = read_name(self.rest)?;
         self.rest = &self.rest[digits..];
@@ -254,7 +247,7 @@ fn compile(text: &[u8]) -> Option<Postfix>
     };
     reader.operands(Operator::Or)?;
     let Reader { rest, code } = reader;
-    if rest.is_empty() { Some(code) } else { None }
+    rest.is_empty().then_some(code)
 }
 
 // Whether every fact that the code names is below n.

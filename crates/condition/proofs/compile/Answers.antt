@@ -1,7 +1,5 @@
 -- `compile` meets its contract (CompileLaws).
-use Rattle.condition.proofs.CompileLaws.{long_text, deep_text, whole_text, part_text, no_text}
-use mathlib.Core.Path.{sym, ◌∙◌}
-use borrow.Author.Tests.{eqb-true, eqb-false}
+use Rattle.condition.proofs.CompileLaws.{long_text, deep_text, whole_or_none, no_text}
 use Rattle.condition.proofs.compile.Goals as goal
 use Rattle.condition.proofs.compile.Goals.{then-text-gt-MAX_CONDITION-via-then-text-gt-MAX_CONDITION, then-text-gt-MAX_CONDITION-via-else-text-gt-MAX_CONDITION+then-bracket_depth-gt-MAX_SHUT}
 
@@ -12,10 +10,7 @@ returns-then-text-gt-MAX_CONDITION c = elim c.then-text-gt-MAX_CONDITION.branch 
 ]
 
 pub returns-in_err-operands : goal.returns-in_err-operands
-returns-in_err-operands c = rw c.from_residual.ensures (no_text record { rest = c.args.text; code = c.new.result } c.in_err-operands.ensures)
+returns-in_err-operands c = rw c.from_residual.ensures (no_text c.args.text.now c.in_err-operands.ensures)
 
-pub returns-then-is_empty : goal.returns-then-is_empty
-returns-then-is_empty c = whole_text c.in_ok-operands.ensures c.new.ensures (eqb-true _ _ (sym c.is_empty.ensures ∙ c.if-is_empty.true)) c.if-text-gt-MAX_CONDITION.false
-
-pub returns-else-is_empty : goal.returns-else-is_empty
-returns-else-is_empty c = part_text c.in_ok-operands.ensures (eqb-false _ _ (sym c.is_empty.ensures ∙ c.if-is_empty.false))
+pub returns : goal.returns
+returns c = rw (c.then_some.ensures, c.is_empty.ensures) (whole_or_none _ c.operands.new.self c.in_ok-operands.ensures c.new.ensures c.if-text-gt-MAX_CONDITION.false)

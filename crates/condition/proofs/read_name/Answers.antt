@@ -1,5 +1,5 @@
 -- `read_name` meets its contract: the digits go as far as they can, and are four at most (NameLaws).
-use Rattle.condition.proofs.NameLaws.{no_digits, next_digit, small_so_far, fifth_digit, ends_there, ends_before, no_digit_there, name_ends}
+use Rattle.condition.proofs.NameLaws.{no_digits, next_digit, small_so_far, fifth_digit, ends_there, ends_before, name_or_none}
 use native.Mathlib.Omega.{arith}
 use Rattle.condition.proofs.read_name.Goals as goal
 use Rattle.condition.proofs.read_name.Goals.{else-loop-c-test, then-loop-c-test+in_default}
@@ -28,16 +28,9 @@ loop-c-preserved c =
       number = next_digit c.args.text.now c.in-Some.d c.loop-c.invariant.number c.loop-c.invariant.all (omega arith) c.in-Some.ensures;
     }
 
-pub returns-then-digits-eq0 : goal.returns-then-digits-eq0
-returns-then-digits-eq0 c =
-    no_digit_there c.args.text.now c.if-digits-eq0.true (elim c.loop-c-test.branch [
-      | else-loop-c-test w ↦ ends_there c.args.text.now c.loop-c.digits (omega (arith, c.loop-c.invariant.all))
-      | then-loop-c-test+in_default w ↦ ends_before c.args.text.now c.loop-c.invariant.all w.loop-c-test.true w.in_default.ensures
-    ])
-
 pub returns : goal.returns
 returns c =
-    name_ends c.args.text.now c.loop-c.invariant.number c.loop-c.invariant.few c.if-digits-eq0.false (omega (arith, c.loop-c.invariant.all)) (elim c.loop-c-test.branch [
+    rw c.then_some.ensures (name_or_none c.args.text.now c.loop-c.digits c.loop-c.invariant.number c.loop-c.invariant.few (omega (arith, c.loop-c.invariant.all)) (elim c.loop-c-test.branch [
       | else-loop-c-test w ↦ ends_there c.args.text.now c.loop-c.digits (omega (arith, c.loop-c.invariant.all))
       | then-loop-c-test+in_default w ↦ ends_before c.args.text.now c.loop-c.invariant.all w.loop-c-test.true w.in_default.ensures
-    ])
+    ]))

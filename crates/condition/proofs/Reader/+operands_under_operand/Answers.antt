@@ -1,20 +1,17 @@
 -- The readers meet their contracts (ReaderLaws).
 use mathlib.Core.Path.{refl, ◌∙◌}
 use Rattle.grammar.specs.Reader.{bracket}
-use Rattle.condition.proofs.ReaderLaws.{read_from, unread_from, first_operand, next_operand, operands_end, operands_none, negated_read, shut_read, unshut_none, name_read}
+use Rattle.condition.proofs.ReaderLaws.{read_from, outcome_from, first_operand, next_operand, operands_end, operands_none, negated_read, shut_or_none, name_read}
 use Rattle.condition.proofs.Reader.+operands_under_operand.Goals as goal
 
 pub operand-returns-then-passes : goal.operand-returns-then-passes
 operand-returns-then-passes t c =
     negated_read c.if-passes.ensures c.in_ok-operand.ensures refl c.push.ensures
 
-pub operand-returns-then-passes-3 : goal.operand-returns-then-passes-3
-operand-returns-then-passes-3 t c =
-    read_from c.if-passes.ensures.0 (shut_read c.if-passes-2.ensures c.in_ok-operands.ensures c.if-passes-3.ensures)
-
-pub operand-returns-else-passes-3 : goal.operand-returns-else-passes-3
-operand-returns-else-passes-3 t c =
-    unread_from bracket c.if-passes.ensures.0 (unshut_none c.passes.new.self c.passes-2.new.self c.operands.new.self c.passes-then-passes-2.new.self c.if-passes-2.ensures c.in_ok-operands.ensures c.if-passes-3.ensures)
+pub operand-returns-then-passes-2 : goal.operand-returns-then-passes-2
+operand-returns-then-passes-2 t c =
+    rw c.then_some.ensures (outcome_from bracket c.passes-then-passes-2.new.self _ c.if-passes.ensures.0
+    (shut_or_none c.passes.new.self c.passes-2.new.self c.operands.new.self c.passes-then-passes-2.new.self c.passes-then-passes-2.result c.if-passes-2.ensures c.in_ok-operands.ensures c.passes-then-passes-2.ensures))
 
 pub operand-returns : goal.operand-returns
 operand-returns t c =
