@@ -7,11 +7,11 @@ use Prim.Native.Nat.{ℕ, ◌-◌, ◌<◌, ◌≤◌}
 use native.Mathlib.Omega.{arith}
 use borrow.Author.Tests.{not-false}
 use lib.ListN.{length, set}
-use Rattle.base.specs.Bounds.{max_atoms, max_rules}
+use Rattle.base.specs.Bounds.{max_atoms}
 use Rattle.models.specs.StableModels.{complement}
 use Rattle.table.specs.Names.{literal_named}
 use Rattle.table.specs.Rows.{row_count, head_name, row_at}
-use Rattle.filling.specs.Marks.{hint_size, Room, literal_marked, adds, Grown}
+use Rattle.filling.specs.Marks.{Room, literal_marked, adds, Grown}
 use Rattle.filling.proofs.MarkLaws.{fact-low, fact-high, head-within}
 use Rattle.filling.proofs.GrowingLaws.{grown_one, one_low, one_high, opposite_free}
 
@@ -27,10 +27,8 @@ module _ (book rows rejects : List ℕ) (p q : List Bool) (w : Room rows p q) (j
   pub grown-high : max_atoms ≤ h → Grown book rows rejects p q p (set q (h - max_atoms) true)
   grown-high k = grown_one p q j b a (one_high book rows rejects p q j a h e k (omega (arith, w.same, fact-high h (length p) (head-within w j h b e) k))) (opposite_free book rows rejects p q j a h e o eo c ec f)
 
--- the marks have grown, no array has another length, and the names stand on their stack
-pub record Turn (book rows rejects : List ℕ) (p₀ q₀ p q : List Bool) (hints : List ℕ) (top : ℕ) : Type 0 where
+-- the marks have grown, and neither array has another length
+pub record Turn (book rows rejects : List ℕ) (p₀ q₀ p q : List Bool) : Type 0 where
   pub grown : Grown book rows rejects p₀ q₀ p q
   pub room : Room rows p q
   pub sizes : (length p ≡ length p₀) × (length q ≡ length q₀)
-  pub lists : length hints ≡ hint_size
-  pub depth : top ≤ max_rules

@@ -1,18 +1,13 @@
 -- Two arrays of marks, reached facts and reached negations, and what filling makes of them. Filling is stated over the rows and
 -- masks that it is handed, not over a book, so that the test and the search share it. Assumes nothing.
-use Rattle.std.specs.Prelude.{◌≡◌, Bool, true, false, not, ◌&&◌, cond, ℕ, ◌+◌, ◌*◌, ◌<◌, ◌≤◌, T, length}
+use Rattle.std.specs.Prelude.{◌≡◌, Bool, true, false, not, ◌&&◌, cond, ℕ, ◌+◌, ◌<◌, ◌≤◌, T, length}
 use mathlib.Core.List.{List, [], ◌∷◌, Memᴰ}
-use Rattle.base.specs.Bounds.{max_atoms, max_names, max_rules}
+use Rattle.base.specs.Bounds.{max_atoms}
 use Rattle.base.specs.Lists.{all}
 use Rattle.format.specs.Book.{Literal, Rule}
 use Rattle.models.specs.StableModels.{atom_holds, positive, negative, complement}
 use Rattle.table.specs.Names.{literal_named}
 use Rattle.table.specs.Rows.{row_count, head_name, row_at, rows_of, alive}
-
--- entries of the hints: the literal that each row watches and the trail, which one filling leaves for the next, and the waiting lists,
--- a link from each name, then one from each row, and the names just marked
-abbrev pub hint_size : ℕ
-hint_size = 2 * max_rules + (max_names + max_rules) + max_rules
 
 -- two arrays of marks with a place for each fact: there are as many negations, and they have the heads of all rows
 pub record Room (rows : List ℕ) (p q : List Bool) : Type 0 where

@@ -1,8 +1,7 @@
 // Filling: two arrays of marks, reached facts and reached negations, from the negations of a start until nothing is added. It works on
 // the rows of the table and the masks of the rejected ones, so that the test of a candidate and the search share it.
 // The arrays are lent, with a place for each fact of the book, so that no step grows with the bound on facts.
-// `hints` is what one filling leaves for the next, the literal that each row watches and the trail, and then the waiting lists. Nothing
-// rests on it but speed, so contracts say of it only how long it is.
+// `hints` is what one filling leaves for the next. Nothing rests on it but speed, so no contract speaks of it.
 #![tactic(auto)]
 
 ghost use Rattle.std.specs.Prelude.{◌≡◌, false, ◌<◌, ◌≤◌, length, replicate};
@@ -11,21 +10,14 @@ ghost use Rattle.base.specs.Lists.{all};
 ghost use Rattle.format.specs.Book.{literal_of, literals_of};
 ghost use Rattle.table.specs.Names.{literal_named};
 ghost use Rattle.table.specs.Rows.{row_count, row_at, RowsFit};
-ghost use Rattle.filling.specs.Marks.{hint_size, Room, literal_marked, adds, Grown, PassEnd, FilledOn, Fills};
+ghost use Rattle.filling.specs.Marks.{Room, literal_marked, adds, Grown, PassEnd, FilledOn, Fills};
 
-use base::{MAX_ATOMS, MAX_BODY, MAX_NAMES, MAX_RULES, wide16};
+use base::{MAX_ATOMS, MAX_BODY, MAX_RULES};
 use format::literal_value;
+pub use hint::Hints;
 use table::{ROW_SIZE, opposite, row_alive, row_body, row_head};
 
-// Where the links of the waiting lists start in the hints, one from each name, then one from each row: behind the number of the literal
-// that each row watches, and the trail, whose count stands at MAX_RULES.
-const LINKS: usize = 2 * MAX_RULES;
-
-// Where the stack of the names just marked starts: a row marks its head once.
-const NAMES: usize = LINKS + MAX_NAMES + MAX_RULES;
-
-// Entries of the hints.
-pub const HINTS: usize = NAMES + MAX_RULES;
+mod hint;
 
 // Turns of the waiting lists, more than a lawful book takes: a row is taken up once, tried then and once more for each literal of its
 // body, since it waits once a literal; and its head is taken up once.
@@ -81,21 +73,13 @@ fn body_marked(positive: &[bool], negative: &[bool], body: &[u8], watch: usize) 
     true
 }
 
-// The number of the literal that a row watches: the one that it last waited for. The whole body is tested where it is marked.
-fn watch_of(hints: &[u16], j: usize) -> usize {
-    if j < hints.len() {
-        return wide16(hints[j]);
-    }
-    0
-}
-
 // Whether a row's body is marked.
 fn row_marked(
     book: &[u8],
     rows: &[u16],
     positive: &[bool],
     negative: &[bool],
-    hints: &[u16],
+    hints: &Hints,
     j: usize,
 ) -> bool
     requires rows_fit { RowsFit book.now rows.now }
@@ -107,7 +91,7 @@ fn row_marked(
         positive,
         negative,
         row_body(book, rows, j),
-        watch_of(hints, j),
+        hints.watched(j),
     )
 }
 
@@ -118,7 +102,7 @@ fn row_adds(
     rejects: &[u32],
     positive: &[bool],
     negative: &[bool],
-    hints: &[u16],
+    hints: &Hints,
     j: usize,
 ) -> bool
     requires rows_fit { RowsFit book.now rows.now }
@@ -143,7 +127,7 @@ fn add_head(
     rejects: &[u32],
     positive: &mut [bool],
     negative: &mut [bool],
-    hints: &[u16],
+    hints: &Hints,
     j: usize,
 ) -> bool
     requires rows_fit { RowsFit book.now rows.now }
@@ -167,23 +151,6 @@ fn add_head(
     true
 }
 
-// Puts a row that has added its head on the trail, the rows in the order in which they did so, where one is kept. Entry
-// MAX_RULES of the hints is one more than the number of rows on it, or 0 as long as no filling has needed the waiting lists. A full trail is begun anew.
-fn remember(hints: &mut [u16], j: usize)
-    requires { length hints.old ≡ hint_size }
-{
-    let end = wide16(hints[MAX_RULES]);
-    if end == 0 {
-        return;
-    }
-    if end < MAX_RULES {
-        hints[MAX_RULES + end] = (j % 65536) as u16;
-        hints[MAX_RULES] = (end + 1) as u16;
-        return;
-    }
-    hints[MAX_RULES] = 1;
-}
-
 // Tries the rows of the trail in their order: what was reached one after the other at the last setting is often reached so at the
 // next.
 fn replay(
@@ -192,23 +159,19 @@ fn replay(
     rejects: &[u32],
     positive: &mut [bool],
     negative: &mut [bool],
-    hints: &[u16],
+    hints: &Hints,
 )
     requires rows_fit { RowsFit book.now rows.now }
     requires rejects_len { length rejects.now ≡ max_names }
     requires room { Room rows.now positive.old negative.old }
-    requires hints_len { length hints.now ≡ hint_size }
     ensures { Grown book.now rows.now rejects.now positive.old negative.old positive.new negative.new }
 {
     let count = rows.len() / ROW_SIZE;
-    let end = wide16(hints[MAX_RULES]) % (MAX_RULES + 1);
-    let mut i = 1;
-    while i < end {
-        let j = wide16(hints[MAX_RULES + i]);
+    for row in hints.trail() {
+        let j = *row as usize;
         if j < count {
             add_head(book, rows, rejects, positive, negative, hints, j);
         }
-        i += 1;
     }
 }
 
@@ -261,23 +224,19 @@ fn wait(
     rows: &[u16],
     positive: &[bool],
     negative: &[bool],
-    hints: &mut [u16],
+    hints: &mut Hints,
     j: usize,
 ) -> bool
     requires rows_fit { RowsFit book.now rows.now }
     requires negative_len { length negative.now ≡ length positive.now }
-    requires hints_len { length hints.old ≡ hint_size }
     requires j_bound { (j < row_count rows.now) × (j < max_rules) }
 {
     let body = row_body(book, rows, j);
-    let i = unmarked_from(positive, negative, body, wide16(hints[j]));
+    let i = unmarked_from(positive, negative, body, hints.watched(j));
     if body.len() / 2 <= i {
         return false;
     }
-    let h = waiting_name(body[2 * i], body[2 * i + 1]);
-    hints[j] = (i % 65536) as u16;
-    hints[LINKS + MAX_NAMES + j] = hints[LINKS + h];
-    hints[LINKS + h] = (MAX_NAMES + j) as u16;
+    hints.wait(j, i, waiting_name(body[2 * i], body[2 * i + 1]));
     true
 }
 
@@ -288,13 +247,12 @@ fn settle(
     rejects: &[u32],
     positive: &mut [bool],
     negative: &mut [bool],
-    hints: &mut [u16],
+    hints: &mut Hints,
     j: usize,
 ) -> bool
     requires rows_fit { RowsFit book.now rows.now }
     requires rejects_len { length rejects.now ≡ max_names }
     requires room { Room rows.now positive.old negative.old }
-    requires hints_len { length hints.old ≡ hint_size }
     requires j_bound { (j < row_count rows.now) × (j < max_rules) }
     ensures { Grown book.now rows.now rejects.now positive.old negative.old positive.new negative.new }
 {
@@ -309,76 +267,48 @@ fn settle(
     }
     let added = add_head(book, rows, rejects, positive, negative, hints, j);
     if added {
-        remember(hints, j);
+        hints.remember(j);
     }
     added
 }
 
-// Empties the waiting lists of the first n facts and of their negations.
-fn clear_links(hints: &mut [u16], n: usize)
-    requires { (length hints.old ≡ hint_size) × (n ≤ max_atoms) }
-    ensures { length hints.new ≡ hint_size }
-{
-    let mut f = 0;
-    while f < n {
-        hints[LINKS + f] = 0;
-        hints[LINKS + MAX_ATOMS + f] = 0;
-        f += 1;
-    }
-}
-
 // Marks more of what follows, by waiting lists: a row waits for a literal of its body that is not marked, and is tried again when that
 // one is. Only the order of trying is new: what is added is tested on the spot, and the passes of a filling say when nothing is left.
-// A link leads from a name to the first row that waits for it, and from a row, at MAX_NAMES and its number, to the next; 0 ends a list.
-// The links of an earlier filling are still there: those of the names are cleared at once, a row's own when it is first taken up.
-// On the stack of names are those just marked, `fresh` is the first row not tried yet, `node` the next row of the list in hand. No lawful
-// book takes all the turns.
+// `waiting` is the next row of the list in hand, `fresh` the first row not tried yet. No lawful book takes all the turns.
 fn propagate(
     book: &[u8],
     rows: &[u16],
     rejects: &[u32],
     positive: &mut [bool],
     negative: &mut [bool],
-    hints: &mut [u16],
+    hints: &mut Hints,
 )
     requires rows_fit { RowsFit book.now rows.now }
     requires rejects_len { length rejects.now ≡ max_names }
     requires room { Room rows.now positive.old negative.old }
-    requires hints_len { length hints.old ≡ hint_size }
     ensures { Grown book.now rows.now rejects.now positive.old negative.old positive.new negative.new }
 {
     let count = rows.len() / ROW_SIZE;
     if MAX_RULES < count {
         return;
     }
-    if hints[MAX_RULES] == 0 {
-        hints[MAX_RULES] = 1;
-    }
-    clear_links(hints, positive.len());
-    let mut top = 0;
+    hints.begin(positive.len());
     let mut fresh = 0;
-    let mut node = 0;
-    let mut turns = TURNS;
-    while 0 < turns {
-        turns -= 1;
-        if MAX_NAMES <= node {
-            let j = node - MAX_NAMES;
+    let mut waiting: Option<usize> = None;
+    for _ in 0..TURNS {
+        if let Some(j) = waiting {
             if count <= j {
                 return;
             }
-            node = wide16(hints[LINKS + node]);
+            waiting = hints.next_waiting(j);
             if settle(book, rows, rejects, positive, negative, hints, j) {
-                if top < MAX_RULES {
-                    hints[NAMES + top] = row_head(rows, j) as u16;
-                    top += 1;
-                }
+                hints.push_marked(row_head(rows, j));
             }
-        } else if 0 < top {
-            top -= 1;
-            node = wide16(hints[LINKS + wide16(hints[NAMES + top]) % MAX_NAMES]);
+        } else if let Some(h) = hints.pop_marked() {
+            waiting = hints.first_waiting(h);
         } else if fresh < count {
-            node = MAX_NAMES + fresh;
-            hints[LINKS + node] = 0;
+            hints.take_up(fresh);
+            waiting = Some(fresh);
             fresh += 1;
         } else {
             return;
@@ -400,12 +330,11 @@ fn pass_over_rows(
     rejects: &[u32],
     positive: &mut [bool],
     negative: &mut [bool],
-    hints: &mut [u16],
+    hints: &mut Hints,
 ) -> PassResult
     requires rows_fit { RowsFit book.now rows.now }
     requires rejects_len { length rejects.now ≡ max_names }
     requires room { Room rows.now positive.old negative.old }
-    requires hints_len { length hints.old ≡ hint_size }
     ensures { PassEnd book.now rows.now rejects.now positive.old negative.old positive.new negative.new result.added result.conflict }
 {
     let count = rows.len() / ROW_SIZE;
@@ -425,7 +354,7 @@ fn pass_over_rows(
             } else {
                 negative[h - MAX_ATOMS] = true;
             }
-            remember(hints, j);
+            hints.remember(j);
             added = true;
         }
         j += 1;
@@ -445,12 +374,11 @@ pub fn fill_on(
     rejects: &[u32],
     positive: &mut [bool],
     negative: &mut [bool],
-    hints: &mut [u16],
+    hints: &mut Hints,
 ) -> bool
     requires rows_fit { RowsFit book.now rows.now }
     requires rejects_len { length rejects.now ≡ max_names }
     requires room { Room rows.now positive.old negative.old }
-    requires hints_len { length hints.old ≡ hint_size }
     ensures { FilledOn book.now rows.now rejects.now positive.old negative.old positive.new negative.new result }
 {
     replay(book, rows, rejects, positive, negative, hints);
@@ -490,12 +418,11 @@ pub fn fill(
     rejects: &[u32],
     positive: &mut [bool],
     negative: &mut [bool],
-    hints: &mut [u16],
+    hints: &mut Hints,
 ) -> bool
     requires rows_fit { RowsFit book.now rows.now }
     requires rejects_len { length rejects.now ≡ max_names }
     requires room { Room rows.now positive.old negative.old }
-    requires hints_len { length hints.old ≡ hint_size }
     ensures { Fills book.now rows.now rejects.now negative.old positive.new negative.new result }
 {
     clear_marks(positive);

@@ -4,7 +4,6 @@
 #![tactic(auto)]
 
 ghost use Rattle.std.specs.Prelude.{◌≡◌, false, cond, ◌<◌, ◌≤◌, length, replicate};
-ghost use Rattle.filling.specs.Marks.{hint_size};
 ghost use Rattle.base.specs.Bounds.{max_atoms, max_names};
 ghost use Rattle.base.specs.Lists.{all, up_to};
 ghost use Rattle.models.specs.StableModels.{holds, body_holds, stable, WellFormed};
@@ -16,7 +15,7 @@ ghost use Rattle.tester.specs.Agreement.{marks_agree};
 ghost use Rattle.tester.specs.Masks.{RejectedMasks, Supports, Others};
 
 use base::{MAX_ATOMS, MAX_NAMES};
-use filling::{clear_marks, fill};
+use filling::{Hints, clear_marks, fill};
 use table::{ROW_SIZE, atom_holds, opposite, row_alive, row_head, row_holds, row_overridden};
 
 // The layers in which a row rejects rules: none, unless its body holds.
@@ -139,7 +138,7 @@ pub fn settles(
     n: usize,
     positive: &mut [bool],
     negative: &mut [bool],
-    hints: &mut [u16],
+    hints: &mut Hints,
 ) -> bool
     requires well_formed { WellFormed (tabled book.now rows.now n) }
     requires tabulates { Tabulates (tabled book.now rows.now n) book.now rows.now }
@@ -147,7 +146,7 @@ pub fn settles(
     requires n_le_max_atoms { n ≤ max_atoms }
     requires m_len { length m.now ≡ n }
     requires rejected_masks { RejectedMasks book.now rows.now m.now rejects.now (row_count rows.now) }
-    requires positive_len { (length positive.old ≡ n) × (length negative.old ≡ n) × (length hints.old ≡ hint_size) }
+    requires positive_len { (length positive.old ≡ n) × (length negative.old ≡ n) }
     ensures { result ≡ stable (tabled book.now rows.now n) m.now }
 {
     if supported(book, rows, rejects, m, positive) {
@@ -161,13 +160,12 @@ pub fn settles(
 }
 
 // Whether an interpretation is a stable model of the program that the rows and masks tabulate. `hints` is what an earlier filling left.
-pub fn is_stable(book: &[u8], rows: &[u16], m: &[bool], n: usize, hints: &mut [u16]) -> bool
+pub fn is_stable(book: &[u8], rows: &[u16], m: &[bool], n: usize, hints: &mut Hints) -> bool
     requires well_formed { WellFormed (tabled book.now rows.now n) }
     requires tabulates { Tabulates (tabled book.now rows.now n) book.now rows.now }
     requires n_value { n ≡ (tabled book.now rows.now n).atoms }
     requires n_le_max_atoms { n ≤ max_atoms }
     requires m_len { length m.now ≡ n }
-    requires hints_len { length hints.old ≡ hint_size }
     ensures { result ≡ stable (tabled book.now rows.now n) m.now }
 {
     let mut rejects: [u32; MAX_NAMES] = [0; MAX_NAMES];

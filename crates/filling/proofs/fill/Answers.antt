@@ -7,7 +7,7 @@ use Rattle.filling.proofs.fill.Goals as goal
 
 pub fill_on-requires : goal.fill_on-requires
 fill_on-requires c =
-    record { rows_fit = c.requires.rows_fit; rejects_len = c.requires.rejects_len; room = room-same c.requires.room _ _ (search rules) (search rules); hints_len = search rules }
+    record { rows_fit = c.requires.rows_fit; rejects_len = c.requires.rejects_len; room = room-same c.requires.room _ _ (search rules) (search rules) }
 
 pub returns : goal.returns
 returns c =

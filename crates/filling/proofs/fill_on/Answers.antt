@@ -12,19 +12,15 @@ use Rattle.filling.proofs.fill_on.Goals as goal
 
 pub loop-added-init : goal.loop-added-init
 loop-added-init c =
-    (search rules, room-same c.requires.room _ _ (search rules) (search rules), (refl, refl), filling_start _ _)
+    (room-same c.requires.room _ _ (search rules) (search rules), (refl, refl), filling_start _ _)
 
 pub pass_over_rows-end-requires : goal.pass_over_rows-end-requires
 pass_over_rows-end-requires c =
-    record { rows_fit = c.requires.rows_fit; rejects_len = c.requires.rejects_len; room = c.loop-added.invariant.1; hints_len = c.loop-added.invariant.0 }
-
-pub shape_of-hints-then-end : goal.shape_of-hints-then-end
-shape_of-hints-then-end c =
-    search (rules, c.requires.hints_len)
+    record { rows_fit = c.requires.rows_fit; rejects_len = c.requires.rejects_len; room = c.loop-added.invariant.0 }
 
 pub returns-then-end : goal.returns-then-end
 returns-then-end c =
-    clashed (filling_since c.replay.ensures c.loop-added.invariant.3) c.pass_over_rows-end.ensures c.if-end.true
+    clashed (filling_since c.replay.ensures c.loop-added.invariant.2) c.pass_over_rows-end.ensures c.if-end.true
 
 pub loop-added-smaller-then-first : goal.loop-added-smaller-then-first
 loop-added-smaller-then-first c =
@@ -32,11 +28,11 @@ loop-added-smaller-then-first c =
 
 pub loop-added-preserved-then-first : goal.loop-added-preserved-then-first
 loop-added-preserved-then-first c =
-    (search rules, room-same c.loop-added.invariant.1 _ _ (search rules) (search rules), (search rules, search rules), filling_more c.loop-added.invariant.3 c.pass_over_rows-end.ensures c.if-end.false)
+    (room-same c.loop-added.invariant.0 _ _ (search rules) (search rules), (search rules, search rules), filling_more c.loop-added.invariant.2 c.pass_over_rows-end.ensures c.if-end.false)
 
 pub propagate-requires : goal.propagate-requires
 propagate-requires c =
-    record { rows_fit = c.requires.rows_fit; rejects_len = c.requires.rejects_len; room = room-same c.loop-added.invariant.1 _ _ (search rules) (search rules); hints_len = search rules }
+    record { rows_fit = c.requires.rows_fit; rejects_len = c.requires.rejects_len; room = room-same c.loop-added.invariant.0 _ _ (search rules) (search rules) }
 
 pub loop-added-smaller-then-added : goal.loop-added-smaller-then-added
 loop-added-smaller-then-added c =
@@ -44,7 +40,7 @@ loop-added-smaller-then-added c =
 
 pub loop-added-preserved-then-added : goal.loop-added-preserved-then-added
 loop-added-preserved-then-added c =
-    (search rules, room-same c.loop-added.invariant.1 _ _ (search rules) (search rules), (search rules, search rules), filling_grown (filling_more c.loop-added.invariant.3 c.pass_over_rows-end.ensures c.if-end.false) c.if-added.true c.propagate.ensures)
+    (room-same c.loop-added.invariant.0 _ _ (search rules) (search rules), (search rules, search rules), filling_grown (filling_more c.loop-added.invariant.2 c.pass_over_rows-end.ensures c.if-end.false) c.if-added.true c.propagate.ensures)
 
 pub loop-added-smaller : goal.loop-added-smaller
 loop-added-smaller c =
@@ -52,9 +48,9 @@ loop-added-smaller c =
 
 pub loop-added-preserved : goal.loop-added-preserved
 loop-added-preserved c =
-    (search rules, room-same c.loop-added.invariant.1 _ _ (search rules) (search rules), (search rules, search rules), filling_more c.loop-added.invariant.3 c.pass_over_rows-end.ensures c.if-end.false)
+    (room-same c.loop-added.invariant.0 _ _ (search rules) (search rules), (search rules, search rules), filling_more c.loop-added.invariant.2 c.pass_over_rows-end.ensures c.if-end.false)
 
 pub returns : goal.returns
 returns c =
-    let w : Filling c.args.book.now c.args.rows.now c.args.rejects.now _ _ c.loop-added.positive c.loop-added.negative false = rw c.loop-added-test.false at c.loop-added.invariant.3 in
+    let w : Filling c.args.book.now c.args.rows.now c.args.rejects.now _ _ c.loop-added.positive c.loop-added.negative false = rw c.loop-added-test.false at c.loop-added.invariant.2 in
     filled (filling_since c.replay.ensures w)

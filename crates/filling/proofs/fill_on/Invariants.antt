@@ -5,12 +5,12 @@ use mathlib.Core.Path.{◌≡◌}
 use mathlib.Core.Bool.{cond}
 use Prim.Native.Nat.{◌+◌}
 use lib.ListN.{length}
-use Rattle.filling.specs.Marks.{hint_size, Room, falses}
+use Rattle.filling.specs.Marks.{Room, falses}
 use Rattle.filling.proofs.FillingLaws.{Filling}
 use Rattle.filling.proofs.fill_on.Given as goal
 
 abbrev pub invariant-loop-added : goal.invariant-loop-added
-invariant-loop-added l = (length l.hints ≡ hint_size) × Room l.rows l.positive l.negative × ((length l.positive ≡ length l.initial.positive) × (length l.negative ≡ length l.initial.negative)) × Filling l.book l.rows l.rejects l.initial.positive l.initial.negative l.positive l.negative l.added
+invariant-loop-added l = Room l.rows l.positive l.negative × ((length l.positive ≡ length l.initial.positive) × (length l.negative ≡ length l.initial.negative)) × Filling l.book l.rows l.rejects l.initial.positive l.initial.negative l.positive l.negative l.added
 
 abbrev pub decreases-loop-added : goal.decreases-loop-added
 decreases-loop-added l = falses l.positive + falses l.negative + cond l.added 1 0

@@ -1,4 +1,4 @@
--- Every turn that marks marks what follows (`settle`), and no other touches the marks; the turns left fall.
+-- Every turn that marks marks what follows (`settle`), and no other touches the marks.
 use mathlib.Core.Path.{◌≡◌}
 use Prim.Native.Nat.{◌/◌, ◌≤◌}
 use lib.ListN.{length}
@@ -7,8 +7,5 @@ use Rattle.base.specs.Bounds.{max_rules}
 use Rattle.filling.proofs.WaitingLaws.{Turn}
 use Rattle.filling.proofs.propagate.Given as goal
 
-abbrev pub invariant-loop-turns : goal.invariant-loop-turns
-invariant-loop-turns l = (l.count ≡ length l.rows / row_size) × (l.count ≤ max_rules) × Turn l.book l.rows l.rejects l.initial.positive l.initial.negative l.positive l.negative l.hints l.top
-
-abbrev pub decreases-loop-turns : goal.decreases-loop-turns
-decreases-loop-turns l = l.turns
+abbrev pub invariant-loop : goal.invariant-loop
+invariant-loop l = (l.count ≡ length l.rows / row_size) × (l.count ≤ max_rules) × Turn l.book l.rows l.rejects l.initial.positive l.initial.negative l.positive l.negative

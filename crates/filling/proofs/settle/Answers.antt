@@ -1,6 +1,5 @@
 -- Only the trial of the head marks anything, and it marks what follows.
 use Rattle.filling.proofs.MarkLaws.{head-within}
-use borrow.Author.Rules.{rules}
 use Rattle.filling.proofs.settle.Goals as goal
 
 pub name_marked-requires : goal.name_marked-requires
@@ -10,7 +9,3 @@ name_marked-requires c =
 pub add_head-added-requires : goal.add_head-added-requires
 add_head-added-requires c =
     record { rows_fit = c.requires.rows_fit; rejects_len = c.requires.rejects_len; room = c.requires.room; j_bound = c.requires.j_bound.0 }
-
-pub remember-requires : goal.remember-requires
-remember-requires c =
-    search (rules, c.hints-1, c.requires.hints_len)

@@ -13,7 +13,7 @@ returns-then-supported c =
 
 pub fill-requires : goal.fill-requires
 fill-requires c =
-    record { rows_fit = c.requires.tabulates.fits; rejects_len = c.requires.rejected_masks.size; room = room_for c.requires.tabulates c.requires.well_formed c.requires.n_value c.requires.n_le_max_atoms _ _ (search rules) (search rules); hints_len = search rules }
+    record { rows_fit = c.requires.tabulates.fits; rejects_len = c.requires.rejected_masks.size; room = room_for c.requires.tabulates c.requires.well_formed c.requires.n_value c.requires.n_le_max_atoms _ _ (search rules) (search rules) }
 
 pub returns-then-fill : goal.returns-then-fill
 returns-then-fill c =
