@@ -1,4 +1,4 @@
 pub mod MarkLaws
 pub mod GrowingLaws
 pub mod FillingLaws
-pub mod WaitingLaws
+pub mod TryingLaws

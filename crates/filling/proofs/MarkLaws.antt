@@ -8,10 +8,10 @@ use mathlib.Core.List.{List, [], ◌∷◌}
 use Prim.Native.Nat.{ℕ, zero, suc, ◌+◌, ◌*◌, ◌-◌, ◌%◌, ◌/◌, ◌<◌, ◌≤◌}
 use native.Mathlib.Decide.{ℕ_discrete}
 use native.Mathlib.Omega.{arith}
-use borrow.Author.Tests.{le-leb, lt-leb, not-true, not-false}
+use borrow.Author.Tests.{le-leb, lt-leb, not-true}
 use lib.Dec.{T, leb}
-use lib.ListN.{length, get_or, set, replicate, length-replicate, get_or-eq_default}
-use lib.Seq.{ext_get_or, get_or-set_same, get_or-set_other}
+use lib.ListN.{length, get_or, set, replicate, get_or-eq_default}
+use lib.Seq.{get_or-set_same, get_or-set_other}
 use Rattle.base.specs.Bounds.{max_atoms}
 use Rattle.base.specs.Lists.{all}
 use Rattle.base.proofs.MapLaws.{constant_at}
@@ -25,17 +25,6 @@ use Rattle.filling.specs.Marks.{Room, literal_marked, adds}
 -- no mark is set yet
 pub blank : (n i : ℕ) → get_or {A = Bool} (replicate n false) i false ≡ false
 blank n i = constant_at false n i
-
--- the first f marks are taken away, then all of them
-pub cleared_more : (marks : List Bool) (f : ℕ) → f < length marks → ((i : ℕ) → i < f → get_or marks i false ≡ false) → (i : ℕ) → i < f + 1 → get_or (set marks f false) i false ≡ false
-cleared_more marks f h w i b = go (ℕ_discrete i f)
-  where
-    go : Dec (i ≡ f) → get_or (set marks f false) i false ≡ false
-    go (yes e) = ap (λ (x : ℕ). get_or (set marks f false) x false) e ∙ get_or-set_same marks f false false h
-    go (no n) = get_or-set_other marks f i false false n ∙ w i (omega arith)
-
-pub cleared_all : (marks : List Bool) (n f : ℕ) → length marks ≡ n → n ≤ f → ((i : ℕ) → i < f → get_or marks i false ≡ false) → marks ≡ replicate n false
-cleared_all marks n f e h w = ext_get_or false marks (replicate n false) (e ∙ sym (length-replicate {A = Bool} n false)) (λ i b. w i (omega arith) ∙ sym (blank n i))
 
 -- one array with a mark more
 pub set_only : (p : List Bool) (f g : ℕ) → f < length p → T (atom_holds (set p f true) g) → T (atom_holds p g) ⊎ (g ≡ f)
@@ -118,11 +107,11 @@ module _ (p q : List Bool) (book rows rejects : List ℕ) (j h : ℕ) (e : h ≡
         ap (λ (c : Bool). c && all (literal_marked p q) (row_at book rows j).body) ea
         ∙ ap (λ (c : Bool). not c && (alive rejects (row_at book rows j) && all (literal_marked p q) (row_at book rows j).body)) (sym f ∙ head_mark)
 
-    pub adds_dead : not a ≡ true → false ≡ adds p q rejects (row_at book rows j)
-    adds_dead t = ap (λ (c : Bool). c && all (literal_marked p q) (row_at book rows j).body) (sym (not-true a t)) ∙ rest
+    pub adds_dead : a ≡ false → false ≡ adds p q rejects (row_at book rows j)
+    adds_dead t = ap (λ (c : Bool). c && all (literal_marked p q) (row_at book rows j).body) (sym t) ∙ rest
 
-    pub adds-body : not a ≡ false → (b : Bool) → b ≡ all (literal_marked p q) (row_at book rows j).body → b ≡ adds p q rejects (row_at book rows j)
-    adds-body t b eb = eb ∙ ap (λ (c : Bool). c && all (literal_marked p q) (row_at book rows j).body) (sym (not-false a t)) ∙ rest
+    pub adds-body : a ≡ true → (b : Bool) → b ≡ all (literal_marked p q) (row_at book rows j).body → b ≡ adds p q rejects (row_at book rows j)
+    adds-body t b eb = eb ∙ ap (λ (c : Bool). c && all (literal_marked p q) (row_at book rows j).body) (sym t) ∙ rest
 
 -- a literal of the bytes that fails a test, by its number
 and-off : (c d : Bool) → false ≡ d → false ≡ (c && d)

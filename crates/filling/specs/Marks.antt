@@ -1,6 +1,7 @@
 -- Two arrays of marks, reached facts and reached negations, and what filling makes of them. Filling is stated over the rows and
 -- masks that it is handed, not over a book, so that the test and the search share it. Assumes nothing.
-use Rattle.std.specs.Prelude.{◌≡◌, Bool, true, false, not, ◌&&◌, cond, ℕ, ◌+◌, ◌<◌, ◌≤◌, T, length}
+use Rattle.std.specs.Prelude.{◌≡◌, Bool, true, false, not, ◌&&◌, cond, ℕ, ◌+◌, ◌<◌, ◌≤◌, T, length, Result, Ok, Err}
+use Rattle.std.specs.Result.{IsErr}
 use mathlib.Core.List.{List, [], ◌∷◌, Memᴰ}
 use Rattle.base.specs.Bounds.{max_atoms}
 use Rattle.base.specs.Lists.{all}
@@ -56,22 +57,38 @@ pub record Conflict (book rows rejects : List ℕ) (start : List Bool) : Type 0 
   pub as_positive : FollowsFrom book rows rejects start (positive atom)
   pub as_negative : FollowsFrom book rows rejects start (negative atom)
 
--- One pass over the rows: each mark that is added falls out of the unmarked ones; where none is added no row adds its head; and what
--- ends it early is a fact that follows both ways from every start from which the marks at entry follow.
-pub record PassEnd (book rows rejects : List ℕ) (p₀ q₀ p q : List Bool) (added conflict : Bool) : Type 0 where
+-- marks that were added, where no fact was reached both ways
+abbrev pub added_by : {E : Type 0} → Result Bool E → ℕ
+added_by (Ok added) = cond added 1 0
+added_by (Err e) = 0
+
+-- a fact that follows both ways from every start from which the marks at entry follow
+abbrev pub Clash : List ℕ → List ℕ → List ℕ → List Bool → List Bool → Type 0
+Clash book rows rejects p₀ q₀ = (start : List Bool) → ((l : Literal) → T (literal_marked p₀ q₀ l) → FollowsFrom book rows rejects start l)
+    → Conflict book rows rejects start
+
+-- One row, tried: where it adds its head one mark more falls out of the unmarked ones, and else the marks stay as they were; the
+-- opposite of the head is in the way only where a fact follows both ways.
+pub record Tried {E : Type 0} (book rows rejects : List ℕ) (j : ℕ) (p₀ q₀ p q : List Bool) (outcome : Result Bool E) : Type 0 where
   pub grown : Grown book rows rejects p₀ q₀ p q
-  pub fewer : falses p + falses q + cond added 1 0 ≤ falses p₀ + falses q₀
-  pub closed : conflict ≡ false → added ≡ false → Closed book rows rejects p q (row_count rows)
-  pub clash : conflict ≡ true → (start : List Bool) → ((l : Literal) → T (literal_marked p₀ q₀ l) → FollowsFrom book rows rejects start l)
-      → Conflict book rows rejects start
+  pub fewer : falses p + falses q + added_by outcome ≤ falses p₀ + falses q₀
+  pub idle : outcome ≡ Ok false → (p ≡ p₀) × (q ≡ q₀) × (adds p q rejects (row_at book rows j) ≡ false)
+  pub clash : IsErr outcome → Clash book rows rejects p₀ q₀
+
+-- One pass over the rows: each mark that is added falls out of the unmarked ones; where none is added no row adds its head; and what
+-- ends it early is a fact that follows both ways.
+pub record PassEnd {E : Type 0} (book rows rejects : List ℕ) (p₀ q₀ p q : List Bool) (outcome : Result Bool E) : Type 0 where
+  pub grown : Grown book rows rejects p₀ q₀ p q
+  pub fewer : falses p + falses q + added_by outcome ≤ falses p₀ + falses q₀
+  pub closed : outcome ≡ Ok false → Closed book rows rejects p q (row_count rows)
+  pub clash : IsErr outcome → Clash book rows rejects p₀ q₀
 
 -- Filled from marks in hand until nothing is added: they have grown, no row adds its head any more, and what ends it early is a fact
--- that follows both ways from every start from which the marks in hand follow.
+-- that follows both ways.
 pub record FilledOn (book rows rejects : List ℕ) (p₀ q₀ p q : List Bool) (conflict : Bool) : Type 0 where
   pub grown : Grown book rows rejects p₀ q₀ p q
   pub closed : conflict ≡ false → Closed book rows rejects p q (row_count rows)
-  pub clash : conflict ≡ true → (start : List Bool) → ((l : Literal) → T (literal_marked p₀ q₀ l) → FollowsFrom book rows rejects start l)
-      → Conflict book rows rejects start
+  pub clash : conflict ≡ true → Clash book rows rejects p₀ q₀
 
 -- the marks are what follows, and no fact is marked both ways; or a conflict was met, and they are part of it
 pub record Fills (book rows rejects : List ℕ) (start p q : List Bool) (conflict : Bool) : Type 0 where

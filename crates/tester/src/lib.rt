@@ -153,7 +153,7 @@ pub fn settles(
         return false;
     }
     mark_defaults(positive, negative);
-    if fill(book, rows, rejects, positive, negative, hints) {
+    if fill(book, rows, rejects, positive, negative, hints).is_err() {
         return false;
     }
     marks_agree(positive, negative, m, n)

@@ -1,56 +1,28 @@
--- Between passes the marks have grown since the trail was tried; where a pass adds nothing, no row adds. The measure is the unmarked
--- names and whether the last pass added: each pass that adds marks a name that was not marked. Trail and waiting lists only add marks
--- that follow, and the waiting lists come where a pass has added, so that another pass follows.
-use mathlib.Core.Path.{refl}
-use mathlib.Core.Bool.{false}
+-- Between passes the marks have grown since the trail was tried; where a pass adds nothing, no row adds.
+use mathlib.Core.Path.{refl, ap}
+use mathlib.Core.Bool.{true}
+use Rattle.std.specs.Prelude.{Ok}
+use Rattle.filling.specs.Marks.{FilledOn}
 use Rattle.filling.proofs.MarkLaws.{room-same}
-use Rattle.filling.proofs.GrowingLaws.{grown-fewer}
-use Rattle.filling.proofs.FillingLaws.{Filling, filling_start, filling_since, filling_more, filling_grown, filled, clashed}
+use Rattle.filling.proofs.GrowingLaws.{grown-fewer, grown_both}
+use Rattle.filling.proofs.FillingLaws.{filled, clashed}
 use borrow.Author.Rules.{rules}
 use native.Mathlib.Omega.{arith}
 use Rattle.filling.proofs.fill_on.Goals as goal
 
-pub loop-added-init : goal.loop-added-init
-loop-added-init c =
-    (room-same c.requires.room _ _ (search rules) (search rules), (refl, refl), filling_start _ _)
+pub returns-in_err-pass_over_rows-2 : goal.returns-in_err-pass_over_rows-2
+returns-in_err-pass_over_rows-2 c =
+    let clash : FilledOn c.args.book.now c.args.rows.now c.args.rejects.now c.args.positive.now c.args.negative.now c.pass_over_rows-in-passes.new.positive c.pass_over_rows-in-passes.new.negative true = clashed c.passes.invariant.grown c.in_err-pass_over_rows-2.ensures refl in
+    search (rules, clash)
 
-pub pass_over_rows-end-requires : goal.pass_over_rows-end-requires
-pass_over_rows-end-requires c =
-    record { rows_fit = c.requires.rows_fit; rejects_len = c.requires.rejects_len; room = c.loop-added.invariant.0 }
+pub passes-smaller : goal.passes-smaller
+passes-smaller c =
+    omega (arith, rw c.if-branch-2.true at c.in_ok-pass_over_rows-2.ensures.fewer, grown-fewer c.propagate.ensures (search rules) (search rules))
 
-pub returns-then-end : goal.returns-then-end
-returns-then-end c =
-    clashed (filling_since c.replay.ensures c.loop-added.invariant.2) c.pass_over_rows-end.ensures c.if-end.true
+pub passes-preserved : goal.passes-preserved
+passes-preserved c =
+    record { grown = grown_both (grown_both c.passes.invariant.grown c.in_ok-pass_over_rows-2.ensures.grown) c.propagate.ensures; room = room-same c.passes.invariant.room _ _ (search rules) (search rules); sizes = (search rules, search rules) }
 
-pub loop-added-smaller-then-first : goal.loop-added-smaller-then-first
-loop-added-smaller-then-first c =
-    rw c.loop-added-test.true (omega (arith, c.pass_over_rows-end.ensures.fewer))
-
-pub loop-added-preserved-then-first : goal.loop-added-preserved-then-first
-loop-added-preserved-then-first c =
-    (room-same c.loop-added.invariant.0 _ _ (search rules) (search rules), (search rules, search rules), filling_more c.loop-added.invariant.2 c.pass_over_rows-end.ensures c.if-end.false)
-
-pub propagate-requires : goal.propagate-requires
-propagate-requires c =
-    record { rows_fit = c.requires.rows_fit; rejects_len = c.requires.rejects_len; room = room-same c.loop-added.invariant.0 _ _ (search rules) (search rules) }
-
-pub loop-added-smaller-then-added : goal.loop-added-smaller-then-added
-loop-added-smaller-then-added c =
-    rw c.loop-added-test.true (omega (arith, c.pass_over_rows-end.ensures.fewer, grown-fewer c.propagate.ensures (search rules) (search rules)))
-
-pub loop-added-preserved-then-added : goal.loop-added-preserved-then-added
-loop-added-preserved-then-added c =
-    (room-same c.loop-added.invariant.0 _ _ (search rules) (search rules), (search rules, search rules), filling_grown (filling_more c.loop-added.invariant.2 c.pass_over_rows-end.ensures c.if-end.false) c.if-added.true c.propagate.ensures)
-
-pub loop-added-smaller : goal.loop-added-smaller
-loop-added-smaller c =
-    rw c.loop-added-test.true (omega (arith, c.pass_over_rows-end.ensures.fewer))
-
-pub loop-added-preserved : goal.loop-added-preserved
-loop-added-preserved c =
-    (room-same c.loop-added.invariant.0 _ _ (search rules) (search rules), (search rules, search rules), filling_more c.loop-added.invariant.2 c.pass_over_rows-end.ensures c.if-end.false)
-
-pub returns : goal.returns
-returns c =
-    let w : Filling c.args.book.now c.args.rows.now c.args.rejects.now _ _ c.loop-added.positive c.loop-added.negative false = rw c.loop-added-test.false at c.loop-added.invariant.2 in
-    filled (filling_since c.replay.ensures w)
+pub returns-else-branch-2 : goal.returns-else-branch-2
+returns-else-branch-2 c =
+    filled c.passes.invariant.grown c.in_ok-pass_over_rows-2.ensures (ap Ok c.if-branch-2.false)

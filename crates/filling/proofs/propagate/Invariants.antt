@@ -4,7 +4,7 @@ use Prim.Native.Nat.{◌/◌, ◌≤◌}
 use lib.ListN.{length}
 use Rattle.table.specs.Rows.{row_size}
 use Rattle.base.specs.Bounds.{max_rules}
-use Rattle.filling.proofs.WaitingLaws.{Turn}
+use Rattle.filling.proofs.FillingLaws.{Turn}
 use Rattle.filling.proofs.propagate.Given as goal
 
 abbrev pub invariant-loop : goal.invariant-loop

@@ -11,4 +11,4 @@ use Rattle.filling.proofs.row_marked.Goals as goal
 pub returns : goal.returns
 unfolding row_at
 returns c =
-    c.body_marked.ensures ∙ ap (λ (x : List ℕ). all (literal_marked c.args.positive.now c.args.negative.now) (literals_of x)) c.row_body.ensures
+    c.body.ensures ∙ ap (λ (x : List ℕ). all (literal_marked c.args.marks.now.positive.now c.args.marks.now.negative.now) (literals_of x)) c.row_body.ensures

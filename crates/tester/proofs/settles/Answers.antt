@@ -1,6 +1,6 @@
 -- A violated row or a conflict rules stability out; else what is filled from the defaults is what is derived, and the comparison
 -- decides.
-use mathlib.Core.Path.{subst, ◌∙◌}
+use mathlib.Core.Path.{sym, subst, ◌∙◌}
 use Rattle.table.proofs.TabledLaws.{tabled-free}
 use Rattle.tester.specs.Masks.{Others}
 use Rattle.tester.proofs.TestLaws.{room_for, violated_unstable, conflict_unstable, agree_stable}
@@ -15,10 +15,10 @@ pub fill-requires : goal.fill-requires
 fill-requires c =
     record { rows_fit = c.requires.tabulates.fits; rejects_len = c.requires.rejected_masks.size; room = room_for c.requires.tabulates c.requires.well_formed c.requires.n_value c.requires.n_le_max_atoms _ _ (search rules) (search rules) }
 
-pub returns-then-fill : goal.returns-then-fill
-returns-then-fill c =
-    conflict_unstable c.requires.tabulates c.requires.rejected_masks c.requires.well_formed c.requires.n_value (search rules) (c.supported.ensures.support c.if-supported.false) (subst (Others _ _) {y = c.args.n} (search rules) c.mark_defaults.ensures) c.fill.ensures c.requires.m_len c.if-fill.true
+pub returns-then-is_err : goal.returns-then-is_err
+returns-then-is_err c =
+    conflict_unstable c.requires.tabulates c.requires.rejected_masks c.requires.well_formed c.requires.n_value (search rules) (c.supported.ensures.support c.if-supported.false) (subst (Others _ _) {y = c.args.n} (search rules) c.mark_defaults.ensures) c.fill.ensures c.requires.m_len (sym c.if-is_err.ensures.value)
 
 pub returns : goal.returns
 returns c =
-    agree_stable c.requires.tabulates c.requires.rejected_masks c.requires.well_formed c.requires.n_value (search rules) (c.supported.ensures.support c.if-supported.false) (subst (Others _ _) {y = c.args.n} (search rules) c.mark_defaults.ensures) c.fill.ensures c.requires.m_len c.if-fill.false (tabled-free c.args.book.now c.args.rows.now c.args.n) c.marks_agree.result c.marks_agree.ensures
+    agree_stable c.requires.tabulates c.requires.rejected_masks c.requires.well_formed c.requires.n_value (search rules) (c.supported.ensures.support c.if-supported.false) (subst (Others _ _) {y = c.args.n} (search rules) c.mark_defaults.ensures) c.fill.ensures c.requires.m_len (sym c.if-is_err.ensures.value) (tabled-free c.args.book.now c.args.rows.now c.args.n) c.marks_agree.result c.marks_agree.ensures

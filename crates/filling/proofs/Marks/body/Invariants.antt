@@ -6,10 +6,10 @@ use lib.ListN.{length, drop}
 use Rattle.base.specs.Lists.{all}
 use Rattle.format.specs.Book.{literals_of}
 use Rattle.filling.specs.Marks.{literal_marked}
-use Rattle.filling.proofs.body_marked.Given as goal
+use Rattle.filling.proofs.Marks.body.Given as goal
 
 abbrev pub invariant-loop-i : goal.invariant-loop-i
-invariant-loop-i l = (l.i ≤ length l.body) × (all (literal_marked l.positive l.negative) (literals_of l.body) ≡ all (literal_marked l.positive l.negative) (literals_of (drop l.i l.body)))
+invariant-loop-i l = (l.i ≤ length l.body) × (all (literal_marked l.self.positive.now l.self.negative.now) (literals_of l.body) ≡ all (literal_marked l.self.positive.now l.self.negative.now) (literals_of (drop l.i l.body)))
 
 abbrev pub decreases-loop-i : goal.decreases-loop-i
 decreases-loop-i l = length l.body - l.i
