@@ -1,5 +1,6 @@
 -- Two arrays of marks, filled by passes over the rows until nothing is added: what a pass keeps, and that all that follows is
 -- marked at the end. Used by propagate, pass_over_rows, fill_on and fill, and by the search, which goes on from marks in hand. Assumes nothing.
+use Rattle.table.specs.declared.Row.{Row}
 use mathlib.Core.Path.{◌≡◌, refl, sym, ap, subst, ◌∙◌}
 use mathlib.Core.Bool.{Bool, true, false, not, ◌&&◌, cond, true≢false}
 use mathlib.Core.List.{List}
@@ -20,7 +21,7 @@ use Rattle.std.specs.Prelude.{Result, Ok, Err}
 use borrow.Author.Count.{below_more}
 use Rattle.std.specs.Result.{IsErr}
 
-module _ (book rows rejects : List ℕ) where
+module _ (book : List ℕ) (rows : List Row) (rejects : List ℕ) where
   -- a pass that began with p₀ and q₀ has come to row j
   pub record Passing (p₀ q₀ p q : List Bool) (added : Bool) (j : ℕ) : Type 0 where
     pub within : j ≤ row_count rows
@@ -31,7 +32,7 @@ module _ (book rows rejects : List ℕ) where
     pub closed : added ≡ false → Closed book rows rejects p q j
 
 -- the marks have grown, and neither array has another length
-pub record Turn (book rows rejects : List ℕ) (p₀ q₀ p q : List Bool) : Type 0 where
+pub record Turn (book : List ℕ) (rows : List Row) (rejects : List ℕ) (p₀ q₀ p q : List Bool) : Type 0 where
   pub grown : Grown book rows rejects p₀ q₀ p q
   pub room : Room rows p q
   pub sizes : (length p ≡ length p₀) × (length q ≡ length q₀)
@@ -53,7 +54,7 @@ start-apart n start l t u = one l.atom l.negated t u
     one f true t u = subst T (blank n f) u
     one f false t u = subst T (blank n f) t
 
-module _ {book rows rejects : List ℕ} where
+module _ {book : List ℕ} {rows : List Row} {rejects : List ℕ} where
   pub pass_start : (p q : List Bool) → Room rows p q → Passing book rows rejects p q p q false 0
   pass_start p q w = record { within = omega arith; room = w; size = (refl, refl); grown = grown-none p q; fewer = omega arith; closed = λ e i h. absurd (omega arith) }
 

@@ -1,5 +1,6 @@
 -- Marks that grow by rows that add their heads, in whatever order the rows are tried: none is lost, all of them follow, no
 -- fact comes to be marked both ways, and the unmarked names fall. Used by the passes of fill and by the waiting lists. Assumes nothing.
+use Rattle.table.specs.declared.Row.{Row}
 use mathlib.Core.Path.{◌≡◌, refl, sym, ap, subst, ◌∙◌}
 use mathlib.Core.Logic.{◌⊎◌, inl, inr, ⊎_elim}
 use mathlib.Core.Bool.{Bool, true, false, not, ◌&&◌, cond, true≢false, false≢true}
@@ -86,7 +87,7 @@ module _ (p q : List Bool) (h : ℕ) where
       at_keeps f true t = set_keeps q (h - max_atoms) f e t
 
 -- a row that adds its head, whose name is h, marks one name more
-module _ (book rows rejects : List ℕ) (p q : List Bool) (j : ℕ) (a : adds p q rejects (row_at book rows j) ≡ true) (h : ℕ) (e : h ≡ head_name rows j) where
+module _ (book : List ℕ) (rows : List Row) (rejects : List ℕ) (p q : List Bool) (j : ℕ) (a : adds p q rejects (row_at book rows j) ≡ true) (h : ℕ) (e : h ≡ head_name rows j) where
   open_head : T (not (literal_marked p q (literal_named h)))
   unfolding row_at adds
   open_head =
@@ -107,7 +108,7 @@ module _ (book rows rejects : List ℕ) (p q : List Bool) (j : ℕ) (a : adds p 
   opposite_free o eo c ec f = ap (λ (x : ℕ). literal_marked p q (complement (literal_named x))) (sym e) ∙ ap (literal_marked p q) (sym eo) ∙ sym ec ∙ f
 
 -- what holds at every moment
-pub record SoundMarks (book rows rejects : List ℕ) (start p q : List Bool) : Type 0 where
+pub record SoundMarks (book : List ℕ) (rows : List Row) (rejects : List ℕ) (start p q : List Bool) : Type 0 where
   pub sound : (l : Literal) → T (literal_marked p q l) → FollowsFrom book rows rejects start l
   pub started : (f : ℕ) → T (atom_holds start f) → T (atom_holds q f)
 
@@ -134,7 +135,7 @@ module _ {p q p' q' : List Bool} {x : Literal} (m : OneMore p q p' q' x) (free :
       go (inr a) (inl b) = unmarked (complement l) (ap complement a) b
       go (inr a) (inr b) = two_signs l x a b
 
-module _ {book rows rejects : List ℕ} where
+module _ {book : List ℕ} {rows : List Row} {rejects : List ℕ} where
   -- what an adding row says
   module _ {start : List Bool} (p q : List Bool) (j : ℕ) (w : (l : Literal) → T (literal_marked p q l) → FollowsFrom book rows rejects start l) (h : j < row_count rows) (a : adds p q rejects (row_at book rows j) ≡ true) where
     rest_of : T (alive rejects (row_at book rows j) && all (literal_marked p q) (row_at book rows j).body)

@@ -1,6 +1,7 @@
 -- Marks of names, of literals of two bytes and of rows, as the code reads them: a row adds its head where its three tests say so, and a
 -- literal of its body that is not marked, the watched one or another, keeps it from it. Used by name_marked, literal_marked,
 -- body_marked and row_adds. Assumes nothing.
+use Rattle.table.specs.declared.Row.{Row}
 use mathlib.Core.Path.{◌≡◌, refl, sym, ap, subst, ◌∙◌}
 use mathlib.Core.Bool.{Bool, true, false, not, ◌&&◌, cond}
 use mathlib.Core.Logic.{◌⊎◌, inl, inr}
@@ -79,7 +80,7 @@ pub fact-high : (h n : ℕ) → (literal_named h).atom < n → max_atoms ≤ h �
 fact-high h n b k = subst (λ (l : Literal). l.atom < n) (name-high h k) b
 
 -- a head, whose name is in a local, and its opposite
-module _ {rows : List ℕ} {p q : List Bool} (w : Room rows p q) where
+module _ {rows : List Row} {p q : List Bool} (w : Room rows p q) where
   pub head-within : (j h : ℕ) → j < row_count rows → h ≡ head_name rows j → (literal_named h).atom < length p
   head-within j h b e = subst (λ (x : ℕ). (literal_named x).atom < length p) (sym e) (w.heads j b)
 
@@ -91,7 +92,7 @@ module _ {rows : List ℕ} {p q : List Bool} (w : Room rows p q) where
   room-same p' q' x y = record { same = y ∙ w.same ∙ sym x; few = omega (arith, x, w.few); heads = λ j b. omega (arith, x, w.heads j b) }
 
 -- the tests of a row, one after the other: its head, whether it is alive, its body
-module _ (p q : List Bool) (book rows rejects : List ℕ) (j h : ℕ) (e : h ≡ head_name rows j) (r : Bool) (er : r ≡ literal_marked p q (literal_named h)) where
+module _ (p q : List Bool) (book : List ℕ) (rows : List Row) (rejects : List ℕ) (j h : ℕ) (e : h ≡ head_name rows j) (r : Bool) (er : r ≡ literal_marked p q (literal_named h)) where
   head_mark : r ≡ literal_marked p q (row_at book rows j).head
   unfolding row_at
   head_mark = er ∙ ap (λ (x : ℕ). literal_marked p q (literal_named x)) e

@@ -1,4 +1,5 @@
 -- One row, tried: it adds nothing, or a mark that follows, or meets the opposite of its head. Used by add_head. Assumes nothing.
+use Rattle.table.specs.declared.Row.{Row}
 use mathlib.Core.Path.{◌≡◌, refl, sym, subst}
 use mathlib.Core.Bool.{Bool, true, false, true≢false}
 use mathlib.Core.List.{List}
@@ -19,7 +20,7 @@ use Rattle.filling.proofs.MarkLaws.{fact-low, fact-high, head-within}
 use Rattle.filling.proofs.GrowingLaws.{OneMore, one_low, one_high, opposite_free, grown-none, grown_one, head-follows}
 
 -- a fact both ways
-conflict : {book rows rejects : List ℕ} {start : List Bool} (h : ℕ) → h < max_names → FollowsFrom book rows rejects start (literal_named h) → FollowsFrom book rows rejects start (complement (literal_named h)) → Conflict book rows rejects start
+conflict : {book : List ℕ} {rows : List Row} {rejects : List ℕ} {start : List Bool} (h : ℕ) → h < max_names → FollowsFrom book rows rejects start (literal_named h) → FollowsFrom book rows rejects start (complement (literal_named h)) → Conflict book rows rejects start
 unfolding complement
 conflict {book} {rows} {rejects} {start} h b x y = go (dec_lt h max_atoms)
   where
@@ -37,7 +38,7 @@ conflict {book} {rows} {rejects} {start} h b x y = go (dec_lt h max_atoms)
       as_negative = subst (FollowsFrom book rows rejects start) (name-high h (omega arith)) x;
     }
 
-module _ {E : Type 0} {book rows rejects : List ℕ} {p q : List Bool} (w : Room rows p q) (j : ℕ) (b : j < row_count rows) where
+module _ {E : Type 0} {book : List ℕ} {rows : List Row} {rejects : List ℕ} {p q : List Bool} (w : Room rows p q) (j : ℕ) (b : j < row_count rows) where
   -- the head's name and the opposite's are in locals
   module _ (a : true ≡ adds p q rejects (row_at book rows j)) (h : ℕ) (e : h ≡ head_name rows j) (o : ℕ) (eo : literal_named o ≡ complement (literal_named h)) where
     pub tried_clash : (x : E) → h < max_names → true ≡ literal_marked p q (literal_named o) → Tried book rows rejects j p q p q (Err x)

@@ -16,7 +16,7 @@ ghost use Rattle.filling.specs.Marks.{Room, literal_marked, adds, Grown, Tried, 
 use base::{MAX_ATOMS, MAX_BODY, MAX_RULES};
 use format::literal_value;
 pub use hint::Hints;
-use table::{ROW_SIZE, opposite, row_alive, row_body, row_head};
+use table::{Row, opposite, row_alive, row_body, row_head};
 
 mod hint;
 
@@ -105,7 +105,7 @@ impl Marks<'_> {
 }
 
 // Whether a row's body is marked.
-fn row_marked(book: &[u8], rows: &[u16], marks: &Marks, hints: &Hints, j: usize) -> bool
+fn row_marked(book: &[u8], rows: &[Row], marks: &Marks, hints: &Hints, j: usize) -> bool
     requires rows_fit { RowsFit book.now rows.now }
     requires j_bound { j < row_count rows.now }
     ensures { result ≡ all (literal_marked marks.now.positive.now marks.now.negative.now) (row_at book.now rows.now j).body }
@@ -116,7 +116,7 @@ fn row_marked(book: &[u8], rows: &[u16], marks: &Marks, hints: &Hints, j: usize)
 // Whether a row adds its head: the head is not marked, the row is alive and its body is marked.
 fn row_adds(
     book: &[u8],
-    rows: &[u16],
+    rows: &[Row],
     rejects: &[u32],
     marks: &Marks,
     hints: &Hints,
@@ -140,7 +140,7 @@ pub struct BothWays;
 // Marks a row's head if the row adds it, and says whether it did. Where the opposite is marked, it marks nothing.
 fn add_head(
     book: &[u8],
-    rows: &[u16],
+    rows: &[Row],
     rejects: &[u32],
     positive: &mut [bool],
     negative: &mut [bool],
@@ -173,7 +173,7 @@ fn add_head(
 // next.
 fn replay(
     book: &[u8],
-    rows: &[u16],
+    rows: &[Row],
     rejects: &[u32],
     positive: &mut [bool],
     negative: &mut [bool],
@@ -184,7 +184,7 @@ fn replay(
     requires room { Room rows.now positive.old negative.old }
     ensures { Grown book.now rows.now rejects.now positive.old negative.old positive.new negative.new }
 {
-    let count = rows.len() / ROW_SIZE;
+    let count = rows.len();
     for row in hints.trail() {
         let j = *row as usize;
         if j < count {
@@ -204,7 +204,7 @@ fn waiting_name(a: u8, b: u8) -> usize
 
 // Lets a row wait for a literal of its body that is not marked, and says whether there is one. It is looked for from the one on that
 // the row watches, which stays from filling to filling: what kept a row from adding its head at one setting often does at the next.
-fn wait(book: &[u8], rows: &[u16], marks: &Marks, hints: &mut Hints, j: usize) -> bool
+fn wait(book: &[u8], rows: &[Row], marks: &Marks, hints: &mut Hints, j: usize) -> bool
     requires rows_fit { RowsFit book.now rows.now }
     requires j_bound { (j < row_count rows.now) × (j < max_rules) }
 {
@@ -221,7 +221,7 @@ fn wait(book: &[u8], rows: &[u16], marks: &Marks, hints: &mut Hints, j: usize) -
 // Tries a row that may still add its head: adds it, or lets the row wait. Says whether it was added.
 fn settle(
     book: &[u8],
-    rows: &[u16],
+    rows: &[Row],
     rejects: &[u32],
     positive: &mut [bool],
     negative: &mut [bool],
@@ -253,7 +253,7 @@ fn settle(
 // `waiting` is the next row of the list in hand, `fresh` the first row not tried yet. No lawful book takes all the turns.
 fn propagate(
     book: &[u8],
-    rows: &[u16],
+    rows: &[Row],
     rejects: &[u32],
     positive: &mut [bool],
     negative: &mut [bool],
@@ -264,7 +264,7 @@ fn propagate(
     requires room { Room rows.now positive.old negative.old }
     ensures { Grown book.now rows.now rejects.now positive.old negative.old positive.new negative.new }
 {
-    let count = rows.len() / ROW_SIZE;
+    let count = rows.len();
     if MAX_RULES < count {
         return;
     }
@@ -295,7 +295,7 @@ fn propagate(
 // One pass over the rows: marks the head of each that adds it, until a fact is reached both ways. Says whether it added a mark.
 fn pass_over_rows(
     book: &[u8],
-    rows: &[u16],
+    rows: &[Row],
     rejects: &[u32],
     positive: &mut [bool],
     negative: &mut [bool],
@@ -307,7 +307,7 @@ fn pass_over_rows(
     ensures { PassEnd book.now rows.now rejects.now positive.old negative.old positive.new negative.new result }
 {
     let mut added = false;
-    for j in 0..rows.len() / ROW_SIZE {
+    for j in 0..rows.len() {
         if add_head(book, rows, rejects, positive, negative, hints, j)? {
             hints.remember(j);
             added = true;
@@ -321,7 +321,7 @@ fn pass_over_rows(
 // begins with the trail.
 pub fn fill_on(
     book: &[u8],
-    rows: &[u16],
+    rows: &[Row],
     rejects: &[u32],
     positive: &mut [bool],
     negative: &mut [bool],
@@ -333,7 +333,8 @@ pub fn fill_on(
     ensures { FilledOn book.now rows.now rejects.now positive.old negative.old positive.new negative.new (is_err result) }
 {
     replay(book, rows, rejects, positive, negative, hints);
-    if pass_over_rows(book, rows, rejects, positive, negative, hints)? {
+    let added = pass_over_rows(book, rows, rejects, positive, negative, hints)?;
+    if added {
         'passes: while pass_over_rows(book, rows, rejects, positive, negative, hints)? {
             propagate(book, rows, rejects, positive, negative, hints);
         }
@@ -352,7 +353,7 @@ pub fn clear_marks(marks: &mut [bool])
 // reached at first, and of the negations those that are marked.
 pub fn fill(
     book: &[u8],
-    rows: &[u16],
+    rows: &[Row],
     rejects: &[u32],
     positive: &mut [bool],
     negative: &mut [bool],

@@ -1,6 +1,7 @@
 -- Rejection by masks, supported atoms, violated rows, and the other atoms: what the loops keep, row by row and atom by atom. Used by
 -- row_mask, reject, name_holds, supported and mark_defaults. Assumes nothing.
-use mathlib.Core.Path.{◌≡◌, refl, sym, ap, subst, ◌∙◌}
+use Rattle.table.specs.declared.Row.{Row}
+use mathlib.Core.Path.{◌≡◌, sym, ap, subst, ◌∙◌}
 use mathlib.Core.Logic.{⊎_elim}
 use mathlib.Core.Bool.{Bool, true, false, not, cond, true≢false}
 use mathlib.Core.List.{List}
@@ -22,19 +23,8 @@ use Rattle.table.proofs.NameLaws.{name_low, name-high, one_name}
 use Rattle.tester.specs.Masks.{Rejection, RejectedMasks, Support, Supported, Violation, Others}
 use Rattle.filling.proofs.MarkLaws.{blank, set_only, set_keeps}
 
--- the mask of a row, as its body decides
-pub mask-none : (c : Bool) (u : ℕ) → u ≡ 0 → 0 ≡ cond c u 0
-mask-none true u e = sym e
-mask-none false u e = refl
-
-pub mask-all : (c : Bool) (u : ℕ) (r : Bool) → r ≡ c → r ≡ true → u ≡ cond c u 0
-mask-all c u r e t = ap (λ (x : Bool). cond x u 0) (sym t ∙ e)
-
-pub mask-off : (c : Bool) (u : ℕ) (r : Bool) → r ≡ c → r ≡ false → 0 ≡ cond c u 0
-mask-off c u r e t = ap (λ (x : Bool). cond x u 0) (sym t ∙ e)
-
 -- rejection
-module _ {book rows : List ℕ} {m : Interpretation} where
+module _ {book : List ℕ} {rows : List Row} {m : Interpretation} where
   pub rejects_start : RejectedMasks book rows m (replicate {A = ℕ} max_names 0) 0
   rejects_start = record {
     size = length-replicate {A = ℕ} max_names 0;
@@ -116,7 +106,7 @@ module _ {book rows : List ℕ} {m : Interpretation} where
             (to-mask i (subst (λ (z : ℕ). T (body_holds m (row_at book rows z))) q y.holds_in) (subst (λ (z : ℕ). bit_of (overridden rows z) i ≡ 1) q y.bit)))
 
 -- support
-module _ {book rows : List ℕ} {m : Interpretation} where
+module _ {book : List ℕ} {rows : List Row} {m : Interpretation} where
   pub supported_start : (n : ℕ) → n ≤ max_atoms → (atoms : List Bool) → atoms ≡ replicate n false → Supported book rows m atoms 0
   unfolding atom_holds
   supported_start n h atoms e = record {
@@ -198,11 +188,11 @@ module _ (m : Interpretation) (h : ℕ) where
   negated-holds b = ap (holds m) (sym (name-high h b))
 
 -- violated rows
-head-holds : (book rows : List ℕ) (m : Interpretation) (j h : ℕ) → h ≡ head_name rows j → (x : Bool) → x ≡ holds m (literal_named h) → x ≡ holds m (row_at book rows j).head
+head-holds : (book : List ℕ) (rows : List Row) (m : Interpretation) (j h : ℕ) → h ≡ head_name rows j → (x : Bool) → x ≡ holds m (literal_named h) → x ≡ holds m (row_at book rows j).head
 unfolding row_at
 head-holds book rows m j h e x ex = ex ∙ ap (λ (z : ℕ). holds m (literal_named z)) e
 
-module _ {book rows rejects : List ℕ} {m : Interpretation} where
+module _ {book : List ℕ} {rows : List Row} {rejects : List ℕ} {m : Interpretation} where
   pub violation_at : {n : ℕ} (j : ℕ) → j < n → (a : Bool) → a ≡ alive rejects (row_at book rows j) → a ≡ true → (r : Bool) → r ≡ body_holds m (row_at book rows j) → r ≡ true
       → (h : ℕ) → h ≡ head_name rows j → (x : Bool) → x ≡ holds m (literal_named h) → not x ≡ true → Violation book rows rejects m n
   violation_at j b a ea ta r er tr h e x ex tx = record {

@@ -1,6 +1,7 @@
 -- From the table to the definition: rows that are alive are the rules that are not rejected, the atoms that are not supported are
 -- the defaults, so what follows is what is derived; then the comparison of the marks with the interpretation decides stability.
 -- Used by is_stable; SettingMarks uses the first half. Assumes nothing.
+use Rattle.table.specs.declared.Row.{Row}
 use mathlib.Core.Path.{◌≡◌, sym, ap, subst, ◌∙◌}
 use mathlib.Core.Bool.{Bool, true, false, not, ◌&&◌, beq}
 use mathlib.Core.List.{List, []}
@@ -52,7 +53,7 @@ module _ (p q : List Bool) (m : Interpretation) where
   unfolding marks_agree literal_marked holds signed
   literal_agree f a c = and_both (beq (atom_holds p f) (atom_holds m f)) (beq (atom_holds q f) (not (atom_holds m f))) (beq_of (atom_holds p f) (atom_holds m f) a) (beq_of (atom_holds q f) (not (atom_holds m f)) c)
 
-module _ {P : Program} {book rows : List ℕ} (w : Tabulates P book rows) where
+module _ {P : Program} {book : List ℕ} {rows : List Row} (w : Tabulates P book rows) where
   row_rule : (j : ℕ) → j < row_count rows → row_at book rows j ∈ P.rules
   row_rule j h = subst (λ (rs : List Rule). row_at book rows j ∈ rs) w.rules (row_in book rows j h)
 

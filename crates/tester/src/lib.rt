@@ -16,39 +16,33 @@ ghost use Rattle.tester.specs.Masks.{RejectedMasks, Supports, Others};
 
 use base::{MAX_ATOMS, MAX_NAMES};
 use filling::{Hints, clear_marks, fill};
-use table::{ROW_SIZE, atom_holds, opposite, row_alive, row_head, row_holds, row_overridden};
+use table::{Row, atom_holds, opposite, row_alive, row_head, row_holds, row_overridden};
 
 // The layers in which a row rejects rules: none, unless its body holds.
-fn row_mask(book: &[u8], rows: &[u16], m: &[bool], j: usize) -> u32
+fn row_mask(book: &[u8], rows: &[Row], m: &[bool], j: usize) -> u32
     requires rows_fit { RowsFit book.now rows.now }
     requires j_bound { j < row_count rows.now }
     ensures { result ≡ cond (body_holds m.now (row_at book.now rows.now j)) (overridden rows.now j) 0 }
 {
     let mask = row_overridden(rows, j);
-    if mask == 0 {
-        return 0;
+    if mask != 0 && row_holds(book, rows, m, j) {
+        mask
+    } else {
+        0
     }
-    if row_holds(book, rows, m, j) {
-        return mask;
-    }
-    0
 }
 
 // Bit i at name h: rules of layer i with that head are rejected. The array is lent, all 0.
-fn reject(book: &[u8], rows: &[u16], m: &[bool], rejects: &mut [u32])
+fn reject(book: &[u8], rows: &[Row], m: &[bool], rejects: &mut [u32])
     requires rows_fit { RowsFit book.now rows.now }
     requires rejects_value { rejects.old ≡ replicate max_names 0 }
     ensures { RejectedMasks book.now rows.now m.now rejects.new (row_count rows.now) }
 {
-    let count = rows.len() / ROW_SIZE;
-    let mut j = 0;
-    while j < count {
+    for j in 0..rows.len() {
         let mask = row_mask(book, rows, m, j);
         if mask != 0 {
-            let o = opposite(row_head(rows, j));
-            rejects[o] = rejects[o] | mask;
+            rejects[opposite(row_head(rows, j))] |= mask;
         }
-        j += 1;
     }
 }
 
@@ -57,36 +51,32 @@ fn name_holds(m: &[bool], h: usize) -> bool
     ensures { result ≡ holds m.now (literal_named h) }
 {
     if h < MAX_ATOMS {
-        return atom_holds(m, h);
+        atom_holds(m, h)
+    } else {
+        !atom_holds(m, h - MAX_ATOMS)
     }
-    !atom_holds(m, h - MAX_ATOMS)
 }
 
 // Marks the plain heads of the rows whose bodies hold, rejected or not, and says whether a row is violated: one that is alive and whose
 // head does not hold ends it, as no stable model violates such a row, and nothing need be filled.
-fn supported(book: &[u8], rows: &[u16], rejects: &[u32], m: &[bool], atoms: &mut [bool]) -> bool
+fn supported(book: &[u8], rows: &[Row], rejects: &[u32], m: &[bool], atoms: &mut [bool]) -> bool
     requires rows_fit { RowsFit book.now rows.now }
     requires rejects_len { length rejects.now ≡ max_names }
     requires atoms_len_bound { length atoms.old ≤ max_atoms }
     ensures { Supports book.now rows.now rejects.now m.now atoms.new result (row_count rows.now) }
 {
-    let count = rows.len() / ROW_SIZE;
     clear_marks(atoms);
-    let mut j = 0;
-    while j < count {
+    for j in 0..rows.len() {
         if row_holds(book, rows, m, j) {
             let h = row_head(rows, j);
             let lives = row_alive(book, rows, rejects, j);
-            if lives {
-                if !name_holds(m, h) {
-                    return true;
-                }
+            if lives && !name_holds(m, h) {
+                return true;
             }
             if h < atoms.len() {
                 atoms[h] = true;
             }
         }
-        j += 1;
     }
     false
 }
@@ -96,10 +86,8 @@ fn mark_defaults(atoms: &[bool], others: &mut [bool])
     requires { length others.old ≡ length atoms.now }
     ensures { Others atoms.now others.new (length atoms.now) }
 {
-    let mut f = 0;
-    while f < others.len() {
-        others[f] = !atoms[f];
-        f += 1;
+    for (f, other) in others.iter_mut().enumerate() {
+        *other = !atoms[f];
     }
 }
 
@@ -108,22 +96,17 @@ fn mark_agrees(positive: &[bool], negative: &[bool], m: &[bool], f: usize) -> bo
     ensures { result ≡ marks_agree positive.now negative.now m.now f }
 {
     let stands = atom_holds(m, f);
-    if atom_holds(positive, f) != stands {
-        return false;
-    }
-    atom_holds(negative, f) != stands
+    atom_holds(positive, f) == stands && atom_holds(negative, f) != stands
 }
 
 // Whether the marks of the atoms below n are what the interpretation says of them.
 fn marks_agree(positive: &[bool], negative: &[bool], m: &[bool], n: usize) -> bool
     ensures { result ≡ all (marks_agree positive.now negative.now m.now) (up_to n) }
 {
-    let mut f = 0;
-    while f < n {
+    for f in 0..n {
         if !mark_agrees(positive, negative, m, f) {
             return false;
         }
-        f += 1;
     }
     true
 }
@@ -132,7 +115,7 @@ fn marks_agree(positive: &[bool], negative: &[bool], m: &[bool], n: usize) -> bo
 // in it. Two arrays are lent to fill. `hints` is what an earlier filling left.
 pub fn settles(
     book: &[u8],
-    rows: &[u16],
+    rows: &[Row],
     rejects: &[u32],
     m: &[bool],
     n: usize,
@@ -160,7 +143,7 @@ pub fn settles(
 }
 
 // Whether an interpretation is a stable model of the program that the rows and masks tabulate. `hints` is what an earlier filling left.
-pub fn is_stable(book: &[u8], rows: &[u16], m: &[bool], n: usize, hints: &mut Hints) -> bool
+pub fn is_stable(book: &[u8], rows: &[Row], m: &[bool], n: usize, hints: &mut Hints) -> bool
     requires well_formed { WellFormed (tabled book.now rows.now n) }
     requires tabulates { Tabulates (tabled book.now rows.now n) book.now rows.now }
     requires n_value { n ≡ (tabled book.now rows.now n).atoms }

@@ -10,19 +10,19 @@ use borrow.Author.Rules.{rules}
 use native.Mathlib.Omega.{arith}
 use Rattle.filling.proofs.fill_on.Goals as goal
 
-pub returns-in_err-pass_over_rows-2 : goal.returns-in_err-pass_over_rows-2
-returns-in_err-pass_over_rows-2 c =
-    let clash : FilledOn c.args.book.now c.args.rows.now c.args.rejects.now c.args.positive.now c.args.negative.now c.pass_over_rows-in-passes.new.positive c.pass_over_rows-in-passes.new.negative true = clashed c.passes.invariant.grown c.in_err-pass_over_rows-2.ensures refl in
+pub returns-in_err-pass_over_rows : goal.returns-in_err-pass_over_rows
+returns-in_err-pass_over_rows c =
+    let clash : FilledOn c.args.book.now c.args.rows.now c.args.rejects.now c.args.positive.now c.args.negative.now c.pass_over_rows-in-passes.new.positive c.pass_over_rows-in-passes.new.negative true = clashed c.passes.invariant.grown c.in_err-pass_over_rows.ensures refl in
     search (rules, clash)
 
 pub passes-smaller : goal.passes-smaller
 passes-smaller c =
-    omega (arith, rw c.if-branch-2.true at c.in_ok-pass_over_rows-2.ensures.fewer, grown-fewer c.propagate.ensures (search rules) (search rules))
+    omega (arith, rw c.if-branch.true at c.in_ok-pass_over_rows.ensures.fewer, grown-fewer c.propagate.ensures (search rules) (search rules))
 
 pub passes-preserved : goal.passes-preserved
 passes-preserved c =
-    record { grown = grown_both (grown_both c.passes.invariant.grown c.in_ok-pass_over_rows-2.ensures.grown) c.propagate.ensures; room = room-same c.passes.invariant.room _ _ (search rules) (search rules); sizes = (search rules, search rules) }
+    record { grown = grown_both (grown_both c.passes.invariant.grown c.in_ok-pass_over_rows.ensures.grown) c.propagate.ensures; room = room-same c.passes.invariant.room _ _ (search rules) (search rules); sizes = (search rules, search rules) }
 
-pub returns-else-branch-2 : goal.returns-else-branch-2
-returns-else-branch-2 c =
-    filled c.passes.invariant.grown c.in_ok-pass_over_rows-2.ensures (ap Ok c.if-branch-2.false)
+pub returns-else-branch : goal.returns-else-branch
+returns-else-branch c =
+    filled c.passes.invariant.grown c.in_ok-pass_over_rows.ensures (ap Ok c.if-branch.false)

@@ -1,11 +1,10 @@
 -- Every turn that marks marks what follows (`settle`), and no other touches the marks.
 use mathlib.Core.Path.{◌≡◌}
-use Prim.Native.Nat.{◌/◌, ◌≤◌}
+use Prim.Native.Nat.{◌≤◌}
 use lib.ListN.{length}
-use Rattle.table.specs.Rows.{row_size}
 use Rattle.base.specs.Bounds.{max_rules}
 use Rattle.filling.proofs.FillingLaws.{Turn}
 use Rattle.filling.proofs.propagate.Given as goal
 
 abbrev pub invariant-loop : goal.invariant-loop
-invariant-loop l = (l.count ≡ length l.rows / row_size) × (l.count ≤ max_rules) × Turn l.book l.rows l.rejects l.initial.positive l.initial.negative l.positive l.negative
+invariant-loop l = (l.count ≡ length l.rows) × (l.count ≤ max_rules) × Turn l.book l.rows l.rejects l.initial.positive l.initial.negative l.positive l.negative

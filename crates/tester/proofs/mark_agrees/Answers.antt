@@ -4,8 +4,8 @@ use Rattle.tester.proofs.mark_agrees.Goals as goal
 
 pub returns-then-atom_holds-stands : goal.returns-then-atom_holds-stands
 returns-then-atom_holds-stands c =
-    differs c.args.positive.now c.args.negative.now c.args.m.now c.args.f c.atom_holds.result c.atom_holds.result c.atom_holds-stands.result c.atom_holds.ensures c.atom_holds-stands.ensures c.if-atom_holds-stands.true
+    agrees c.args.positive.now c.args.negative.now c.args.m.now c.args.f c.atom_holds.result c.atom_holds-stands.result c.atom_holds.ensures c.atom_holds-stands.ensures c.atom_holds-then-atom_holds-stands.result c.atom_holds-then-atom_holds-stands.ensures c.if-atom_holds-stands.true
 
-pub returns : goal.returns
-returns c =
-    agrees c.args.positive.now c.args.negative.now c.args.m.now c.args.f c.atom_holds.result c.atom_holds-2.result c.atom_holds-stands.result c.atom_holds.ensures c.atom_holds-stands.ensures c.atom_holds-2.ensures c.if-atom_holds-stands.false
+pub returns-else-atom_holds-stands : goal.returns-else-atom_holds-stands
+returns-else-atom_holds-stands c =
+    differs c.args.positive.now c.args.negative.now c.args.m.now c.args.f c.atom_holds.result c.atom_holds-stands.result c.atom_holds.ensures c.atom_holds-stands.ensures c.if-atom_holds-stands.false

@@ -1,11 +1,8 @@
--- The invariant: the atoms passed agree. The atoms left fall.
-use Prim.Native.Nat.{ℕ, ◌-◌, ◌<◌, ◌≤◌}
+-- The invariant: the atoms passed agree.
+use Prim.Native.Nat.{ℕ, ◌<◌}
 use lib.Dec.{T}
 use Rattle.tester.specs.Agreement.{marks_agree}
 use Rattle.tester.proofs.marks_agree.Given as goal
 
 abbrev pub invariant-loop-f : goal.invariant-loop-f
-invariant-loop-f l = (l.f ≤ l.n) × ((g : ℕ) → g < l.f → T (marks_agree l.positive l.negative l.m g))
-
-abbrev pub decreases-loop-f : goal.decreases-loop-f
-decreases-loop-f l = l.n - l.f
+invariant-loop-f l = (g : ℕ) → g < l.f → T (marks_agree l.positive l.negative l.m g)

@@ -8,6 +8,6 @@ pub returns-then-h-lt-MAX_ATOMS : goal.returns-then-h-lt-MAX_ATOMS
 returns-then-h-lt-MAX_ATOMS c =
     c.atom_holds.ensures ∙ plain_holds c.args.m.now c.args.h c.if-h-lt-MAX_ATOMS.true
 
-pub returns : goal.returns
-returns c =
-    ap not c.atom_holds-2.ensures ∙ negated-holds c.args.m.now c.args.h c.if-h-lt-MAX_ATOMS.false
+pub returns-else-h-lt-MAX_ATOMS : goal.returns-else-h-lt-MAX_ATOMS
+returns-else-h-lt-MAX_ATOMS c =
+    ap not c.atom_holds-else-h-lt-MAX_ATOMS.ensures ∙ negated-holds c.args.m.now c.args.h c.if-h-lt-MAX_ATOMS.false

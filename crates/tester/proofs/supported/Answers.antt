@@ -1,20 +1,15 @@
--- The invariant: the array has exactly what the rows passed support. The rows left fall. A row changes nothing where its body does
--- not hold or its head is negated; whether it is alive matters only where its head does not hold, and then the pass is over.
-use mathlib.Core.Path.{refl, sym, subst, ap}
+-- The invariant: the array has exactly what the rows passed support. A row changes nothing where its body does not hold or its head is
+-- negated; whether it is alive matters only where its head does not hold, and then the pass is over.
+use mathlib.Core.Path.{ap}
 use mathlib.Core.Bool.{true≢false, not}
-use Prim.Native.Nat.{◌/◌}
-use lib.ListN.{length, length-set}
-use Rattle.table.specs.Rows.{row_size}
-use Rattle.tester.specs.Masks.{Supported}
 use Rattle.tester.proofs.MaskLaws.{supported_start, supported_other, supported_not, supported_more, violation_at}
 use borrow.Author.Rules.{rules}
-use native.Mathlib.Omega.{arith}
 use Rattle.tester.proofs.supported.Goals as goal
-use Rattle.tester.proofs.supported.Goals.{else-row_holds, then-row_holds+else-h-atoms, then-row_holds+then-h-atoms}
+use Rattle.tester.proofs.supported.Goals.{else-row_holds, then-row_holds+else-lives+else-h-atoms, then-row_holds+else-lives+then-h-atoms}
 
 pub loop-j-init : goal.loop-j-init
 loop-j-init c =
-    (search rules, search rules, refl, supported_start _ c.requires.atoms_len_bound _ c.clear_marks.ensures)
+    supported_start _ c.requires.atoms_len_bound _ c.clear_marks.ensures
 
 pub returns-then-not-name_holds : goal.returns-then-not-name_holds
 returns-then-not-name_holds c =
@@ -26,14 +21,7 @@ returns-then-not-name_holds c =
 pub loop-j-preserved : goal.loop-j-preserved
 loop-j-preserved c =
     elim c.if-row_holds.branch [
-      | then-row_holds+then-h-atoms v ↦ (search rules, search rules, rw v.atoms-is (simp length-set c.loop-j.invariant.2), rw v.atoms-is (supported_more c.loop-j.invariant.3 v.row_head-h.result v.row_head-h.ensures.0 c.row_holds.result v.if-h-atoms.true c.row_holds.ensures v.if-row_holds.true))
-      | then-row_holds+else-h-atoms v ↦ (search rules, search rules, rw v.atoms-is c.loop-j.invariant.2, rw v.atoms-is (supported_other c.loop-j.invariant.3 v.row_head-h.result v.row_head-h.ensures.0 v.if-h-atoms.false))
-      | else-row_holds v ↦ (search rules, search rules, rw v.atoms-is c.loop-j.invariant.2, rw v.atoms-is (supported_not c.loop-j.invariant.3 c.row_holds.result c.row_holds.ensures v.if-row_holds.false))
+      | then-row_holds+else-lives+then-h-atoms v ↦ rw v.atoms-is (supported_more c.loop-j.invariant v.row_head-h.result v.row_head-h.ensures.0 c.row_holds.result v.if-h-atoms.true c.row_holds.ensures v.if-row_holds.true)
+      | then-row_holds+else-lives+else-h-atoms v ↦ rw v.atoms-is (supported_other c.loop-j.invariant v.row_head-h.result v.row_head-h.ensures.0 v.if-h-atoms.false)
+      | else-row_holds v ↦ rw v.atoms-is (supported_not c.loop-j.invariant c.row_holds.result c.row_holds.ensures v.if-row_holds.false)
     ]
-
-pub returns : goal.returns
-returns c =
-    record {
-      support = λ y. subst (Supported c.args.book.now c.args.rows.now c.args.m.now c.loop-j.atoms) {x = c.loop-j.j} {y = length c.args.rows.now / row_size} (omega (arith, c.loop-j-test.false, c.loop-j.invariant.0, c.loop-j.invariant.1)) c.loop-j.invariant.3;
-      violation = λ y. absurd (true≢false (sym y));
-    }
