@@ -6,11 +6,11 @@ use mathlib.Core.Path.{◌≡◌, refl, sym, ap, subst, ◌∙◌}
 use mathlib.Core.Bool.{Bool, true, false, not, ◌&&◌, cond}
 use mathlib.Core.Logic.{◌⊎◌, inl, inr}
 use mathlib.Core.List.{List, [], ◌∷◌}
-use Prim.Native.Nat.{ℕ, zero, suc, ◌+◌, ◌*◌, ◌-◌, ◌%◌, ◌/◌, ◌<◌, ◌≤◌}
+use Prim.Native.Nat.{ℕ, zero, suc, ◌+◌, ◌*◌, ◌-◌, ◌/◌, ◌<◌, ◌≤◌}
 use native.Mathlib.Decide.{ℕ_discrete}
 use native.Mathlib.Omega.{arith}
-use borrow.Author.Tests.{le-leb, lt-leb, not-true}
-use lib.Dec.{T, leb}
+use borrow.Author.Tests.{not-true}
+use lib.Dec.{T}
 use lib.ListN.{length, get_or, set, replicate, get_or-eq_default}
 use lib.Seq.{get_or-set_same, get_or-set_other}
 use Rattle.base.specs.Bounds.{max_atoms}
@@ -53,24 +53,23 @@ module _ (p q : List Bool) where
   unfolding literal_marked
   marked-high h k = ap (literal_marked p q) (sym (name-high h k))
 
-  -- the two bytes of a literal as one number: a fact past the arrays is not marked, and the sign says which array has the mark
-  module _ (size : length q ≡ length p) (a b v : ℕ) (e : v ≡ a * 256 + b) where
-    past : (c : Bool) (f : ℕ) → length p ≤ f → false ≡ atom_holds (cond c q p) f
-    unfolding atom_holds
-    past true f h = sym (get_or-eq_default q false (omega (arith, size)))
-    past false f h = sym (get_or-eq_default p false h)
+  -- a fact past the arrays is not marked, and the sign says which array has the mark
+  module _ (l : Literal) where
+    pub marked-past : length q ≡ length p → length p ≤ l.atom → false ≡ literal_marked p q l
+    unfolding literal_marked atom_holds
+    marked-past size h = past l.negated
+      where
+        past : (c : Bool) → false ≡ get_or (cond c q p) l.atom false
+        past true = sym (get_or-eq_default q false (omega (arith, size)))
+        past false = sym (get_or-eq_default p false h)
 
-    pub marked-past : length p ≤ v % 32768 → false ≡ literal_marked p q (literal_of a b)
-    unfolding literal_marked literal_of
-    marked-past h = rw (← e) (past (leb 32768 v) (v % 32768) h)
+    pub negated-marked : l.negated ≡ true → get_or q l.atom false ≡ literal_marked p q l
+    unfolding literal_marked atom_holds
+    negated-marked e = rw e refl
 
-    pub negated-marked : 32768 ≤ v → get_or q (v % 32768) false ≡ literal_marked p q (literal_of a b)
-    unfolding literal_marked literal_of atom_holds
-    negated-marked h = rw (← e, le-leb 32768 v h) refl
-
-    pub plain_marked : v < 32768 → get_or p (v % 32768) false ≡ literal_marked p q (literal_of a b)
-    unfolding literal_marked literal_of atom_holds
-    plain_marked h = rw (← e, lt-leb 32768 v h) refl
+    pub plain_marked : l.negated ≡ false → get_or p l.atom false ≡ literal_marked p q l
+    unfolding literal_marked atom_holds
+    plain_marked e = rw e refl
 
 -- the place of a name whose fact the arrays have
 pub fact-low : (h n : ℕ) → (literal_named h).atom < n → h < max_atoms → h < n

@@ -15,17 +15,16 @@ ghost use Rattle.tester.specs.Agreement.{marks_agree};
 ghost use Rattle.tester.specs.Masks.{RejectedMasks, Supports, Others};
 
 use base::{MAX_ATOMS, MAX_NAMES};
-use filling::{Hints, clear_marks, fill};
-use table::{Row, atom_holds, opposite, row_alive, row_head, row_holds, row_overridden};
+use filling::{Hints, Rules, clear_marks};
+use table::{Table, atom_holds, opposite};
 
 // The layers in which a row rejects rules: none, unless its body holds.
-fn row_mask(book: &[u8], rows: &[Row], m: &[bool], j: usize) -> u32
-    requires rows_fit { RowsFit book.now rows.now }
-    requires j_bound { j < row_count rows.now }
-    ensures { result ≡ cond (body_holds m.now (row_at book.now rows.now j)) (overridden rows.now j) 0 }
+fn row_mask(table: Table, m: &[bool], j: usize) -> u32
+    requires { j < row_count table.rows.now }
+    ensures { result ≡ cond (body_holds m.now (row_at table.entry.book.now table.entry.rows.now j)) (overridden table.entry.rows.now j) 0 }
 {
-    let mask = row_overridden(rows, j);
-    if mask != 0 && row_holds(book, rows, m, j) {
+    let mask = table.overridden(j);
+    if mask != 0 && table.holds(m, j) {
         mask
     } else {
         0
@@ -33,15 +32,14 @@ fn row_mask(book: &[u8], rows: &[Row], m: &[bool], j: usize) -> u32
 }
 
 // Bit i at name h: rules of layer i with that head are rejected. The array is lent, all 0.
-fn reject(book: &[u8], rows: &[Row], m: &[bool], rejects: &mut [u32])
-    requires rows_fit { RowsFit book.now rows.now }
-    requires rejects_value { rejects.old ≡ replicate max_names 0 }
-    ensures { RejectedMasks book.now rows.now m.now rejects.new (row_count rows.now) }
+fn reject(table: Table, m: &[bool], rejects: &mut [u32])
+    requires { rejects.old ≡ replicate max_names 0 }
+    ensures { RejectedMasks table.entry.book.now table.entry.rows.now m.now rejects.new (row_count table.entry.rows.now) }
 {
-    for j in 0..rows.len() {
-        let mask = row_mask(book, rows, m, j);
+    for j in 0..table.len() {
+        let mask = row_mask(table, m, j);
         if mask != 0 {
-            rejects[opposite(row_head(rows, j))] |= mask;
+            rejects[opposite(table.head(j))] |= mask;
         }
     }
 }
@@ -59,17 +57,15 @@ fn name_holds(m: &[bool], h: usize) -> bool
 
 // Marks the plain heads of the rows whose bodies hold, rejected or not, and says whether a row is violated: one that is alive and whose
 // head does not hold ends it, as no stable model violates such a row, and nothing need be filled.
-fn supported(book: &[u8], rows: &[Row], rejects: &[u32], m: &[bool], atoms: &mut [bool]) -> bool
-    requires rows_fit { RowsFit book.now rows.now }
-    requires rejects_len { length rejects.now ≡ max_names }
-    requires atoms_len_bound { length atoms.old ≤ max_atoms }
-    ensures { Supports book.now rows.now rejects.now m.now atoms.new result (row_count rows.now) }
+fn supported(rules: &Rules, m: &[bool], atoms: &mut [bool]) -> bool
+    requires { length atoms.old ≤ max_atoms }
+    ensures { Supports rules.now.table.book.now rules.now.table.rows.now rules.now.rejects.now m.now atoms.new result (row_count rules.now.table.rows.now) }
 {
     clear_marks(atoms);
-    for j in 0..rows.len() {
-        if row_holds(book, rows, m, j) {
-            let h = row_head(rows, j);
-            let lives = row_alive(book, rows, rejects, j);
+    for j in 0..rules.table.len() {
+        if rules.table.holds(m, j) {
+            let h = rules.table.head(j);
+            let lives = rules.table.alive(rules.rejects, j);
             if lives && !name_holds(m, h) {
                 return true;
             }
@@ -114,55 +110,48 @@ fn marks_agree(positive: &[bool], negative: &[bool], m: &[bool], n: usize) -> bo
 // Whether an interpretation is a stable model of the program that the rows and masks tabulate, where it is known which rules are rejected
 // in it. Two arrays are lent to fill. `hints` is what an earlier filling left.
 pub fn settles(
-    book: &[u8],
-    rows: &[Row],
-    rejects: &[u32],
+    rules: &Rules,
     m: &[bool],
     n: usize,
     positive: &mut [bool],
     negative: &mut [bool],
     hints: &mut Hints,
 ) -> bool
-    requires well_formed { WellFormed (tabled book.now rows.now n) }
-    requires tabulates { Tabulates (tabled book.now rows.now n) book.now rows.now }
-    requires n_value { n ≡ (tabled book.now rows.now n).atoms }
+    requires well_formed { WellFormed (tabled rules.now.table.book.now rules.now.table.rows.now n) }
+    requires tabulates { Tabulates (tabled rules.now.table.book.now rules.now.table.rows.now n) rules.now.table.book.now rules.now.table.rows.now }
+    requires n_value { n ≡ (tabled rules.now.table.book.now rules.now.table.rows.now n).atoms }
     requires n_le_max_atoms { n ≤ max_atoms }
     requires m_len { length m.now ≡ n }
-    requires rejected_masks { RejectedMasks book.now rows.now m.now rejects.now (row_count rows.now) }
+    requires rejected_masks { RejectedMasks rules.now.table.book.now rules.now.table.rows.now m.now rules.now.rejects.now (row_count rules.now.table.rows.now) }
     requires positive_len { (length positive.old ≡ n) × (length negative.old ≡ n) }
-    ensures { result ≡ stable (tabled book.now rows.now n) m.now }
+    ensures { result ≡ stable (tabled rules.now.table.book.now rules.now.table.rows.now n) m.now }
 {
-    if supported(book, rows, rejects, m, positive) {
+    if supported(rules, m, positive) {
         return false;
     }
     mark_defaults(positive, negative);
-    if fill(book, rows, rejects, positive, negative, hints).is_err() {
+    if rules.fill(positive, negative, hints).is_err() {
         return false;
     }
     marks_agree(positive, negative, m, n)
 }
 
 // Whether an interpretation is a stable model of the program that the rows and masks tabulate. `hints` is what an earlier filling left.
-pub fn is_stable(book: &[u8], rows: &[Row], m: &[bool], n: usize, hints: &mut Hints) -> bool
-    requires well_formed { WellFormed (tabled book.now rows.now n) }
-    requires tabulates { Tabulates (tabled book.now rows.now n) book.now rows.now }
-    requires n_value { n ≡ (tabled book.now rows.now n).atoms }
+pub fn is_stable(table: Table, m: &[bool], n: usize, hints: &mut Hints) -> bool
+    requires well_formed { WellFormed (tabled table.book.now table.rows.now n) }
+    requires tabulates { Tabulates (tabled table.book.now table.rows.now n) table.book.now table.rows.now }
+    requires n_value { n ≡ (tabled table.book.now table.rows.now n).atoms }
     requires n_le_max_atoms { n ≤ max_atoms }
     requires m_len { length m.now ≡ n }
-    ensures { result ≡ stable (tabled book.now rows.now n) m.now }
+    ensures { result ≡ stable (tabled table.entry.book.now table.entry.rows.now n) m.now }
 {
     let mut rejects: [u32; MAX_NAMES] = [0; MAX_NAMES];
-    reject(book, rows, m, &mut rejects);
+    reject(table, m, &mut rejects);
     let mut positive = [false; MAX_ATOMS];
     let mut negative = [false; MAX_ATOMS];
-    settles(
-        book,
-        rows,
-        &rejects,
-        m,
-        n,
-        &mut positive[0..n],
-        &mut negative[0..n],
-        hints,
-    )
+    let rules = Rules {
+        table,
+        rejects: &rejects,
+    };
+    settles(&rules, m, n, &mut positive[..n], &mut negative[..n], hints)
 }

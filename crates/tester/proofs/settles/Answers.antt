@@ -13,7 +13,7 @@ returns-then-supported c =
 
 pub fill-requires : goal.fill-requires
 fill-requires c =
-    record { rows_fit = c.requires.tabulates.fits; rejects_len = c.requires.rejected_masks.size; room = room_for c.requires.tabulates c.requires.well_formed c.requires.n_value c.requires.n_le_max_atoms _ _ (search rules) (search rules) }
+    room_for c.requires.tabulates c.requires.well_formed c.requires.n_value c.requires.n_le_max_atoms _ _ (search rules) (search rules)
 
 pub returns-then-is_err : goal.returns-then-is_err
 returns-then-is_err c =
@@ -21,4 +21,4 @@ returns-then-is_err c =
 
 pub returns : goal.returns
 returns c =
-    agree_stable c.requires.tabulates c.requires.rejected_masks c.requires.well_formed c.requires.n_value (search rules) (c.supported.ensures.support c.if-supported.false) (subst (Others _ _) {y = c.args.n} (search rules) c.mark_defaults.ensures) c.fill.ensures c.requires.m_len (sym c.if-is_err.ensures.value) (tabled-free c.args.book.now c.args.rows.now c.args.n) c.marks_agree.result c.marks_agree.ensures
+    agree_stable c.requires.tabulates c.requires.rejected_masks c.requires.well_formed c.requires.n_value (search rules) (c.supported.ensures.support c.if-supported.false) (subst (Others _ _) {y = c.args.n} (search rules) c.mark_defaults.ensures) c.fill.ensures c.requires.m_len (sym c.if-is_err.ensures.value) (tabled-free c.args.rules.now.table.book.now c.args.rules.now.table.rows.now c.args.n) c.marks_agree.result c.marks_agree.ensures

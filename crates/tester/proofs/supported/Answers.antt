@@ -5,23 +5,23 @@ use mathlib.Core.Bool.{true≢false, not}
 use Rattle.tester.proofs.MaskLaws.{supported_start, supported_other, supported_not, supported_more, violation_at}
 use borrow.Author.Rules.{rules}
 use Rattle.tester.proofs.supported.Goals as goal
-use Rattle.tester.proofs.supported.Goals.{else-row_holds, then-row_holds+else-lives+else-h-atoms, then-row_holds+else-lives+then-h-atoms}
+use Rattle.tester.proofs.supported.Goals.{else-holds, then-holds+else-lives+else-h-atoms, then-holds+else-lives+then-h-atoms}
 
 pub loop-j-init : goal.loop-j-init
 loop-j-init c =
-    supported_start _ c.requires.atoms_len_bound _ c.clear_marks.ensures
+    supported_start _ c.requires _ c.clear_marks.ensures
 
 pub returns-then-not-name_holds : goal.returns-then-not-name_holds
 returns-then-not-name_holds c =
     record {
       support = λ e. absurd (true≢false e);
-      violation = λ e. violation_at c.loop-j.j (search rules) c.row_alive-lives.result c.row_alive-lives.ensures c.if-lives.true c.row_holds.result c.row_holds.ensures c.if-row_holds.true c.row_head-h.result c.row_head-h.ensures.0 c.name_holds.result c.name_holds.ensures (ap not c.if-not-name_holds.true);
+      violation = λ e. violation_at c.loop-j.j (search rules) c.alive-lives.result c.alive-lives.ensures c.if-lives.true c.holds.result c.holds.ensures c.if-holds.true c.head-h.result c.head-h.ensures.0 c.name_holds.result c.name_holds.ensures (ap not c.if-not-name_holds.true);
     }
 
 pub loop-j-preserved : goal.loop-j-preserved
 loop-j-preserved c =
-    elim c.if-row_holds.branch [
-      | then-row_holds+else-lives+then-h-atoms v ↦ rw v.atoms-is (supported_more c.loop-j.invariant v.row_head-h.result v.row_head-h.ensures.0 c.row_holds.result v.if-h-atoms.true c.row_holds.ensures v.if-row_holds.true)
-      | then-row_holds+else-lives+else-h-atoms v ↦ rw v.atoms-is (supported_other c.loop-j.invariant v.row_head-h.result v.row_head-h.ensures.0 v.if-h-atoms.false)
-      | else-row_holds v ↦ rw v.atoms-is (supported_not c.loop-j.invariant c.row_holds.result c.row_holds.ensures v.if-row_holds.false)
+    elim c.if-holds.branch [
+      | then-holds+else-lives+then-h-atoms v ↦ rw v.atoms-is (supported_more c.loop-j.invariant v.head-h.result v.head-h.ensures.0 c.holds.result v.if-h-atoms.true c.holds.ensures v.if-holds.true)
+      | then-holds+else-lives+else-h-atoms v ↦ rw v.atoms-is (supported_other c.loop-j.invariant v.head-h.result v.head-h.ensures.0 v.if-h-atoms.false)
+      | else-holds v ↦ rw v.atoms-is (supported_not c.loop-j.invariant c.holds.result c.holds.ensures v.if-holds.false)
     ]

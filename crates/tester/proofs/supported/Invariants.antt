@@ -4,4 +4,4 @@ use Rattle.tester.specs.Masks.{Supported}
 use Rattle.tester.proofs.supported.Given as goal
 
 abbrev pub invariant-loop-j : goal.invariant-loop-j
-invariant-loop-j l = Supported l.book l.rows l.m l.atoms l.j
+invariant-loop-j l = Supported l.rules.table.book.now l.rules.table.rows.now l.m l.atoms l.j

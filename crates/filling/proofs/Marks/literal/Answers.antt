@@ -2,14 +2,14 @@
 use Rattle.filling.proofs.MarkLaws.{marked-past, negated-marked, plain_marked}
 use Rattle.filling.proofs.Marks.literal.Goals as goal
 
-pub returns-then-self-f : goal.returns-then-self-f
-returns-then-self-f c =
-    marked-past c.args.self.now.positive.now c.args.self.now.negative.now c.args.self.now.same c.args.a c.args.b c.literal_value-v.result c.literal_value-v.ensures.0 c.if-self-f.true
+pub returns-then-self-l : goal.returns-then-self-l
+returns-then-self-l c =
+    marked-past c.args.self.now.positive.now c.args.self.now.negative.now c.args.l c.args.self.now.same c.if-self-l.true
 
-pub returns-then-v-ge32768 : goal.returns-then-v-ge32768
-returns-then-v-ge32768 c =
-    negated-marked c.args.self.now.positive.now c.args.self.now.negative.now c.args.self.now.same c.args.a c.args.b c.literal_value-v.result c.literal_value-v.ensures.0 c.if-v-ge32768.true
+pub returns-then-l : goal.returns-then-l
+returns-then-l c =
+    negated-marked c.args.self.now.positive.now c.args.self.now.negative.now c.args.l c.if-l.true
 
-pub returns-else-v-ge32768 : goal.returns-else-v-ge32768
-returns-else-v-ge32768 c =
-    plain_marked c.args.self.now.positive.now c.args.self.now.negative.now c.args.self.now.same c.args.a c.args.b c.literal_value-v.result c.literal_value-v.ensures.0 c.if-v-ge32768.false
+pub returns-else-l : goal.returns-else-l
+returns-else-l c =
+    plain_marked c.args.self.now.positive.now c.args.self.now.negative.now c.args.l c.if-l.false

@@ -3,10 +3,10 @@
 use Prim.Native.Nat.{◌+◌}
 use Rattle.filling.specs.Marks.{falses}
 use Rattle.filling.proofs.FillingLaws.{Turn}
-use Rattle.filling.proofs.fill_on.Given as goal
+use Rattle.filling.proofs.Rules.fill_on.Given as goal
 
 abbrev pub invariant-passes : goal.invariant-passes
-invariant-passes l = Turn l.book l.rows l.rejects l.fn.positive l.fn.negative l.positive l.negative
+invariant-passes l = Turn l.self.table.book.now l.self.table.rows.now l.self.rejects.now l.fn.positive l.fn.negative l.positive l.negative
 
 abbrev pub decreases-passes : goal.decreases-passes
 decreases-passes l = falses l.positive + falses l.negative

@@ -3,11 +3,11 @@ use lib.ListN.{length}
 use Rattle.filling.proofs.MarkLaws.{room-same}
 use Rattle.filling.proofs.FillingLaws.{filled-from-start}
 use borrow.Author.Rules.{rules}
-use Rattle.filling.proofs.fill.Goals as goal
+use Rattle.filling.proofs.Rules.fill.Goals as goal
 
 pub fill_on-requires : goal.fill_on-requires
 fill_on-requires c =
-    record { rows_fit = c.requires.rows_fit; rejects_len = c.requires.rejects_len; room = room-same c.requires.room _ _ (search rules) (search rules) }
+    room-same c.requires _ _ (search rules) (search rules)
 
 pub returns : goal.returns
 returns c =
