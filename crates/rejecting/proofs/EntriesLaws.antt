@@ -17,8 +17,9 @@ use Rattle.table.proofs.NamedLaws.{named-overrides, overrides-named}
 use Rattle.table.proofs.RowLaws.{row_in}
 use Rattle.rejecting.specs.Rejecting.{Rejecting}
 use Rattle.rejecting.specs.Entries.{EntryNames, EntriesExactly}
+use Rattle.rejecting.specs.declared.RejectingMasks.{RejectingMasks}
 
-module _ {P : Program} {book rows atoms rejecting : List ℕ} (w : Tabulates P book rows) (d : Rejecting book rows atoms rejecting) where
+module _ {P : Program} {book rows atoms : List ℕ} {rejecting : List RejectingMasks} (w : Tabulates P book rows) (d : Rejecting book rows atoms rejecting) where
   in_rules : (i : ℕ) → i < row_count rows → row_at book rows i ∈ P.rules
   in_rules i b = subst (λ (rs : List Rule). row_at book rows i ∈ rs) w.rules (row_in book rows i b)
 
@@ -27,17 +28,17 @@ module _ {P : Program} {book rows atoms rejecting : List ℕ} (w : Tabulates P b
     where
       from : EntryNames book rows atoms rejecting j i → T (overrides P (row_at book rows j) (row_at book rows i))
       from x =
-          named-overrides w a (in_rules i b) (subst (λ (y : ℕ). bit_of y (row_at book rows i).layer ≡ 1) x.entry.layers_are x.layer)
-          (sym (complement_twice (row_at book rows j).head) ∙ ap complement (sym x.entry.facing ∙ x.head))
+          named-overrides w a (in_rules i b) (subst (λ (y : ℕ). bit_of y (row_at book rows i).layer ≡ 1) x.entry_is.layers_are x.layer)
+          (sym (complement_twice (row_at book rows j).head) ∙ ap complement (sym x.entry_is.facing ∙ x.head))
 
       into : T (overrides P (row_at book rows j) (row_at book rows i)) → EntryNames book rows atoms rejecting j i
       into o =
           let n = overrides-named w a (in_rules i b) o in
           let v = d.full j a (λ z. zero_bit (overridden rows j) (row_at book rows i).layer z n.0) in
           record {
-            place = v.0;
-            before = v.1;
-            entry = v.2;
+            entry = v.0;
+            listed = v.1;
+            entry_is = v.2;
             layer = subst (λ (y : ℕ). bit_of y (row_at book rows i).layer ≡ 1) (sym v.2.layers_are) n.0;
             head = v.2.facing ∙ ap complement n.1 ∙ complement_twice (row_at book rows i).head;
           }

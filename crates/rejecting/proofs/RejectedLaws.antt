@@ -5,7 +5,7 @@ use mathlib.Core.Logic.{◌⊎◌, inl, inr}
 use mathlib.Core.Bool.{Bool, true, false}
 use mathlib.Core.List.Memᴰ
 use mathlib.Core.List.{List, [], ◌∷◌, ◌++◌}
-use Prim.Native.Nat.{ℕ, zero, suc, ◌/◌, ◌<◌, ◌≤◌}
+use Prim.Native.Nat.{ℕ, zero, suc, ◌<◌, ◌≤◌}
 use native.Mathlib.Decide.{dec_lt, ℕ_discrete}
 use native.Mathlib.Omega.{arith}
 use lib.Bits.{bit_and, or_add_and}
@@ -32,15 +32,12 @@ use Rattle.table.proofs.RowLaws.{row_in}
 use Rattle.tester.specs.Masks.{Rejection, RejectedMasks}
 use Rattle.setting.specs.Setting.{setting_of}
 use Rattle.setting.proofs.BitMaskLaws.{or_absorbs}
+use Rattle.setting.proofs.EntryLaws.{entry_in}
 use Rattle.setting.proofs.SettingLaws.{SetAt, stands_at, at_stands}
-use Rattle.rejecting.specs.Rejecting.{EntryOf, EntryAt, Rejecting, FitsAt, RejectsAt}
+use Rattle.rejecting.specs.Rejecting.{EntryOf, Rejecting, FitsAt, RejectsAt}
+use Rattle.rejecting.specs.declared.RejectingMasks.{RejectingMasks}
 
 -- ---- places in a list, and that those of a rising list differ
-at_member : (xs : List ℕ) (i : ℕ) → i < length xs → get_or xs i 0 ∈ xs
-at_member [] i h = absurd (omega arith)
-at_member (x ∷ xs) zero h = Memᴰ.head refl
-at_member (x ∷ xs) (suc i) h = Memᴰ.tail (at_member xs i (omega arith))
-
 place_of : {x : ℕ} {xs : List ℕ} → x ∈ xs → (i : ℕ) × (i < length xs) × (get_or xs i 0 ≡ x)
 place_of (Memᴰ.head e) = (0, omega arith, sym e)
 place_of (Memᴰ.tail m) = let v = place_of m in (suc v.0, omega (arith, v.1), v.2)
@@ -48,7 +45,7 @@ place_of (Memᴰ.tail m) = let v = place_of m in (suc v.0, omega (arith, v.1), v
 rises_at : (xs : List ℕ) → Rising ◌<◌ xs → (i j : ℕ) → i < j → j < length xs → get_or xs i 0 < get_or xs j 0
 rises_at [] r i j h b = absurd (omega arith)
 rises_at (x ∷ xs) r i zero h b = absurd (omega arith)
-rises_at (x ∷ xs) r zero (suc j) h b = r.0 (get_or xs j 0) (at_member xs j (omega arith))
+rises_at (x ∷ xs) r zero (suc j) h b = r.0 (get_or xs j 0) (entry_in xs j 0 (omega arith))
 rises_at (x ∷ xs) r (suc i) (suc j) h b = rises_at xs r.1 i j (omega arith) (omega arith)
 
 one_place : (xs : List ℕ) → Rising ◌<◌ xs → (i j : ℕ) → i < length xs → j < length xs → get_or xs i 0 ≡ get_or xs j 0 → i ≡ j
@@ -114,13 +111,13 @@ module _ {book rows atoms : List ℕ} (n : ℕ) (formed : WellFormed (tabled boo
     abbrev X : Interpretation
     X = setting_of atoms standing
 
-    module _ {j plain negated name layers : ℕ} (b : j < row_count rows) (e : EntryOf book rows atoms j plain negated name layers) where
+    module _ {j : ℕ} {m : RejectingMasks} (b : j < row_count rows) (e : EntryOf book rows atoms j m) where
       literal_is : (l : Literal) (p : ℕ) → get_or atoms p 0 ≡ l.atom → (c : Bool) → l.negated ≡ c → l ∈ (row_at book rows j).body → record { atom = get_or atoms p 0; negated = c } ∈ (row_at book rows j).body
       literal_is l p q c n k =
           subst (λ (x : Literal). x ∈ (row_at book rows j).body) (ap (λ (x : Bool). record { atom = l.atom; negated = x }) n ∙ ap (λ (f : ℕ). record { atom = f; negated = c }) (sym q)) k
 
       -- where the entry fits, each literal of the body holds
-      fits-holds : (i : ℕ) → bit_of (overridden rows j) i ≡ 1 → bit_and plain standing ≡ plain → bit_and negated standing ≡ 0 → T (body_holds X (row_at book rows j))
+      fits-holds : (i : ℕ) → bit_of (overridden rows j) i ≡ 1 → bit_and m.plain standing ≡ m.plain → bit_and m.negated standing ≡ 0 → T (body_holds X (row_at book rows j))
       unfolding body_holds holds signed atom_holds
       fits-holds i z ep en = all_of (holds X) (row_at book rows j).body (λ l k. go l k l.negated refl)
         where
@@ -129,50 +126,50 @@ module _ {book rows atoms : List ℕ} (n : ℕ) (formed : WellFormed (tabled boo
               not_T (get_or X l.atom false)
               (λ t.
               let x : SetAt atoms standing (length atoms) l.atom = stands_at atoms standing l.atom (small j b l k) t in
-              let y : bit_of negated x.place ≡ 1 = e.negated_is.full x.place x.before (literal_is l x.place x.atom_is true q k) in
-              zero_bit (bit_and negated standing) x.place en (and_both negated standing x.place y x.bit))
+              let y : bit_of m.negated x.place ≡ 1 = e.negated_is.full x.place x.before (literal_is l x.place x.atom_is true q k) in
+              zero_bit (bit_and m.negated standing) x.place en (and_both m.negated standing x.place y x.bit))
           go l k false q =
               let v = placed j i b z l k in
-              let y : bit_of plain v.0 ≡ 1 = e.plain_is.full v.0 v.1 (literal_is l v.0 v.2 false q k) in
+              let y : bit_of m.plain v.0 ≡ 1 = e.plain_is.full v.0 v.1 (literal_is l v.0 v.2 false q k) in
               at_stands atoms standing l.atom (small j b l k)
-              (record { place = v.0; before = v.1; atom_is = v.2; bit = and_second plain standing v.0 (subst (λ (x : ℕ). bit_of x v.0 ≡ 1) (sym ep) y) })
+              (record { place = v.0; before = v.1; atom_is = v.2; bit = and_second m.plain standing v.0 (subst (λ (x : ℕ). bit_of x v.0 ≡ 1) (sym ep) y) })
 
       -- where the body holds, the entry fits
-      plain_fits : T (body_holds X (row_at book rows j)) → bit_and plain standing ≡ plain
+      plain_fits : T (body_holds X (row_at book rows j)) → bit_and m.plain standing ≡ m.plain
       unfolding body_holds holds signed atom_holds
       plain_fits t =
-          all-stand plain standing
+          all-stand m.plain standing
           (λ i z.
           let v = e.plain_is.sound i z in
           let x : SetAt atoms standing (length atoms) (get_or atoms i 0) = stands_at atoms standing (get_or atoms i 0) (small j b (record { atom = get_or atoms i 0; negated = false }) v.1) (all_at (holds X) t v.1) in
           subst (λ (p : ℕ). bit_of standing p ≡ 1) (once x.place i x.before v.0 x.atom_is) x.bit)
 
-      negated_fits : T (body_holds X (row_at book rows j)) → bit_and negated standing ≡ 0
+      negated_fits : T (body_holds X (row_at book rows j)) → bit_and m.negated standing ≡ 0
       unfolding body_holds holds signed atom_holds
       negated_fits t =
-          none-stand negated standing
+          none-stand m.negated standing
           (λ i z s.
           let v = e.negated_is.sound i z in
           T_not (get_or X (get_or atoms i 0) false) (all_at (holds X) t v.1)
           (at_stands atoms standing (get_or atoms i 0) (small j b (record { atom = get_or atoms i 0; negated = true }) v.1) (record { place = i; before = v.0; atom_is = refl; bit = s })))
 
     -- what reject_at says is what RejectedMasks says of the setting
-    pub rejected_at : {rejecting rejects : List ℕ} → Rejecting book rows atoms rejecting → RejectsAt rejecting standing rejects (length rejecting / 4)
+    pub rejected_at : {rejecting : List RejectingMasks} {rejects : List ℕ} → Rejecting book rows atoms rejecting → RejectsAt rejecting standing rejects
         → RejectedMasks book rows (setting_of atoms standing) rejects (row_count rows)
     rejected_at {rejecting} {rejects} d w = record { size = w.size; sound = λ h i z. from h i (w.sound h i z); full = λ h i x b. into h i x }
       where
-        from : (h i : ℕ) → FitsAt rejecting standing (length rejecting / 4) h i → Rejection book rows X (row_count rows) h i
+        from : (h i : ℕ) → FitsAt rejecting standing h i → Rejection book rows X (row_count rows) h i
         from h i x =
-            let v : (j : ℕ) × (j < row_count rows) × EntryAt book rows atoms rejecting x.place j = d.sound x.place x.before in
+            let v : (j : ℕ) × (j < row_count rows) × EntryOf book rows atoms j x.entry = d.sound x.entry x.listed in
             let z : bit_of (overridden rows v.0) i ≡ 1 = subst (λ (y : ℕ). bit_of y i ≡ 1) v.2.layers_are x.bit in
             record { row = v.0; before = v.1; facing = ap literal_named (sym x.name_is) ∙ v.2.facing; holds_in = fits-holds v.1 v.2 i z x.fits.plain_stand x.fits.negated_fall; bit = z }
 
         into : (h i : ℕ) → Rejection book rows X (row_count rows) h i → bit_of (get_or rejects h 0) i ≡ 1
         into h i x =
-            let v : (k : ℕ) × (k < length rejecting / 4) × EntryAt book rows atoms rejecting k x.row = d.full x.row x.before (λ z. zero_bit (overridden rows x.row) i z x.bit) in
+            let v : (m : RejectingMasks) × m ∈ rejecting × EntryOf book rows atoms x.row m = d.full x.row x.before (λ z. zero_bit (overridden rows x.row) i z x.bit) in
             w.full h i (record {
-              place = v.0;
-              before = v.1;
+              entry = v.0;
+              listed = v.1;
               fits = record { plain_stand = plain_fits x.before v.2 x.holds_in; negated_fall = negated_fits x.before v.2 x.holds_in };
               name_is = one_name _ h (v.2.facing ∙ sym x.facing);
               bit = subst (λ (y : ℕ). bit_of y i ≡ 1) (sym v.2.layers_are) x.bit;

@@ -1,3 +1,4 @@
 pub mod BitMaskLaws
 pub mod SettingLaws
 pub mod RuleMaskLaws
+pub mod EntryLaws

@@ -9,12 +9,14 @@ use Prim.Native.Nat.{ℕ, suc, ◌+◌, ◌*◌, ◌-◌, ◌/◌, ◌%◌, ◌^
 use native.Mathlib.Decide.{dec_lt, ℕ_discrete}
 use native.Mathlib.Nat.{mul-one, div-eq_of_lt}
 use native.Mathlib.Omega.{arith}
-use borrow.Author.Tests.{le-leb, lt-leb}
+use borrow.Author.Tests.{le-leb, lt-leb, eq-eqb, ne_eqb}
+use Rattle.std.specs.Option.{option_to_list}
 use lib.Bits.{bit_or}
 use lib.Dec.{leb}
-use lib.ListN.{length, get_or, set, take, drop, length-set, replicate, length-replicate}
-use lib.Seq.{get_or-set_same, get_or-set_other, get_or-take, length-take-le}
-use Rattle.base.specs.Bounds.{max_atoms, max_rules}
+use lib.ListN.{length, get_or, set, take, drop, length-set, replicate, length-replicate, length-append}
+use lib.Seq.{take_all}
+use Rattle.std.proofs.lemmas.List.{take_more}
+use Rattle.base.specs.Bounds.{max_atoms}
 use Rattle.base.proofs.Members.{◌∈◌}
 use Rattle.layers.specs.Masks.{bit_of}
 use Rattle.layers.proofs.BitLaws.{no_bit, no_bits, zero_bit, some-bit, or_cases, or_left, or_right}
@@ -22,8 +24,10 @@ use Rattle.format.specs.Book.{Literal, literal_of, literals_of}
 use Rattle.format.proofs.LiteralLaws.{literals_next, literals_none}
 use Rattle.models.specs.StableModels.{positive}
 use Rattle.table.specs.Names.{literal_named}
-use Rattle.table.specs.Rows.{row_count, head_name, row_at}
-use Rattle.setting.specs.RuleMasks.{AtomBits, BodyMasked, RuleMask, head_mask, with_rule, RulePut, no_rule, one_rule, MaskOf, MasksMade, RuleMasks, Open, Headed}
+use Rattle.table.specs.Rows.{head_name, row_at}
+use Rattle.setting.specs.RuleMasks.{AtomBits, BodyMasked, RuleMask, rule_of_masks, MaskOf, MasksMade, Open, Headed}
+use Rattle.setting.specs.declared.BodyMasks.{BodyMasks}
+use Rattle.setting.specs.declared.HeadMasks.{HeadMasks}
 use Rattle.setting.proofs.BitMaskLaws.{single, single_only, single_has, joined, joined_cases, joined_keeps, joined_has, or_absorbs}
 
 -- ---- the bits of the atoms
@@ -58,7 +62,7 @@ pub record MaskedTo (bits body : List ℕ) (i plain negated : ℕ) (whole : Bool
   pub inside : i ≤ length body
   pub read : List Literal
   pub split : read ++ literals_of (drop i body) ≡ literals_of body
-  pub made : BodyMasked bits read plain negated whole
+  pub made : BodyMasked bits read (record { plain = plain; negated = negated; whole = whole })
 
 pub masked_start : (bits body : List ℕ) → MaskedTo bits body 0 0 0 true
 masked_start bits body = record {
@@ -73,12 +77,12 @@ masked_start bits body = record {
     none false i z = no_bit i z
 
 -- masks p' and n' in place of p and n, for a literal more
-module _ (bits : List ℕ) (ls : List Literal) (here : Literal) (p n p' n' : ℕ) (w w' : Bool) (m : BodyMasked bits ls p n w)
+module _ (bits : List ℕ) (ls : List Literal) (here : Literal) (p n p' n' : ℕ) (w w' : Bool) (m : BodyMasked bits ls (record { plain = p; negated = n; whole = w }))
     (kept : (c : Bool) (i : ℕ) → bit_of (cond c n p) i ≡ 1 → bit_of (cond c n' p') i ≡ 1)
     (from : (c : Bool) (i : ℕ) → bit_of (cond c n' p') i ≡ 1 → (bit_of (cond c n p) i ≡ 1) ⊎ ((here.negated ≡ c) × (bit_of (get_or bits here.atom 0) i ≡ 1)))
     (has : (i : ℕ) → bit_of (get_or bits here.atom 0) i ≡ 1 → bit_of (cond here.negated n' p') i ≡ 1)
     (some : w' ≡ true → (w ≡ true) × ((i : ℕ) × (bit_of (get_or bits here.atom 0) i ≡ 1))) where
-  literal_more : BodyMasked bits (ls ++ (here ∷ [])) p' n' w'
+  literal_more : BodyMasked bits (ls ++ (here ∷ [])) (record { plain = p'; negated = n'; whole = w' })
   literal_more = record {
     sound = λ c i z. ⊎_elim
         (λ a. let v = m.sound c i a in (v.0, Memᴰ.append_left (here ∷ []) v.1, v.2, v.3))
@@ -110,7 +114,7 @@ module _ {bits body : List ℕ} {i p n : ℕ} {w : Bool} (m : MaskedTo bits body
   back : (k : ℕ) → bit_of (get_or bits here.atom 0) k ≡ 1 → bit_of x k ≡ 1
   back k z = subst (λ (y : ℕ). bit_of y k ≡ 1) (sym here_bits) z
 
-  next : (p' n' : ℕ) (w' : Bool) → BodyMasked bits (m.read ++ (here ∷ [])) p' n' w' → MaskedTo bits body (i + 2) p' n' w'
+  next : (p' n' : ℕ) (w' : Bool) → BodyMasked bits (m.read ++ (here ∷ [])) (record { plain = p'; negated = n'; whole = w' }) → MaskedTo bits body (i + 2) p' n' w'
   next p' n' w' made = record {
     inside = omega (arith, m.inside);
     read = m.read ++ (here ∷ []);
@@ -163,9 +167,9 @@ module _ {bits body : List ℕ} {i p n : ℕ} {w : Bool} (m : MaskedTo bits body
         has : (k : ℕ) → bit_of (get_or bits here.atom 0) k ≡ 1 → bit_of (cond here.negated n (bit_or p x)) k ≡ 1
         has k z = subst (λ (c : Bool). bit_of (cond c n (bit_or p x)) k ≡ 1) (sym sign) (or_right p x k (back k z))
 
-pub masked_end : {bits body : List ℕ} {i p n : ℕ} {w : Bool} → MaskedTo bits body i p n w → length body - i < 2 → BodyMasked bits (literals_of body) p n w
+pub masked_end : {bits body : List ℕ} {i p n : ℕ} {w : Bool} → MaskedTo bits body i p n w → length body - i < 2 → BodyMasked bits (literals_of body) (record { plain = p; negated = n; whole = w })
 masked_end {bits} {body} {i} {p} {n} {w} m h =
-    subst (λ (ls : List Literal). BodyMasked bits ls p n w) (sym (append-nil m.read) ∙ ap (λ (ls : List Literal). m.read ++ ls) (sym (literals_none body i h)) ∙ m.split) m.made
+    subst (λ (ls : List Literal). BodyMasked bits ls (record { plain = p; negated = n; whole = w })) (sym (append-nil m.read) ∙ ap (λ (ls : List Literal). m.read ++ ls) (sym (literals_none body i h)) ∙ m.split) m.made
 
 -- ---- the masks of a rule
 name_plain : (h f : ℕ) → literal_named h ≡ positive f → h ≡ f
@@ -177,16 +181,17 @@ name_plain h f e = go (leb max_atoms h) refl
     go false q = sym (ap (λ (c : Bool). cond c (h - max_atoms) h) q) ∙ ap (λ (l : Literal). l.atom) e
 
 -- bits of atoms, as literals of the atoms
-pub mask_literal : {atoms bits : List ℕ} {body : List Literal} {plain negated : ℕ} {whole : Bool} → AtomBits atoms bits (length atoms) → BodyMasked bits body plain negated whole
-    → (sign : Bool) (i : ℕ) → bit_of (cond sign negated plain) i ≡ 1 → (i < length atoms) × record { atom = get_or atoms i 0; negated = sign } ∈ body
+pub mask_literal : {atoms bits : List ℕ} {body : List Literal} {m : BodyMasks} → AtomBits atoms bits (length atoms) → BodyMasked bits body m
+    → (sign : Bool) (i : ℕ) → bit_of (cond sign m.negated m.plain) i ≡ 1 → (i < length atoms) × record { atom = get_or atoms i 0; negated = sign } ∈ body
 mask_literal {atoms} {body = body} w m sign i z =
     let v = m.sound sign i z in
     let b : (i < length atoms) × (get_or atoms i 0 ≡ v.0.atom) = w.sound v.0.atom i v.3 in
     let e : v.0 ≡ record { atom = get_or atoms i 0; negated = sign } = ap (λ (c : Bool). record { atom = v.0.atom; negated = c }) v.2 ∙ ap (λ (f : ℕ). record { atom = f; negated = sign }) (sym b.1) in
     (b.0, subst (λ (l : Literal). l ∈ body) e v.1)
 
-rule_mask : (book rows : List ℕ) (j : ℕ) {atoms bits : List ℕ} {plain negated : ℕ} {whole : Bool} → AtomBits atoms bits (length atoms)
-    → BodyMasked bits (row_at book rows j).body plain negated whole → (h : ℕ) → h ≡ head_name rows j → RuleMask atoms (row_at book rows j) plain negated (get_or bits h 0)
+rule_mask : (book rows : List ℕ) (j : ℕ) {atoms bits : List ℕ} {m : BodyMasks} → AtomBits atoms bits (length atoms)
+    → BodyMasked bits (row_at book rows j).body m → (h : ℕ) → h ≡ head_name rows j
+    → RuleMask atoms (row_at book rows j) (record { plain = m.plain; negated = m.negated; head = get_or bits h 0 })
 unfolding row_at
 rule_mask book rows j {atoms} {bits} w m h eh = record {
   plain_in = λ i z. (mask_literal w m false i z).1;
@@ -194,73 +199,27 @@ rule_mask book rows j {atoms} {bits} w m h eh = record {
   head_in = λ i b e. subst (λ (f : ℕ). bit_of (get_or bits f 0) i ≡ 1) (sym (eh ∙ name_plain (head_name rows j) (get_or atoms i 0) e)) (w.full i b);
 }
 
-pub masks-start : (book rows atoms masks : List ℕ) → length masks ≡ 3 * max_rules → MasksMade book rows atoms masks 0 0
-masks-start book rows atoms masks e = record { size = e; room = omega arith; each = λ j i h. absurd (omega arith) }
+pub masks_start : (book rows atoms : List ℕ) → MasksMade book rows atoms [] 0
+masks_start book rows atoms = record { room = omega arith; each = λ j i h. absurd (omega arith) }
 
--- three masks more
-module _ (masks : List ℕ) (j a b c : ℕ) (h : 3 * j + 3 ≤ length masks) where
-  abbrev three_more : List ℕ
-  three_more = with_rule masks j a b c
-
-  l1 : length (set masks (3 * j) a) ≡ length masks
-  l1 = length-set masks (3 * j) a
-
-  l2 : length (set (set masks (3 * j) a) (3 * j + 1) b) ≡ length masks
-  l2 = length-set (set masks (3 * j) a) (3 * j + 1) b ∙ l1
-
-  pub three_size : length three_more ≡ length masks
-  three_size = length-set (set (set masks (3 * j) a) (3 * j + 1) b) (3 * j + 2) c ∙ l2
-
-  other : (k : ℕ) → (k ≡ 3 * j → ⊥) → (k ≡ 3 * j + 1 → ⊥) → (k ≡ 3 * j + 2 → ⊥) → get_or three_more k 0 ≡ get_or masks k 0
-  other k x y z =
-      get_or-set_other (set (set masks (3 * j) a) (3 * j + 1) b) (3 * j + 2) k c 0 z
-      ∙ get_or-set_other (set masks (3 * j) a) (3 * j + 1) k b 0 y
-      ∙ get_or-set_other masks (3 * j) k a 0 x
-
-  third : get_or three_more (3 * j + 2) 0 ≡ c
-  third = get_or-set_same (set (set masks (3 * j) a) (3 * j + 1) b) (3 * j + 2) c 0 (omega (arith, l2))
-
-  second : get_or three_more (3 * j + 1) 0 ≡ b
-  second = get_or-set_other (set (set masks (3 * j) a) (3 * j + 1) b) (3 * j + 2) (3 * j + 1) c 0 (λ q. absurd (omega arith)) ∙ get_or-set_same (set masks (3 * j) a) (3 * j + 1) b 0 (omega (arith, l1))
-
-  first : get_or three_more (3 * j) 0 ≡ a
-  first =
-      get_or-set_other (set (set masks (3 * j) a) (3 * j + 1) b) (3 * j + 2) (3 * j) c 0 (λ q. absurd (omega arith))
-      ∙ get_or-set_other (set masks (3 * j) a) (3 * j + 1) (3 * j) b 0 (λ q. absurd (omega arith))
-      ∙ get_or-set_same masks (3 * j) a 0 (omega arith)
-
-module _ (book rows atoms masks : List ℕ) (j k : ℕ) (w : MasksMade book rows atoms masks j k) where
+module _ {book rows atoms : List ℕ} {rules : List HeadMasks} {j : ℕ} (w : MasksMade book rows atoms rules j) where
   -- a row of another head
-  masks_skip : ((i : ℕ) → i < length atoms → (row_at book rows j).head ≡ positive (get_or atoms i 0) → ⊥) → MasksMade book rows atoms masks (j + 1) k
-  masks_skip none = record { size = w.size; room = omega (arith, w.room); each = λ x i h b e. go x i h b e (dec_lt x j) }
+  masks_skip : ((i : ℕ) → i < length atoms → (row_at book rows j).head ≡ positive (get_or atoms i 0) → ⊥) → MasksMade book rows atoms rules (j + 1)
+  masks_skip none = record { room = omega (arith, w.room); each = λ x i h b e. go x i h b e (dec_lt x j) }
     where
-      go : (x i : ℕ) → x < j + 1 → i < length atoms → (row_at book rows x).head ≡ positive (get_or atoms i 0) → Dec (x < j) → MaskOf book rows atoms masks k x
+      go : (x i : ℕ) → x < j + 1 → i < length atoms → (row_at book rows x).head ≡ positive (get_or atoms i 0) → Dec (x < j) → MaskOf book rows atoms rules x
       go x i h b e (yes l) = w.each x i l b e
       go x i h b e (no n) = let q : x ≡ j = omega arith in absurd (none i b (subst (λ (y : ℕ). (row_at book rows y).head ≡ positive (get_or atoms i 0)) q e))
 
-  module _ (a b c : ℕ) (h : 3 * k + 3 ≤ length masks) (r : RuleMask atoms (row_at book rows j) a b c) where
-    masks-more : MasksMade book rows atoms (with_rule masks k a b c) (j + 1) (k + 1)
-    masks-more = record { size = three_size masks k a b c h ∙ w.size; room = omega (arith, w.room); each = λ x i l d e. go x i l d e (dec_lt x j) }
-      where
-        old : (p : ℕ) → p < k → (t : ℕ) → t < 3 → get_or (with_rule masks k a b c) (3 * p + t) 0 ≡ get_or masks (3 * p + t) 0
-        old p l t s = other masks k a b c h (3 * p + t) (λ q. absurd (omega arith)) (λ q. absurd (omega arith)) (λ q. absurd (omega arith))
-
-        zeroth : (p : ℕ) → p < k → get_or (with_rule masks k a b c) (3 * p) 0 ≡ get_or masks (3 * p) 0
-        zeroth p l = other masks k a b c h (3 * p) (λ q. absurd (omega arith)) (λ q. absurd (omega arith)) (λ q. absurd (omega arith))
-
-        kept : (x : ℕ) → MaskOf book rows atoms masks k x → MaskOf book rows atoms (with_rule masks k a b c) (k + 1) x
-        kept x m = record {
-          place = m.place;
-          before = omega (arith, m.before);
-          mask = rw (zeroth m.place m.before, old m.place m.before 1 (omega arith), old m.place m.before 2 (omega arith)) m.mask;
-        }
-
-        new : MaskOf book rows atoms (with_rule masks k a b c) (k + 1) j
-        new = record { place = k; before = omega arith; mask = rw (first masks k a b c h, second masks k a b c h, third masks k a b c h) r }
-
-        go : (x i : ℕ) → x < j + 1 → i < length atoms → (row_at book rows x).head ≡ positive (get_or atoms i 0) → Dec (x < j) → MaskOf book rows atoms (with_rule masks k a b c) (k + 1) x
-        go x i l d e (yes p) = kept x (w.each x i p d e)
-        go x i l d e (no n) = let q : x ≡ j = omega arith in subst (MaskOf book rows atoms (with_rule masks k a b c) (k + 1)) (sym q) new
+  -- a row whose masks go behind the others
+  masks_more : (m : HeadMasks) → RuleMask atoms (row_at book rows j) m → MasksMade book rows atoms (rules ++ (m ∷ [])) (j + 1)
+  masks_more m r = record { room = omega (arith, w.room, length-append rules (m ∷ [])); each = λ x i l d e. go x i l d e (dec_lt x j) }
+    where
+      go : (x i : ℕ) → x < j + 1 → i < length atoms → (row_at book rows x).head ≡ positive (get_or atoms i 0) → Dec (x < j) → MaskOf book rows atoms (rules ++ (m ∷ [])) x
+      go x i l d e (yes p) = let v = w.each x i p d e in record { entry = v.entry; listed = Memᴰ.append_left (m ∷ []) v.listed; mask = v.mask }
+      go x i l d e (no n) =
+          let q : x ≡ j = omega arith in
+          record { entry = m; listed = Memᴰ.append_right rules (Memᴰ.head refl); mask = subst (λ (y : ℕ). RuleMask atoms (row_at book rows y) m) (sym q) r }
 
 -- a row whose head's bits are none has no branching atom as its plain head
 no_head : (book rows atoms bits : List ℕ) (j h : ℕ) → AtomBits atoms bits (length atoms) → h ≡ head_name rows j → (x : ℕ) → x ≡ get_or bits h 0 → x ≡ 0
@@ -270,28 +229,14 @@ no_head book rows atoms bits j h w eh x ex z i b e =
     no_bit i (subst (λ (y : ℕ). bit_of y i ≡ 1) (sym ex ∙ z) (subst (λ (f : ℕ). bit_of (get_or bits f 0) i ≡ 1) (sym (eh ∙ name_plain (head_name rows j) (get_or atoms i 0) e)) (w.full i b)))
 
 -- an entry more, or none where the head has no bit
-pub masks_put : (book rows atoms bits masks : List ℕ) (j k : ℕ) → MasksMade book rows atoms masks j k → AtomBits atoms bits (length atoms) → {plain negated : ℕ} {whole : Bool}
-    → BodyMasked bits (row_at book rows j).body plain negated whole → (h : ℕ) → h ≡ head_name rows j → (x : ℕ) → x ≡ get_or bits h 0 → 3 * k + 3 ≤ length masks
-    → {masks' : List ℕ} {k' : ℕ} → RulePut masks k plain negated x masks' k' → MasksMade book rows atoms masks' (j + 1) k'
-masks_put book rows atoms bits masks j k w b m h eh x ex room (no_rule z) = masks_skip book rows atoms masks j k w (no_head book rows atoms bits j h b eh x ex z)
-masks_put book rows atoms bits masks j k w b {plain} {negated} m h eh x ex room one_rule =
-    masks-more book rows atoms masks j k w plain negated x room (subst (RuleMask atoms (row_at book rows j) plain negated) (sym ex) (rule_mask book rows j b m h eh))
-
--- the entries, lent
-pub masks_lent : (book rows atoms masks : List ℕ) (k : ℕ) → MasksMade book rows atoms masks (row_count rows) k → k ≤ max_rules → (m : ℕ) → m ≡ 3 * k → RuleMasks book rows atoms (take m masks)
-masks_lent book rows atoms masks k w few m q = record {
-  each = λ j i h b e.
-      let x : MaskOf book rows atoms masks k j = w.each j i h b e in
-      record {
-        place = x.place;
-        before = let l : length (take m masks) ≡ m = length-take-le m masks (omega (arith, w.size)) in omega (arith, x.before);
-        mask = rw (
-          get_or-take m masks (3 * x.place) 0 (omega (arith, x.before)),
-          get_or-take m masks (3 * x.place + 1) 0 (omega (arith, x.before)),
-          get_or-take m masks (3 * x.place + 2) 0 (omega (arith, x.before)),
-        ) x.mask;
-      };
-}
+pub masks_put : {book rows atoms bits : List ℕ} {rules : List HeadMasks} {j : ℕ} → MasksMade book rows atoms rules j → AtomBits atoms bits (length atoms) → (m : BodyMasks)
+    → BodyMasked bits (row_at book rows j).body m → (h : ℕ) → h ≡ head_name rows j → (x : ℕ) → x ≡ get_or bits h 0
+    → MasksMade book rows atoms (rules ++ option_to_list (rule_of_masks m x)) (j + 1)
+masks_put {book} {rows} {atoms} {bits} {rules} {j} w b m bm h eh x ex = go (ℕ_discrete x 0)
+  where
+    go : Dec (x ≡ 0) → MasksMade book rows atoms (rules ++ option_to_list (rule_of_masks m x)) (j + 1)
+    go (yes z) = rw (eq-eqb x 0 z, append-nil rules) (masks_skip w (no_head book rows atoms bits j h b eh x ex z))
+    go (no z) = rw (ne_eqb x 0 z) (masks_more w _ (subst (λ (y : ℕ). RuleMask atoms (row_at book rows j) (record { plain = m.plain; negated = m.negated; head = y })) (sym ex) (rule_mask book rows j b bm h eh)))
 
 -- ---- the test
 -- 1 where there is no denial, else 0
@@ -307,26 +252,26 @@ weighed_le h d = go (ℕ_discrete d 0)
         let z : (4294967296 - d) / 2 ^ 32 ≡ 0 = div-eq_of_lt (omega arith) in
         omega (arith, ap (λ (x : ℕ). h * x) z)
 
--- the heads of the open rules among the first j
-abbrev pub HeadsTo : List ℕ → ℕ → ℕ → ℕ → ℕ → Type 0
-HeadsTo masks standing denied j heads = (k i : ℕ) → k < j → Open masks standing denied k → bit_of (head_mask masks k) i ≡ 1 → bit_of heads i ≡ 1
+-- the masks of no rule
+abbrev no_rule : HeadMasks
+no_rule = record { plain = 0; negated = 0; head = 0 }
 
-module _ (masks : List ℕ) (standing denied : ℕ) where
-  pub heads-start : HeadsTo masks standing denied 0 0
-  heads-start k i h = absurd (omega arith)
+-- the heads of the open ones among these rules are collected
+abbrev pub HeadsTo : List HeadMasks → ℕ → ℕ → ℕ → Type 0
+HeadsTo rules standing denied heads = (m : HeadMasks) → m ∈ rules → Open m standing denied → (i : ℕ) → bit_of m.head i ≡ 1 → bit_of heads i ≡ 1
 
-  module _ (j heads : ℕ) (w : HeadsTo masks standing denied j heads) where
-    -- the row's head, where it is open
-    pub heads-more : (x : ℕ) → (Open masks standing denied j → x ≡ head_mask masks j) → HeadsTo masks standing denied (j + 1) (bit_or heads x)
-    heads-more x told k i h o z = go (dec_lt k j)
-      where
-        go : Dec (k < j) → bit_of (bit_or heads x) i ≡ 1
-        go (yes l) = or_left heads x i (w k i l o z)
-        go (no n) =
-            let q : k ≡ j = omega arith in
-            or_right heads x i (subst (λ (y : ℕ). bit_of y i ≡ 1) (sym (told (subst (Open masks standing denied) q o))) (subst (λ (y : ℕ). bit_of (head_mask masks y) i ≡ 1) q z))
+module _ {standing denied : ℕ} (rules : List HeadMasks) (j : ℕ) where
+  -- a rule more: its head, where it is open
+  pub heads_more : j < length rules → (heads : ℕ) → HeadsTo (take j rules) standing denied heads → (x : ℕ) → (Open (get_or rules j no_rule) standing denied → x ≡ (get_or rules j no_rule).head)
+      → HeadsTo (take (j + 1) rules) standing denied (bit_or heads x)
+  heads_more b heads w x told m k o i z = ⊎_elim
+      (λ a. or_left heads x i (w m a o i z))
+      (λ a. let e : m ≡ get_or rules j no_rule = Memᴰ.eq_of_singleton a in
+      or_right heads x i (subst (λ (y : ℕ). bit_of y i ≡ 1) (sym (told (subst (λ (r : HeadMasks). Open r standing denied) e o))) (subst (λ (r : HeadMasks). bit_of r.head i ≡ 1) e z)))
+      (Memᴰ.append_cases (take j rules) (subst (λ (l : List HeadMasks). m ∈ l) (take_more rules j no_rule b) k))
 
-    pub heads_end : (n : ℕ) → n ≤ j → Headed masks n standing denied → bit_or standing heads ≡ heads
-    heads_end n h all_headed =
-        or_absorbs (suc standing) standing heads (omega arith)
-        (λ i z. let v : (k : ℕ) × (k < n) × Open masks standing denied k × (bit_of (head_mask masks k) i ≡ 1) = all_headed i z in w v.0 i (omega (arith, v.1)) v.2 v.3)
+  pub heads_end : length rules ≤ j → (heads : ℕ) → HeadsTo (take j rules) standing denied heads → (wanted : ℕ) → wanted ≡ standing → Headed rules standing denied → bit_or wanted heads ≡ heads
+  heads_end b heads w wanted e all_headed =
+      subst (λ (y : ℕ). bit_or y heads ≡ heads) (sym e)
+      (or_absorbs (suc standing) standing heads (omega arith)
+      (λ i z. let v = all_headed i z in w v.0 (subst (λ (l : List HeadMasks). v.0 ∈ l) (sym (take_all j rules b)) v.1) v.2 i v.3))

@@ -7,7 +7,7 @@ ghost use Rattle.std.specs.Prelude.{◌≡◌, true, ◌+◌, ◌*◌, ◌/◌, 
 ghost use Rattle.base.specs.Bounds.{max_atoms, max_branching};
 ghost use Rattle.format.specs.Book.{literals_of};
 ghost use Rattle.table.specs.Rows.{row_count, row_at, RowsFit};
-ghost use Rattle.setting.specs.RuleMasks.{Low, AtomBits, BodyMasked, RulePut, Headed};
+ghost use Rattle.setting.specs.RuleMasks.{Low, AtomBits, BodyMasked, rule_of_masks, Headed};
 
 use base::MAX_ATOMS;
 use format::literal_value;
@@ -28,11 +28,8 @@ pub fn atom_bits(atoms: &[u32]) -> [u32; MAX_ATOMS]
     ensures { AtomBits atoms.now result (length atoms.now) }
 {
     let mut bits: [u32; MAX_ATOMS] = [0; MAX_ATOMS];
-    let mut i = 0;
-    while i < atoms.len() {
-        let f = atom_at(atoms, i);
-        bits[f] = bits[f] | (1 << (i as u32));
-        i += 1;
+    for (i, f) in atoms.iter().enumerate() {
+        bits[*f as usize] |= 1 << i;
     }
     bits
 }
@@ -41,10 +38,7 @@ pub fn atom_bits(atoms: &[u32]) -> [u32; MAX_ATOMS]
 pub fn bits_of(bits: &[u32], f: usize) -> u32
     ensures { result ≡ get_or bits.now f 0 }
 {
-    if f < bits.len() {
-        return bits[f];
-    }
-    0
+    bits.get(f).copied().unwrap_or(0)
 }
 
 // The masks of a body's bytes: its plain atoms and its negated ones; whole where all of them branch.
@@ -57,7 +51,7 @@ pub struct BodyMasks {
 
 // An atom that does not branch has no bit, and leaves the masks as they are.
 pub fn body_masks(bits: &[u32], body: &[u8]) -> BodyMasks
-    ensures { BodyMasked bits.now (literals_of body.now) result.plain result.negated result.whole }
+    ensures { BodyMasked bits.now (literals_of body.now) result }
 {
     let mut plain = 0;
     let mut negated = 0;
@@ -86,50 +80,55 @@ pub fn body_masks(bits: &[u32], body: &[u8]) -> BodyMasks
 pub fn row_masks(book: &[u8], rows: &[u16], bits: &[u32], j: usize) -> BodyMasks
     requires rows_fit { RowsFit book.now rows.now }
     requires j_bound { j < row_count rows.now }
-    ensures { BodyMasked bits.now (row_at book.now rows.now j).body result.plain result.negated result.whole }
+    ensures { BodyMasked bits.now (row_at book.now rows.now j).body result }
 {
     body_masks(bits, row_body(book, rows, j))
 }
 
-// Writes the masks of a rule as an entry behind the others, where its head has a bit, and says how many entries there are: rules of
-// other heads are never asked for.
-pub fn put_rule(masks: &mut [u32], made: usize, body: BodyMasks, head: u32) -> usize
-    requires { 3 * made + 3 ≤ length masks.old }
-    ensures { RulePut masks.old made body.plain body.negated head masks.new result }
-{
-    if head == 0 {
-        return made;
-    }
-    let at = 3 * made;
-    masks[at] = body.plain;
-    masks[at + 1] = body.negated;
-    masks[at + 2] = head;
-    made + 1
+// A rule as masks over the branching facts: the plain and the negated atoms of its body, and its head.
+#[derive(Clone, Copy)]
+pub struct HeadMasks {
+    pub plain: u32,
+    pub negated: u32,
+    pub head: u32,
 }
 
-// A row's head where nothing of its body is denied, and else no bit. There is no branch in it: what is denied at one setting and not
+// The masks of a rule with this body, where its head has a bit: rules of other heads are never asked for.
+pub fn head_masks(body: BodyMasks, head: u32) -> Option<HeadMasks>
+    ensures { result ≡ rule_of_masks body head }
+{
+    if head == 0 {
+        return None;
+    }
+    Some(HeadMasks {
+        plain: body.plain,
+        negated: body.negated,
+        head,
+    })
+}
+
+// A rule's head where nothing of its body is denied, and else no bit. There is no branch in it: what is denied at one setting and not
 // at the next is nothing that a processor could guess.
+#[tactic(auto, using(crate::proofs::RuleMaskLaws::weighed, crate::proofs::RuleMaskLaws::weighed_le))]
 fn head_unless(denials: u32, head: u32) -> u64
     ensures { denials ≡ 0 → result ≡ head }
 {
-    let weight = (4294967296 - denials as u64) >> 32;
-    head as u64 * weight
+    let weight = (4294967296 - u64::from(denials)) >> 32;
+    u64::from(head) * weight
 }
 
 // Whether each atom that stands is the head of a rule of whose body no literal is denied. Most often the first rules show it.
-pub fn headed(masks: &[u32], standing: u32, denied: u32) -> bool
-    ensures { Headed masks.now (length masks.now / 3) standing denied → result ≡ true }
+pub fn headed(rules: &[HeadMasks], standing: u32, denied: u32) -> bool
+    ensures { Headed rules.now standing denied → result ≡ true }
 {
-    let count = masks.len() / 3;
+    let wanted = u64::from(standing);
     let mut heads: u64 = 0;
-    let mut j = 0;
-    while j < count {
-        if standing as u64 | heads == heads {
+    for rule in rules {
+        if wanted | heads == heads {
             return true;
         }
-        let denials = masks[3 * j] & denied | masks[3 * j + 1] & standing;
-        heads = heads | head_unless(denials, masks[3 * j + 2]);
-        j += 1;
+        let denials = rule.plain & denied | rule.negated & standing;
+        heads |= head_unless(denials, rule.head);
     }
-    standing as u64 | heads == heads
+    wanted | heads == heads
 }

@@ -1,26 +1,12 @@
--- Nothing is claimed where the row can be rejected or an atom does not branch; else the body's masks with the head's bit in the mask of
--- the opposite sign.
-use mathlib.Core.Path.{ap}
-use mathlib.Core.Bool.{false≢true, not}
+-- The body's masks with the head's bit in the mask of the opposite sign.
+use borrow.Author.Tests.{not-false}
 use Rattle.nogoods.proofs.NogoodLaws.{nogood_plain, nogood_negated}
 use Rattle.nogoods.proofs.row_nogood.Goals as goal
 
-pub returns-then-not-row_alive : goal.returns-then-not-row_alive
-returns-then-not-row_alive c =
-    λ t. absurd (false≢true t)
-
-pub returns-then-bit-eq0 : goal.returns-then-bit-eq0
-returns-then-bit-eq0 c =
-    λ t. absurd (false≢true t)
-
 pub returns-then-h-lt-MAX_ATOMS : goal.returns-then-h-lt-MAX_ATOMS
 returns-then-h-lt-MAX_ATOMS c =
-    nogood_plain c.args.book.now c.args.rows.now c.args.rejectable.now c.args.bits.now c.args.j c.requires.j_bound c.requires.body_masked c.row_alive.result c.row_alive.ensures (ap not c.if-not-row_alive.false) c.row_head-h.result c.row_head-h.ensures.0 c.if-h-lt-MAX_ATOMS.true c.bits_of-bit.result c.bits_of-bit.ensures c.if-bit-eq0.false
-
-pub returns-then-bit-eq0-2 : goal.returns-then-bit-eq0-2
-returns-then-bit-eq0-2 c =
-    λ t. absurd (false≢true t)
+    nogood_plain c.args.book.now c.args.rows.now c.args.rejectable.now c.args.bits.now c.args.j c.requires.j_bound c.requires.body_masked (not-false _ c.if-not-body.false) c.row_alive.result c.row_alive.ensures c.if-not-row_alive.false c.row_head-h.result c.row_head-h.ensures.0 c.if-h-lt-MAX_ATOMS.true c.bits_of-bit.result c.bits_of-bit.ensures c.if-bit-eq0.false
 
 pub returns : goal.returns
 returns c =
-    nogood_negated c.args.book.now c.args.rows.now c.args.rejectable.now c.args.bits.now c.args.j c.requires.j_bound c.requires.body_masked c.row_alive.result c.row_alive.ensures (ap not c.if-not-row_alive.false) c.row_head-h.result c.row_head-h.ensures.0 c.if-h-lt-MAX_ATOMS.false c.bits_of-bit-2.result c.bits_of-bit-2.ensures c.if-bit-eq0-2.false
+    nogood_negated c.args.book.now c.args.rows.now c.args.rejectable.now c.args.bits.now c.args.j c.requires.j_bound c.requires.body_masked (not-false _ c.if-not-body.false) c.row_alive.result c.row_alive.ensures c.if-not-row_alive.false c.row_head-h.result c.row_head-h.ensures.0 c.if-h-lt-MAX_ATOMS.false c.bits_of-bit-2.result c.bits_of-bit-2.ensures c.if-bit-eq0-2.false

@@ -1,25 +1,14 @@
--- The invariant: what is not 0 stands at the name of an entry to come. The entries left fall.
-use mathlib.Core.Path.{refl}
-use Rattle.rejecting.proofs.ClearLaws.{cleared_more, cleared_all}
+-- What is not 0 stands at the name of an entry to come.
 use native.Mathlib.Omega.{arith}
+use Rattle.rejecting.proofs.RejectingLaws.{named_at}
+use Rattle.rejecting.proofs.ClearLaws.{cleared_at, cleared_end}
 use Rattle.rejecting.proofs.clear_at.Goals as goal
 
-pub overflow_cast-name : goal.overflow_cast-name
-overflow_cast-name c =
-    omega (arith, c.requires.named c.loop-k.k (omega (arith, c.loop-k.invariant.0, c.loop-k-test.true)))
+pub bounds-rejects-from : goal.bounds-rejects-from
+bounds-rejects-from c = omega (arith, named_at c.args.rejecting.now _ c.loop-row-test.true c.requires.named _ c.from.ensures, c.loop-row.invariant.size)
 
-pub offset_bounds-rejects-name : goal.offset_bounds-rejects-name
-offset_bounds-rejects-name c =
-    omega (arith, c.requires.named c.loop-k.k (omega (arith, c.loop-k.invariant.0, c.loop-k-test.true)))
-
-pub bounds-rejects-name : goal.bounds-rejects-name
-bounds-rejects-name c =
-    omega (arith, c.loop-k.invariant.2.size, c.requires.named c.loop-k.k (omega (arith, c.loop-k.invariant.0, c.loop-k-test.true)))
-
-pub loop-k-preserved : goal.loop-k-preserved
-loop-k-preserved c =
-    (c.loop-k.invariant.0, omega (arith, c.loop-k-test.true), cleared_more c.loop-k.invariant.2 _ refl (c.requires.named c.loop-k.k (omega (arith, c.loop-k.invariant.0, c.loop-k-test.true))))
+pub loop-row-preserved : goal.loop-row-preserved
+loop-row-preserved c = cleared_at c.args.rejecting.now _ c.loop-row-test.true _ c.loop-row.invariant c.requires.named _ c.from.ensures
 
 pub returns : goal.returns
-returns c =
-    cleared_all c.loop-k.invariant.2 (omega (arith, c.loop-k-test.false))
+returns c = cleared_end c.args.rejecting.now _ c.loop-row-test.false _ c.loop-row.invariant
