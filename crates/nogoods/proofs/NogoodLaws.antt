@@ -15,10 +15,12 @@ use Rattle.layers.specs.Masks.{bit_of}
 use Rattle.layers.proofs.BitLaws.{or_left, or_right, some-bit}
 use Rattle.format.specs.Book.{Literal, literals_of}
 use Rattle.base.proofs.Members.{◌∈◌}
-use Rattle.bans.specs.Bans.{ban_bytes, body_of}
+use Rattle.table.specs.declared.Row.{Row}
+use Rattle.table.specs.declared.Span.{Span}
+use Rattle.bans.specs.Bans.{body_of}
 use Rattle.models.specs.StableModels.{positive, negative, complement}
 use Rattle.table.specs.Names.{literal_named}
-use Rattle.table.specs.Rows.{row_count, head_name, row_at, overridden, alive}
+use Rattle.table.specs.Rows.{span_bytes, row_count, head_name, row_at, overridden, alive}
 use Rattle.table.proofs.NameLaws.{name_low, name-high, one_name}
 use Rattle.setting.specs.RuleMasks.{BodyMasked}
 use Rattle.setting.specs.declared.BodyMasks.{BodyMasks}
@@ -27,10 +29,10 @@ use Rattle.setting.proofs.BitMaskLaws.{joined_keeps, joined_has}
 use Rattle.nogoods.specs.Nogoods.{Rejectable, Within, AllWithin, NogoodOf, NogoodsTo}
 
 -- ---- what can be rejected
-pub rejectable-start : (rows : List ℕ) → Rejectable rows (replicate {A = ℕ} max_names 0) 0
+pub rejectable-start : (rows : List Row) → Rejectable rows (replicate {A = ℕ} max_names 0) 0
 rejectable-start rows = record { size = length-replicate {A = ℕ} max_names 0; full = λ j h. absurd (omega arith) }
 
-module _ {rows rejectable : List ℕ} {j : ℕ} (w : Rejectable rows rejectable j) (h o : ℕ) (eh : h ≡ head_name rows j) (eo : literal_named o ≡ complement (literal_named h)) (bo : o < max_names) where
+module _ {rows : List Row} {rejectable : List ℕ} {j : ℕ} (w : Rejectable rows rejectable j) (h o : ℕ) (eh : h ≡ head_name rows j) (eo : literal_named o ≡ complement (literal_named h)) (bo : o < max_names) where
   pub rejectable-more : Rejectable rows (set rejectable o (bit_or (get_or rejectable o 0) (overridden rows j))) (j + 1)
   rejectable-more = record {
     size = length-set rejectable o (bit_or (get_or rejectable o 0) (overridden rows j)) ∙ w.size;
@@ -67,7 +69,7 @@ body_within : {bits : List ℕ} {body : List Literal} {m : BodyMasks} → BodyMa
 body_within w t l k = let b = w.all_have t l k in record { place = b.0; atom_bit = b.1; bit = w.full l k b.0 b.1 }
 
 -- ---- a row
-module _ (book rows rejectable bits : List ℕ) (j : ℕ) (bj : j < row_count rows) {m : BodyMasks} (w : BodyMasked bits (row_at book rows j).body m) (t : m.whole ≡ true)
+module _ (book : List ℕ) (rows : List Row) (rejectable bits : List ℕ) (j : ℕ) (bj : j < row_count rows) {m : BodyMasks} (w : BodyMasked bits (row_at book rows j).body m) (t : m.whole ≡ true)
     (a : Bool) (ea : a ≡ alive rejectable (row_at book rows j)) (ta : a ≡ true) (h : ℕ) (eh : h ≡ head_name rows j) where
   lives : T (alive rejectable (row_at book rows j))
   lives = subst T (sym (sym ea ∙ ta)) tt
@@ -91,13 +93,13 @@ module _ (book rows rejectable bits : List ℕ) (j : ℕ) (bj : j < row_count ro
   }
 
 -- ---- a constraint
-pub ban_within : (book bits : List ℕ) (ban : ℕ) (part : List ℕ) → part ≡ ban_bytes book ban → {m : BodyMasks} → BodyMasked bits (literals_of part) m → m.whole ≡ true
+pub ban_within : (book bits : List ℕ) (ban : Span) (part : List ℕ) → part ≡ span_bytes book ban → {m : BodyMasks} → BodyMasked bits (literals_of part) m → m.whole ≡ true
     → AllWithin bits (record { standing = m.plain; denied = m.negated }) (body_of book ban)
 unfolding body_of
 ban_within book bits ban part e w t l k = body_within w t l (subst (λ (x : List ℕ). l ∈ literals_of x) (sym e) k)
 
 -- ---- the entries
 -- a nogood more, if there is one and there is room for it
-pub nogoods_more : {book rows bans rejectable bits : List ℕ} {nogoods : List Nogood} → NogoodsTo book rows bans rejectable bits nogoods
+pub nogoods_more : {book : List ℕ} {rows : List Row} {bans : List Span} {rejectable bits : List ℕ} {nogoods : List Nogood} → NogoodsTo book rows bans rejectable bits nogoods
     → (more : List Nogood) → NogoodsTo book rows bans rejectable bits more → NogoodsTo book rows bans rejectable bits (nogoods ++ more)
 nogoods_more {nogoods = nogoods} w more f n k = ⊎_elim (λ a. w n a) (λ a. f n a) (Memᴰ.append_cases nogoods k)

@@ -2,17 +2,16 @@
 // with a body that holds. Where all atoms branch, two masks say it, and the search leaves out every group of settings that has them decided so.
 #![tactic(auto)]
 
-ghost use Rattle.std.specs.Prelude.{◌≡◌, true, ◌<◌, length, get_or, IfSome};
+ghost use Rattle.std.specs.Prelude.{◌≡◌, true, ◌<◌, length, IfSome};
 ghost use Rattle.base.specs.Bounds.{max_names};
-ghost use Rattle.table.specs.Rows.{row_count, row_at, RowsBounded, RowsFit};
-ghost use Rattle.bans.specs.Bans.{body_of, BansFit};
+ghost use Rattle.table.specs.Rows.{SpanFits, row_count, row_at, RowsBounded};
+ghost use Rattle.bans.specs.Bans.{body_of};
 ghost use Rattle.setting.specs.RuleMasks.{BodyMasked};
 ghost use Rattle.nogoods.specs.Nogoods.{Rejectable, AllWithin, NogoodOf, Violated};
 
-use bans::ban_body;
 use base::{MAX_ATOMS, MAX_NAMES};
 use setting::{BodyMasks, bits_of, body_masks};
-use table::{ROW_SIZE, opposite, row_alive, row_head, row_overridden};
+use table::{Row, Span, Table, opposite, span_bytes};
 
 // Nogoods that a plan has room for: one that is left out costs time and nothing else.
 pub const MAX_NOGOODS: usize = 512;
@@ -25,36 +24,34 @@ pub struct Nogood {
 }
 
 // Bit i at name h: a row can reject the rules of layer i with that head.
-pub fn rejectable_masks(rows: &[u16]) -> [u32; MAX_NAMES]
+pub fn rejectable_masks(rows: &[Row]) -> [u32; MAX_NAMES]
     requires { RowsBounded rows.now }
     ensures { Rejectable rows.now result (row_count rows.now) }
 {
     let mut rejectable: [u32; MAX_NAMES] = [0; MAX_NAMES];
-    for j in 0..rows.len() / ROW_SIZE {
-        rejectable[opposite(row_head(rows, j))] |= row_overridden(rows, j);
+    for row in rows {
+        rejectable[opposite(usize::from(row.head))] |= row.overridden;
     }
     rejectable
 }
 
 // The nogood of a row with these masks of its body, where nothing can reject the row and all its atoms branch.
 pub fn row_nogood(
-    book: &[u8],
-    rows: &[u16],
+    table: Table,
     rejectable: &[u32],
     bits: &[u32],
     body: BodyMasks,
     j: usize,
 ) -> Option<Nogood>
-    requires rows_fit { RowsFit book.now rows.now }
     requires rejectable_len { length rejectable.now ≡ max_names }
-    requires j_bound { j < row_count rows.now }
-    requires body_masked { BodyMasked bits.now (row_at book.now rows.now j).body body }
-    ensures { IfSome result (NogoodOf book.now rows.now rejectable.now bits.now j) }
+    requires j_bound { j < row_count table.rows.now }
+    requires body_masked { BodyMasked bits.now (row_at table.book.now table.rows.now j).body body }
+    ensures { IfSome result (NogoodOf table.entry.book.now table.entry.rows.now rejectable.now bits.now j) }
 {
-    if !body.whole || !row_alive(book, rows, rejectable, j) {
+    if !body.whole || !table.alive(rejectable, j) {
         return None;
     }
-    let h = row_head(rows, j);
+    let h = table.head(j);
     if h < MAX_ATOMS {
         let bit = bits_of(bits, h);
         if bit == 0 {
@@ -77,12 +74,11 @@ pub fn row_nogood(
 
 // The nogood of a constraint: its body, where all its atoms branch. A body that speaks for and against an atom never holds, and would only
 // be tried in vain.
-pub fn ban_nogood(book: &[u8], bans: &[u32], bits: &[u32], k: usize) -> Option<Nogood>
-    requires bans_fit { BansFit book.now bans.now }
-    requires k_in_bounds { k < length bans.now }
-    ensures { IfSome result (λ n. AllWithin bits.now n (body_of book.now (get_or bans.now k 0))) }
+pub fn ban_nogood(book: &[u8], ban: Span, bits: &[u32]) -> Option<Nogood>
+    requires { SpanFits book.now ban }
+    ensures { IfSome result (λ n. AllWithin bits.now n (body_of book.now ban)) }
 {
-    let body = body_masks(bits, ban_body(book, bans, k));
+    let body = body_masks(bits, span_bytes(book, ban));
     if !body.whole || body.plain & body.negated != 0 {
         return None;
     }

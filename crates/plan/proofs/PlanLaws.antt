@@ -4,13 +4,18 @@ use mathlib.Core.Path.{◌≡◌, refl, sym, ap, subst, ◌∙◌}
 use mathlib.Core.Bool.{Bool, true, false, cond}
 use mathlib.Core.List.Memᴰ
 use mathlib.Core.List.{List, [], ◌++◌}
-use Prim.Native.Nat.{ℕ, ◌+◌, ◌<◌}
+use Prim.Native.Nat.{ℕ, ◌+◌, ◌<◌, ◌≤◌}
+use native.Mathlib.Omega.{arith}
 use borrow.Author.Tests.{lt-ltb}
 use lib.Dec.{ltb}
-use lib.ListN.{length, get_or, take}
+use lib.ListN.{length, get_or, take, length-take}
+use lib.Seq.{get_or-take, take-append_seam}
+use Rattle.setting.proofs.EntryLaws.{entry_in}
 use Rattle.std.specs.Prelude.{Option, Some, None, IfSome, nat_lt}
 use Rattle.std.specs.Option.{option_to_list}
 use Rattle.base.proofs.Members.{◌∈◌}
+use Rattle.table.specs.declared.Row.{Row}
+use Rattle.table.specs.declared.Span.{Span}
 use Rattle.table.specs.Rows.{row_count}
 use Rattle.bans.specs.Bans.{body_of, BansFit}
 use Rattle.setting.specs.RuleMasks.{AtomBits, MasksMade}
@@ -31,7 +36,7 @@ put_in before room entry expected e h after ea =
     ap (λ o. before ++ option_to_list o) (sym e) ∙ sym (ap (λ (b : Bool). cond b (before ++ option_to_list entry) before) (lt-ltb (length before) room h)) ∙ sym ea
 
 -- a nogood more, if there is one, and room for it
-pub nogood_put : {book rows bans rejectable bits : List ℕ} {before : List Nogood} → NogoodsTo book rows bans rejectable bits before → (room : ℕ) (entry : Option Nogood)
+pub nogood_put : {book : List ℕ} {rows : List Row} {bans : List Span} {rejectable bits : List ℕ} {before : List Nogood} → NogoodsTo book rows bans rejectable bits before → (room : ℕ) (entry : Option Nogood)
     → IfSome entry (NogoodAt book rows bans rejectable bits) → NogoodsTo book rows bans rejectable bits (put_behind before room entry)
 nogood_put {book} {rows} {bans} {rejectable} {bits} {before} w room entry f = go (nat_lt (length before) room) entry f
   where
@@ -59,14 +64,14 @@ module _ {p q : Plan} (s : SameFacts p q) where
   bans_still = ap (λ (k : ℕ). take k q.bans) s.bans_count ∙ ap (take p.ban_count) s.bans_same
 
 -- ---- all rows
-pub plan_start : (book rows bits rejectable : List ℕ) (p : Plan) → plan_heads p ≡ [] → plan_nogoods p ≡ [] → plan_rejecting p ≡ [] → PlanTo book rows bits rejectable p 0
+pub plan_start : (book : List ℕ) (rows : List Row) (bits rejectable : List ℕ) (p : Plan) → plan_heads p ≡ [] → plan_nogoods p ≡ [] → plan_rejecting p ≡ [] → PlanTo book rows bits rejectable p 0
 plan_start book rows bits rejectable p a b c = record {
   masks_made = rw a (masks_start book rows (plan_atoms p));
   nogoods_made = λ n k. absurd (Memᴰ.not-nil (subst (λ (l : List Nogood). n ∈ l) b k));
   rejecting_made = rw c made-start;
 }
 
-pub plan_step : {book rows bits rejectable : List ℕ} {p : Plan} {j : ℕ} → PlanTo book rows bits rejectable p j → (q : Plan) → SameFacts p q
+pub plan_step : {book : List ℕ} {rows : List Row} {bits rejectable : List ℕ} {p : Plan} {j : ℕ} → PlanTo book rows bits rejectable p j → (q : Plan) → SameFacts p q
     → MasksMade book rows (plan_atoms p) (plan_heads q) (j + 1) → NogoodsTo book rows (plan_bans p) rejectable bits (plan_nogoods q) → RejectingMade book rows (plan_atoms p) (plan_rejecting q) (j + 1)
     → PlanStep book rows bits rejectable p j q
 plan_step w q s a b c = record {
@@ -78,10 +83,10 @@ plan_step w q s a b c = record {
 pub bans_start : (book bits : List ℕ) (p : Plan) → BansPlanned book bits p p
 bans_start book bits p = record { same = same_refl p; heads_same = refl; rejecting_same = refl; made = λ rows rejectable w. w }
 
-pub bans_more : {book bits : List ℕ} {p q : Plan} → BansPlanned book bits p q → (k : ℕ) → k < length (plan_bans q) → (bans : List ℕ) → bans ≡ plan_bans q → (entry : Option Nogood)
-    → IfSome entry (λ n. AllWithin bits n (body_of book (get_or bans k 0))) → (room : ℕ) (r : Plan) → SameFacts q r → plan_heads r ≡ plan_heads q → plan_rejecting r ≡ plan_rejecting q
+pub bans_more : {book bits : List ℕ} {p q : Plan} → BansPlanned book bits p q → (ban : Span) → ban ∈ plan_bans q → (entry : Option Nogood)
+    → IfSome entry (λ n. AllWithin bits n (body_of book ban)) → (room : ℕ) (r : Plan) → SameFacts q r → plan_heads r ≡ plan_heads q → plan_rejecting r ≡ plan_rejecting q
     → plan_nogoods r ≡ put_behind (plan_nogoods q) room entry → BansPlanned book bits p r
-bans_more {book} {bits} {p} {q} w k b bans eb entry f room r s eh er en = record {
+bans_more {book} {bits} {p} {q} w ban b entry f room r s eh er en = record {
   same = record {
     facts_same = s.facts_same ∙ w.same.facts_same;
     branching_same = s.branching_same ∙ w.same.branching_same;
@@ -93,13 +98,13 @@ bans_more {book} {bits} {p} {q} w k b bans eb entry f room r s eh er en = record
   rejecting_same = er ∙ w.rejecting_same;
   made = λ rows rejectable v.
       rw en (nogood_put (w.made rows rejectable v) room entry
-      (if_some entry (λ n x. of_ban k (subst (λ (l : List ℕ). k < length l) there b) (subst (λ (l : List ℕ). AllWithin bits n (body_of book (get_or l k 0))) (eb ∙ there) x)) f));
+      (if_some entry (λ n x. of_ban ban (subst (λ (l : List Span). ban ∈ l) there b) x) f));
 }
   where
     there : plan_bans q ≡ plan_bans p
     there = bans_still w.same
 
-pub plan_end : {book rows bits rejectable : List ℕ} {p q : Plan} {j : ℕ} → PlanTo book rows bits rejectable p j → j ≡ row_count rows → BansPlanned book bits p q → {atoms : List ℕ} → plan_atoms p ≡ atoms
+pub plan_end : {book : List ℕ} {rows : List Row} {bits rejectable : List ℕ} {p q : Plan} {j : ℕ} → PlanTo book rows bits rejectable p j → j ≡ row_count rows → BansPlanned book bits p q → {atoms : List ℕ} → plan_atoms p ≡ atoms
     → AtomBits atoms bits (length atoms) → Rejectable rows rejectable (row_count rows) → BansFit book (plan_bans p) → Planned book rows atoms q
 plan_end {book} {rows} {bits} {rejectable} {p} {q} {j} w ej b {atoms} ea ab r bf = record {
   atoms_are = atoms_still b.same ∙ ea;
@@ -108,3 +113,12 @@ plan_end {book} {rows} {bits} {rejectable} {p} {q} {j} w ej b {atoms} ea ab r bf
   rejecting_masks = rw b.rejecting_same (subst (λ (fs : List ℕ). RejectingMade book rows fs (plan_rejecting p) (row_count rows)) ea (subst (RejectingMade book rows (plan_atoms p) (plan_rejecting p)) ej w.rejecting_made)).entries;
   bans_fit = rw (bans_still b.same) bf;
 }
+
+-- the constraint at a place is one of those that count
+pub ban_at : (p : Plan) (k : ℕ) → k < p.ban_count → p.ban_count ≤ length p.bans → (d : Span) → get_or p.bans k d ∈ plan_bans p
+ban_at p k h b d =
+    subst (λ (x : Span). x ∈ plan_bans p) (get_or-take p.ban_count p.bans k d h) (entry_in (plan_bans p) k d (simp length-take (omega arith)))
+
+-- the facts are copied to the front
+pub facts_front : (facts copied rest : List ℕ) → copied ≡ facts → take (length facts) (copied ++ rest) ≡ facts
+facts_front facts copied rest e = ap (λ (l : List ℕ). take (length facts) (l ++ rest)) e ∙ take-append_seam facts rest

@@ -1,7 +1,9 @@
--- The plan of a search: the branching facts, three kinds of entries and the numbers of the constraints, as many of each as are lent.
+-- The plan of a search: the branching facts, three kinds of entries and the places of the constraints' bodies, as many of each as are lent.
 -- It is made once a call; the search is lent it. Assumes nothing.
 use Rattle.std.specs.Prelude.{◌≡◌, List, ℕ, ◌+◌, ◌++◌, Option, cond, nat_lt, length, take, option_to_list}
 use Rattle.models.specs.Program.{Program}
+use Rattle.table.specs.declared.Row.{Row}
+use Rattle.table.specs.declared.Span.{Span}
 use Rattle.bans.specs.Bans.{barred, BansFit}
 use Rattle.setting.specs.RuleMasks.{MasksMade, RuleMasks}
 use Rattle.setting.specs.declared.HeadMasks.{HeadMasks}
@@ -25,12 +27,12 @@ plan_nogoods p = take p.nogood_count p.nogoods
 abbrev pub plan_rejecting : Plan → List RejectingMasks
 plan_rejecting p = take p.rejecting_count p.rejecting
 
--- the numbers of the constraints
-abbrev pub plan_bans : Plan → List ℕ
+-- where the bodies of the constraints stand in the book
+abbrev pub plan_bans : Plan → List Span
 plan_bans p = take p.ban_count p.bans
 
 -- the program that a table and a plan stand for
-abbrev pub planned_program : List ℕ → List ℕ → Plan → Program
+abbrev pub planned_program : List ℕ → List Row → Plan → Program
 planned_program book rows p = barred book rows (plan_bans p) p.n
 
 -- the entries afterwards: one more, if there is one, and room for it
@@ -46,13 +48,13 @@ pub record SameFacts (p q : Plan) : Type 0 where
   pub bans_same : q.bans ≡ p.bans
 
 -- the entries of the first j rows are there
-pub record PlanTo (book rows bits rejectable : List ℕ) (p : Plan) (j : ℕ) : Type 0 where
+pub record PlanTo (book : List ℕ) (rows : List Row) (bits rejectable : List ℕ) (p : Plan) (j : ℕ) : Type 0 where
   pub masks_made : MasksMade book rows (plan_atoms p) (plan_heads p) j
   pub nogoods_made : NogoodsTo book rows (plan_bans p) rejectable bits (plan_nogoods p)
   pub rejecting_made : RejectingMade book rows (plan_atoms p) (plan_rejecting p) j
 
 -- one row on; the facts and the constraints are as they were
-pub record PlanStep (book rows bits rejectable : List ℕ) (p : Plan) (j : ℕ) (q : Plan) : Type 0 where
+pub record PlanStep (book : List ℕ) (rows : List Row) (bits rejectable : List ℕ) (p : Plan) (j : ℕ) (q : Plan) : Type 0 where
   pub made : PlanTo book rows bits rejectable q (j + 1)
   pub same : SameFacts p q
 
@@ -61,10 +63,10 @@ pub record BansPlanned (book bits : List ℕ) (p q : Plan) : Type 0 where
   pub same : SameFacts p q
   pub heads_same : plan_heads q ≡ plan_heads p
   pub rejecting_same : plan_rejecting q ≡ plan_rejecting p
-  pub made : (rows rejectable : List ℕ) → NogoodsTo book rows (plan_bans p) rejectable bits (plan_nogoods p) → NogoodsTo book rows (plan_bans p) rejectable bits (plan_nogoods q)
+  pub made : (rows : List Row) (rejectable : List ℕ) → NogoodsTo book rows (plan_bans p) rejectable bits (plan_nogoods p) → NogoodsTo book rows (plan_bans p) rejectable bits (plan_nogoods q)
 
 -- The plan of a table's rows over these branching facts, as a search is lent it.
-pub record Planned (book rows atoms : List ℕ) (p : Plan) : Type 0 where
+pub record Planned (book : List ℕ) (rows : List Row) (atoms : List ℕ) (p : Plan) : Type 0 where
   pub atoms_are : plan_atoms p ≡ atoms
   pub rule_masks : RuleMasks book rows atoms (plan_heads p)
   pub nogood_masks : Nogoods book rows (plan_bans p) atoms (plan_nogoods p)

@@ -8,6 +8,7 @@ use base::{MAX_BRANCHING, MAX_RULES};
 use nogoods::{MAX_NOGOODS, Nogood};
 use rejecting::RejectingMasks;
 use setting::HeadMasks;
+use table::{NO_SPAN, Span};
 
 // It is large, and made in place: it is handed on by reference alone.
 pub struct Plan {
@@ -25,8 +26,8 @@ pub struct Plan {
     // the masks of the rows that can reject rules
     pub rejecting: [RejectingMasks; MAX_RULES],
     pub rejecting_count: usize,
-    // the numbers of the constraints
-    pub bans: [u32; MAX_RULES],
+    // where the bodies of the constraints stand in the book
+    pub bans: [Span; MAX_RULES],
     pub ban_count: usize,
     pub ghost branching_few: { branching ≤ max_branching },
     pub ghost heads_few: { head_count ≤ max_rules },
@@ -63,7 +64,7 @@ impl Plan {
                 name: 0,
             }; MAX_RULES],
             rejecting_count: 0,
-            bans: [0; MAX_RULES],
+            bans: [NO_SPAN; MAX_RULES],
             ban_count: 0,
         }
     }
@@ -92,7 +93,7 @@ impl Plan {
         &self.rejecting[..self.rejecting_count]
     }
 
-    pub fn bans(&self) -> &[u32]
+    pub fn bans(&self) -> &[Span]
         ensures { result.now ≡ plan_bans self.now }
     {
         &self.bans[..self.ban_count]

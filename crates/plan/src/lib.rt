@@ -4,15 +4,16 @@
 
 ghost use Rattle.std.specs.Prelude.{◌≡◌, ◌<◌, ◌≤◌, length, take};
 ghost use Rattle.base.specs.Bounds.{max_names, max_rules, max_branching};
-ghost use Rattle.table.specs.Rows.{row_count, RowsFit};
+ghost use Rattle.table.specs.Rows.{row_count};
 ghost use Rattle.bans.specs.Bans.{BansFit};
 ghost use Rattle.setting.specs.RuleMasks.{Low, AtomBits};
 ghost use Rattle.plan.specs.Plan.{put_behind, plan_atoms, plan_bans, PlanTo, PlanStep, BansPlanned, Planned};
 
+use base::MAX_BRANCHING;
 use nogoods::{ban_nogood, rejectable_masks, row_nogood};
 use rejecting::rejecting_masks;
 use setting::{atom_bits, bits_of, head_masks, row_masks};
-use table::{ROW_SIZE, opposite, row_head, row_overridden};
+use table::{Table, opposite};
 
 mod entries;
 
@@ -34,21 +35,20 @@ fn put<T: Copy>(entries: &mut [T], made: usize, entry: Option<T>) -> usize
 }
 
 // Writes a row's entries behind the others.
-fn plan_row(book: &[u8], rows: &[u16], bits: &[u32], rejectable: &[u32], plan: &mut Plan, j: usize)
-    requires rows_fit { RowsFit book.now rows.now }
-    requires j_bound { (j < row_count rows.now) × (row_count rows.now ≤ max_rules) }
+fn plan_row(table: Table, bits: &[u32], rejectable: &[u32], plan: &mut Plan, j: usize)
+    requires j_bound { (j < row_count table.rows.now) × (row_count table.rows.now ≤ max_rules) }
     requires atom_bits { AtomBits (plan_atoms plan.old) bits.now (length (plan_atoms plan.old)) }
     requires rejectable_len { length rejectable.now ≡ max_names }
-    requires plan_to { PlanTo book.now rows.now bits.now rejectable.now plan.old j }
-    ensures { PlanStep book.now rows.now bits.now rejectable.now plan.old j plan.new }
+    requires plan_to { PlanTo table.book.now table.rows.now bits.now rejectable.now plan.old j }
+    ensures { PlanStep table.entry.book.now table.entry.rows.now bits.now rejectable.now plan.old j plan.new }
 {
-    let body = row_masks(book, rows, bits, j);
-    let h = row_head(rows, j);
+    let body = row_masks(table, bits, j);
+    let h = table.head(j);
     let head = head_masks(body, bits_of(bits, h));
     plan.head_count = put(&mut plan.heads, plan.head_count, head);
-    let nogood = row_nogood(book, rows, rejectable, bits, body, j);
+    let nogood = row_nogood(table, rejectable, bits, body, j);
     plan.nogood_count = put(&mut plan.nogoods, plan.nogood_count, nogood);
-    let rejecting = rejecting_masks(body, opposite(h), row_overridden(rows, j));
+    let rejecting = rejecting_masks(body, opposite(h), table.overridden(j));
     plan.rejecting_count = put(&mut plan.rejecting, plan.rejecting_count, rejecting);
 }
 
@@ -58,31 +58,33 @@ fn plan_bans(book: &[u8], bits: &[u32], plan: &mut Plan)
     ensures { BansPlanned book.now bits.now plan.old plan.new }
 {
     for k in 0..plan.ban_count {
-        let nogood = ban_nogood(book, plan.bans(), bits, k);
+        let nogood = ban_nogood(book, plan.bans[k], bits);
         plan.nogood_count = put(&mut plan.nogoods, plan.nogood_count, nogood);
     }
 }
 
-// Makes the plan of the rows over its first g facts, of so many that there are, and its first constraints, which are there already.
-pub fn make_plan(book: &[u8], rows: &[u16], plan: &mut Plan, n: usize, g: usize, bans: usize)
-    requires rows_fit { RowsFit book.now rows.now }
-    requires rows_bound { row_count rows.now ≤ max_rules }
-    requires atoms_low { (g ≤ max_branching) × Low (take g plan.old.atoms) }
-    requires bans_fit { (bans ≤ max_rules) × BansFit book.now (take bans plan.old.bans) }
-    ensures planned { Planned book.now rows.now (take g plan.old.atoms) plan.new }
-    ensures facts { (plan.new.n ≡ n) × (plan.new.branching ≡ g) }
-    ensures bans { plan_bans plan.new ≡ take bans plan.old.bans }
+// Makes the plan of a table, of n facts of which these branch. The constraints are in it already, and stay.
+pub fn make_plan(table: Table, n: usize, facts: &[u32], plan: &mut Plan)
+    requires rows_bound { row_count table.rows.now ≤ max_rules }
+    requires facts_few { length facts.now ≤ max_branching }
+    requires facts_low { Low facts.now }
+    requires bans_fit { BansFit table.book.now (plan_bans plan.old) }
+    ensures planned { Planned table.entry.book.now table.entry.rows.now facts.now plan.new }
+    ensures facts { plan.new.n ≡ n }
+    ensures bans { plan_bans plan.new ≡ plan_bans plan.old }
 {
+    let mut atoms = [0; MAX_BRANCHING];
+    atoms[..facts.len()].copy_from_slice(facts);
     plan.n = n;
-    plan.branching = g;
-    plan.ban_count = bans;
+    plan.atoms = atoms;
+    plan.branching = facts.len();
     plan.head_count = 0;
     plan.nogood_count = 0;
     plan.rejecting_count = 0;
-    let bits = atom_bits(plan.atoms());
-    let rejectable = rejectable_masks(rows);
-    for j in 0..rows.len() / ROW_SIZE {
-        plan_row(book, rows, &bits, &rejectable, plan, j);
+    let bits = atom_bits(facts);
+    let rejectable = rejectable_masks(table.rows);
+    for j in 0..table.len() {
+        plan_row(table, &bits, &rejectable, plan, j);
     }
-    plan_bans(book, &bits, plan);
+    plan_bans(table.book, &bits, plan);
 }

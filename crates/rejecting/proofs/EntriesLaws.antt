@@ -10,6 +10,7 @@ use Rattle.layers.proofs.BitLaws.{zero_bit}
 use Rattle.format.specs.Book.{Rule}
 use Rattle.models.specs.Program.{Program}
 use Rattle.models.specs.StableModels.{complement, overrides}
+use Rattle.table.specs.declared.Row.{Row}
 use Rattle.table.specs.Rows.{row_count, row_at, overridden}
 use Rattle.table.specs.Table.{Tabulates}
 use Rattle.table.proofs.NameLaws.{complement_twice}
@@ -19,7 +20,7 @@ use Rattle.rejecting.specs.Rejecting.{Rejecting}
 use Rattle.rejecting.specs.Entries.{EntryNames, EntriesExactly}
 use Rattle.rejecting.specs.declared.RejectingMasks.{RejectingMasks}
 
-module _ {P : Program} {book rows atoms : List ℕ} {rejecting : List RejectingMasks} (w : Tabulates P book rows) (d : Rejecting book rows atoms rejecting) where
+module _ {P : Program} {book : List ℕ} {rows : List Row} {atoms : List ℕ} {rejecting : List RejectingMasks} (w : Tabulates P book rows) (d : Rejecting book rows atoms rejecting) where
   in_rules : (i : ℕ) → i < row_count rows → row_at book rows i ∈ P.rules
   in_rules i b = subst (λ (rs : List Rule). row_at book rows i ∈ rs) w.rules (row_in book rows i b)
 

@@ -23,6 +23,7 @@ use Rattle.models.specs.Program.{Program}
 use Rattle.models.specs.StableModels.{Interpretation, atom_holds, signed, holds, body_holds, overrides, WellFormed}
 use Rattle.models.specs.Branching.{can_reject, branching, branching_atoms}
 use Rattle.models.proofs.BranchingLaws.{branch}
+use Rattle.table.specs.declared.Row.{Row}
 use Rattle.table.specs.Names.{literal_named}
 use Rattle.table.specs.Rows.{row_count, row_at, overridden}
 use Rattle.table.specs.Table.{Tabulates}
@@ -81,7 +82,7 @@ none-stand a b h = go (ℕ_discrete (bit_and a b) 0)
     go (no n) = let x : (i : ℕ) × (bit_of (bit_and a b) i ≡ 1) = some-bit (suc (bit_and a b)) (bit_and a b) (omega arith) (omega arith) in absurd (h x.0 (and_first a b x.0 x.1) (and_second a b x.0 x.1))
 
 -- ---- the table of a program, and its branching atoms
-module _ {book rows atoms : List ℕ} (n : ℕ) (formed : WellFormed (tabled book rows n)) (few : (tabled book rows n).atoms ≤ max_atoms)
+module _ {book : List ℕ} {rows : List Row} {atoms : List ℕ} (n : ℕ) (formed : WellFormed (tabled book rows n)) (few : (tabled book rows n).atoms ≤ max_atoms)
     (table : Tabulates (tabled book rows n) book rows) (listed : atoms ≡ branching_atoms (tabled book rows n)) where
   abbrev P : Program
   P = tabled book rows n

@@ -18,6 +18,7 @@ use Rattle.layers.specs.Masks.{bit_of}
 use Rattle.layers.proofs.BitLaws.{no_bits, zero_bit}
 use Rattle.format.specs.Book.{Literal}
 use Rattle.models.specs.StableModels.{complement}
+use Rattle.table.specs.declared.Row.{Row}
 use Rattle.table.specs.Names.{literal_named}
 use Rattle.table.specs.Rows.{head_name, row_at, overridden}
 use Rattle.setting.specs.RuleMasks.{AtomBits, BodyMasked}
@@ -34,7 +35,7 @@ sign_mask : {atoms bits : List ℕ} {body : List Literal} {m : BodyMasks} → At
     → (sign : Bool) → SignMask atoms body sign (cond sign m.negated m.plain)
 sign_mask {atoms} w m sign = record { sound = λ i z. mask_literal w m sign i z; full = λ i b k. m.full (record { atom = get_or atoms i 0; negated = sign }) k i (w.full i b) }
 
-pub entry_of : (book rows : List ℕ) (j : ℕ) {atoms bits : List ℕ} {m : BodyMasks} → AtomBits atoms bits (length atoms)
+pub entry_of : (book : List ℕ) (rows : List Row) (j : ℕ) {atoms bits : List ℕ} {m : BodyMasks} → AtomBits atoms bits (length atoms)
     → BodyMasked bits (row_at book rows j).body m → (h name : ℕ) → h ≡ head_name rows j → literal_named name ≡ complement (literal_named h) → name < max_names
     → EntryOf book rows atoms j (record { plain = m.plain; negated = m.negated; layers = overridden rows j; name = name })
 unfolding row_at
@@ -47,7 +48,7 @@ entry_of book rows j w m h name eh en b = record {
 }
 
 -- ---- the entries of the rows
-module _ {book rows atoms : List ℕ} where
+module _ {book : List ℕ} {rows : List Row} {atoms : List ℕ} where
   pub made-start : RejectingMade book rows atoms [] 0
   made-start = record { room = omega arith; entries = record { sound = λ m k. absurd (Memᴰ.not-nil k); full = λ j h. absurd (omega arith) } }
 
@@ -82,7 +83,7 @@ module _ {book rows atoms : List ℕ} where
         into x b n (no y) = let q : j ≡ x = omega arith in (m, Memᴰ.append_right rejecting (Memᴰ.head refl), subst (λ (i : ℕ). EntryOf book rows atoms i m) q r)
 
 -- an entry more, or none where the row overrides no rule
-pub made_put : {book rows atoms : List ℕ} {rejecting : List RejectingMasks} {j : ℕ} → RejectingMade book rows atoms rejecting j → (m : BodyMasks) (name layers : ℕ)
+pub made_put : {book : List ℕ} {rows : List Row} {atoms : List ℕ} {rejecting : List RejectingMasks} {j : ℕ} → RejectingMade book rows atoms rejecting j → (m : BodyMasks) (name layers : ℕ)
     → layers ≡ overridden rows j → EntryOf book rows atoms j (record { plain = m.plain; negated = m.negated; layers = layers; name = name })
     → RejectingMade book rows atoms (rejecting ++ option_to_list (row_of_masks m name layers)) (j + 1)
 made_put {book} {rows} {atoms} {rejecting} {j} w m name layers e r = go (ℕ_discrete layers 0)
@@ -91,7 +92,7 @@ made_put {book} {rows} {atoms} {rejecting} {j} w m name layers e r = go (ℕ_dis
     go (yes z) = rw (eq-eqb layers 0 z, append-nil rejecting) (made_skip w (sym e ∙ z))
     go (no z) = rw (ne_eqb layers 0 z) (made_more w _ r)
 
-pub rejecting_named : {book rows atoms : List ℕ} {rejecting : List RejectingMasks} → Rejecting book rows atoms rejecting → Named rejecting
+pub rejecting_named : {book : List ℕ} {rows : List Row} {atoms : List ℕ} {rejecting : List RejectingMasks} → Rejecting book rows atoms rejecting → Named rejecting
 rejecting_named w m k = (w.sound m k).2.name_low
 
 -- ---- what the entries reject

@@ -7,6 +7,7 @@ use Rattle.base.specs.Bounds.{max_names}
 use Rattle.layers.specs.Masks.{bit_of}
 use Rattle.format.specs.Book.{Literal}
 use Rattle.models.specs.StableModels.{complement}
+use Rattle.table.specs.declared.Row.{Row}
 use Rattle.table.specs.Names.{literal_named}
 use Rattle.table.specs.Rows.{row_count, row_at, overridden}
 use Rattle.setting.specs.declared.BodyMasks.{BodyMasks}
@@ -18,7 +19,7 @@ pub record SignMask (atoms : List ℕ) (body : List Literal) (sign : Bool) (mask
   pub full : (i : ℕ) → i < length atoms → Memᴰ (record { atom = get_or atoms i 0; negated = sign }) body → bit_of mask i ≡ 1
 
 -- the masks of row j: those of its body, the name opposite to its head, the layers in which it overrides rules
-pub record EntryOf (book rows atoms : List ℕ) (j : ℕ) (m : RejectingMasks) : Type 0 where
+pub record EntryOf (book : List ℕ) (rows : List Row) (atoms : List ℕ) (j : ℕ) (m : RejectingMasks) : Type 0 where
   pub plain_is : SignMask atoms (row_at book rows j).body false m.plain
   pub negated_is : SignMask atoms (row_at book rows j).body true m.negated
   pub facing : literal_named m.name ≡ complement (row_at book rows j).head
@@ -30,17 +31,17 @@ abbrev pub row_of_masks : BodyMasks → ℕ → ℕ → Option RejectingMasks
 row_of_masks body name layers = if layers == 0 then None else Some (record { plain = body.plain; negated = body.negated; layers = layers; name = name })
 
 -- each entry is that of one of the first n rows, and each of these rows that overrides a rule has one
-pub record RejectingTo (book rows atoms : List ℕ) (rejecting : List RejectingMasks) (n : ℕ) : Type 0 where
+pub record RejectingTo (book : List ℕ) (rows : List Row) (atoms : List ℕ) (rejecting : List RejectingMasks) (n : ℕ) : Type 0 where
   pub sound : (m : RejectingMasks) → Memᴰ m rejecting → (j : ℕ) × (j < n) × EntryOf book rows atoms j m
   pub full : (j : ℕ) → j < n → (overridden rows j ≡ 0 → ⊥) → (m : RejectingMasks) × Memᴰ m rejecting × EntryOf book rows atoms j m
 
 -- as the code makes them: there is room for all rows
-pub record RejectingMade (book rows atoms : List ℕ) (rejecting : List RejectingMasks) (n : ℕ) : Type 0 where
+pub record RejectingMade (book : List ℕ) (rows : List Row) (atoms : List ℕ) (rejecting : List RejectingMasks) (n : ℕ) : Type 0 where
   pub room : length rejecting ≤ n
   pub entries : RejectingTo book rows atoms rejecting n
 
 -- those of all rows
-abbrev pub Rejecting : List ℕ → List ℕ → List ℕ → List RejectingMasks → Type 0
+abbrev pub Rejecting : List ℕ → List Row → List ℕ → List RejectingMasks → Type 0
 Rejecting book rows atoms rejecting = RejectingTo book rows atoms rejecting (row_count rows)
 
 -- the name of each entry is that of a literal

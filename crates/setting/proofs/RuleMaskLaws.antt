@@ -23,6 +23,7 @@ use Rattle.layers.proofs.BitLaws.{no_bit, no_bits, zero_bit, some-bit, or_cases,
 use Rattle.format.specs.Book.{Literal, literal_of, literals_of}
 use Rattle.format.proofs.LiteralLaws.{literals_next, literals_none}
 use Rattle.models.specs.StableModels.{positive}
+use Rattle.table.specs.declared.Row.{Row}
 use Rattle.table.specs.Names.{literal_named}
 use Rattle.table.specs.Rows.{head_name, row_at}
 use Rattle.setting.specs.RuleMasks.{AtomBits, BodyMasked, RuleMask, rule_of_masks, MaskOf, MasksMade, Open, Headed}
@@ -57,119 +58,77 @@ module _ (atoms bits : List ℕ) (i f : ℕ) (w : AtomBits atoms bits i) (e : f 
           joined_has bits f (single i) (omega (arith, w.size)) (get_or atoms k 0) k (ap (λ (x : ℕ). get_or atoms x 0) q ∙ sym e) (subst (λ (x : ℕ). bit_of (single i) x ≡ 1) (sym q) (single_has i h))
 
 -- ---- a body's masks
--- the literals read so far, those from offset i on, and the masks of the former
-pub record MaskedTo (bits body : List ℕ) (i plain negated : ℕ) (whole : Bool) : Type 0 where
-  pub inside : i ≤ length body
-  pub read : List Literal
-  pub split : read ++ literals_of (drop i body) ≡ literals_of body
-  pub made : BodyMasked bits read (record { plain = plain; negated = negated; whole = whole })
-
-pub masked_start : (bits body : List ℕ) → MaskedTo bits body 0 0 0 true
-masked_start bits body = record {
-  inside = omega arith;
-  read = [];
-  split = refl;
-  made = record { sound = λ c i z. absurd (none c i z); full = λ l k. absurd (Memᴰ.not-nil k); all_have = λ t l k. absurd (Memᴰ.not-nil k) };
-}
+pub masked_start : (bits : List ℕ) → BodyMasked bits [] (record { plain = 0; negated = 0; whole = true })
+masked_start bits = record { sound = λ c i z. absurd (none c i z); full = λ l k. absurd (Memᴰ.not-nil k); all_have = λ t l k. absurd (Memᴰ.not-nil k) }
   where
     none : (c : Bool) (i : ℕ) → bit_of (cond c 0 0) i ≡ 1 → ⊥
     none true i z = no_bit i z
     none false i z = no_bit i z
 
--- masks p' and n' in place of p and n, for a literal more
-module _ (bits : List ℕ) (ls : List Literal) (here : Literal) (p n p' n' : ℕ) (w w' : Bool) (m : BodyMasked bits ls (record { plain = p; negated = n; whole = w }))
-    (kept : (c : Bool) (i : ℕ) → bit_of (cond c n p) i ≡ 1 → bit_of (cond c n' p') i ≡ 1)
-    (from : (c : Bool) (i : ℕ) → bit_of (cond c n' p') i ≡ 1 → (bit_of (cond c n p) i ≡ 1) ⊎ ((here.negated ≡ c) × (bit_of (get_or bits here.atom 0) i ≡ 1)))
-    (has : (i : ℕ) → bit_of (get_or bits here.atom 0) i ≡ 1 → bit_of (cond here.negated n' p') i ≡ 1)
-    (some : w' ≡ true → (w ≡ true) × ((i : ℕ) × (bit_of (get_or bits here.atom 0) i ≡ 1))) where
-  literal_more : BodyMasked bits (ls ++ (here ∷ [])) (record { plain = p'; negated = n'; whole = w' })
+-- masks m' in place of m, for a literal more
+module _ (bits : List ℕ) (ls : List Literal) (here : Literal) (m m' : BodyMasks) (w : BodyMasked bits ls m)
+    (kept : (c : Bool) (i : ℕ) → bit_of (cond c m.negated m.plain) i ≡ 1 → bit_of (cond c m'.negated m'.plain) i ≡ 1)
+    (from : (c : Bool) (i : ℕ) → bit_of (cond c m'.negated m'.plain) i ≡ 1 → (bit_of (cond c m.negated m.plain) i ≡ 1) ⊎ ((here.negated ≡ c) × (bit_of (get_or bits here.atom 0) i ≡ 1)))
+    (has : (i : ℕ) → bit_of (get_or bits here.atom 0) i ≡ 1 → bit_of (cond here.negated m'.negated m'.plain) i ≡ 1)
+    (some : m'.whole ≡ true → (m.whole ≡ true) × ((i : ℕ) × (bit_of (get_or bits here.atom 0) i ≡ 1))) where
+  literal_more : BodyMasked bits (ls ++ (here ∷ [])) m'
   literal_more = record {
     sound = λ c i z. ⊎_elim
-        (λ a. let v = m.sound c i a in (v.0, Memᴰ.append_left (here ∷ []) v.1, v.2, v.3))
+        (λ a. let v = w.sound c i a in (v.0, Memᴰ.append_left (here ∷ []) v.1, v.2, v.3))
         (λ a. (here, Memᴰ.append_right ls (Memᴰ.head refl), a.0, a.1))
         (from c i z);
     full = λ l k i z. ⊎_elim
-        (λ a. kept l.negated i (m.full l a i z))
-        (λ a. let e : l ≡ here = Memᴰ.eq_of_singleton a in subst (λ (x : Literal). bit_of (cond x.negated n' p') i ≡ 1) (sym e) (has i (subst (λ (x : Literal). bit_of (get_or bits x.atom 0) i ≡ 1) e z)))
+        (λ a. kept l.negated i (w.full l a i z))
+        (λ a. let e : l ≡ here = Memᴰ.eq_of_singleton a in subst (λ (x : Literal). bit_of (cond x.negated m'.negated m'.plain) i ≡ 1) (sym e) (has i (subst (λ (x : Literal). bit_of (get_or bits x.atom 0) i ≡ 1) e z)))
         (Memᴰ.append_cases ls k);
     all_have = λ t l k. ⊎_elim
-        (λ a. m.all_have (some t).0 l a)
+        (λ a. w.all_have (some t).0 l a)
         (λ a. subst (λ (x : Literal). (i : ℕ) × (bit_of (get_or bits x.atom 0) i ≡ 1)) (sym (Memᴰ.eq_of_singleton a)) (some t).1)
         (Memᴰ.append_cases ls k);
   }
 
--- the literal at offset i, whose number is v and whose atom's bits are x
-module _ {bits body : List ℕ} {i p n : ℕ} {w : Bool} (m : MaskedTo bits body i p n w) (h : 2 ≤ length body - i) (v : ℕ) (ev : v ≡ get_or body i 0 * 256 + get_or body (i + 1) 0)
-    (x : ℕ) (ex : x ≡ get_or bits (v % 32768) 0) where
-  abbrev here : Literal
-  here = literal_of (get_or body i 0) (get_or body (i + 1) 0)
-
-  here_bits : x ≡ get_or bits here.atom 0
-  unfolding literal_of
-  here_bits = ex ∙ ap (λ (y : ℕ). get_or bits (y % 32768) 0) ev
-
+-- a literal more, whose atom's bits are x
+module _ {bits : List ℕ} {ls : List Literal} {m : BodyMasks} (w : BodyMasked bits ls m) (here : Literal) (x : ℕ) (ex : x ≡ get_or bits here.atom 0) where
   out : (k : ℕ) → bit_of x k ≡ 1 → bit_of (get_or bits here.atom 0) k ≡ 1
-  out k z = subst (λ (y : ℕ). bit_of y k ≡ 1) here_bits z
+  out k z = subst (λ (y : ℕ). bit_of y k ≡ 1) ex z
 
   back : (k : ℕ) → bit_of (get_or bits here.atom 0) k ≡ 1 → bit_of x k ≡ 1
-  back k z = subst (λ (y : ℕ). bit_of y k ≡ 1) (sym here_bits) z
+  back k z = subst (λ (y : ℕ). bit_of y k ≡ 1) (sym ex) z
 
-  next : (p' n' : ℕ) (w' : Bool) → BodyMasked bits (m.read ++ (here ∷ [])) (record { plain = p'; negated = n'; whole = w' }) → MaskedTo bits body (i + 2) p' n' w'
-  next p' n' w' made = record {
-    inside = omega (arith, m.inside);
-    read = m.read ++ (here ∷ []);
-    split = append_assoc m.read (here ∷ []) (literals_of (drop (i + 2) body)) ∙ ap (λ (ls : List Literal). m.read ++ ls) (sym (literals_next body i h)) ∙ m.split;
-    made = made;
-  }
-
-  pub masked_none : x ≡ 0 → MaskedTo bits body (i + 2) p n false
-  masked_none e =
-      next p n false
-      (literal_more bits m.read here p n p n w false m.made (λ c k z. z) (λ c k z. inl z) (λ k z. absurd (zero_bit x k e (back k z))) (λ t. absurd (false≢true t)))
+  pub masked_none : x ≡ 0 → BodyMasked bits (ls ++ (here ∷ [])) (record { plain = m.plain; negated = m.negated; whole = false })
+  masked_none e = literal_more bits ls here m _ w (λ c k z. z) (λ c k z. inl z) (λ k z. absurd (zero_bit x k e (back k z))) (λ t. absurd (false≢true t))
 
   module _ (some : x ≡ 0 → ⊥) where
     has_bit : (k : ℕ) × (bit_of (get_or bits here.atom 0) k ≡ 1)
     has_bit = let b : (k : ℕ) × (bit_of x k ≡ 1) = some-bit (suc x) x (omega arith) (omega arith) in (b.0, out b.0 b.1)
 
-    pub masked_negated : 32768 ≤ v → MaskedTo bits body (i + 2) p (bit_or n x) w
-    unfolding literal_of
-    masked_negated b = next p (bit_or n x) w (literal_more bits m.read here p n p (bit_or n x) w w m.made kept from has (λ t. (t, has_bit)))
+    pub masked_negated : here.negated ≡ true → BodyMasked bits (ls ++ (here ∷ [])) (record { plain = m.plain; negated = bit_or m.negated x; whole = m.whole })
+    masked_negated sign = literal_more bits ls here m _ w kept from has (λ t. (t, has_bit))
       where
-        sign : here.negated ≡ true
-        sign = ap (λ (y : ℕ). leb 32768 y) (sym ev) ∙ le-leb 32768 v b
-
-        kept : (c : Bool) (k : ℕ) → bit_of (cond c n p) k ≡ 1 → bit_of (cond c (bit_or n x) p) k ≡ 1
-        kept true k z = or_left n x k z
+        kept : (c : Bool) (k : ℕ) → bit_of (cond c m.negated m.plain) k ≡ 1 → bit_of (cond c (bit_or m.negated x) m.plain) k ≡ 1
+        kept true k z = or_left m.negated x k z
         kept false k z = z
 
-        from : (c : Bool) (k : ℕ) → bit_of (cond c (bit_or n x) p) k ≡ 1 → (bit_of (cond c n p) k ≡ 1) ⊎ ((here.negated ≡ c) × (bit_of (get_or bits here.atom 0) k ≡ 1))
-        from true k z = ⊎_elim (λ a. inl a) (λ a. inr (sign, out k a)) (or_cases n x k z)
+        from : (c : Bool) (k : ℕ) → bit_of (cond c (bit_or m.negated x) m.plain) k ≡ 1 → (bit_of (cond c m.negated m.plain) k ≡ 1) ⊎ ((here.negated ≡ c) × (bit_of (get_or bits here.atom 0) k ≡ 1))
+        from true k z = ⊎_elim (λ a. inl a) (λ a. inr (sign, out k a)) (or_cases m.negated x k z)
         from false k z = inl z
 
-        has : (k : ℕ) → bit_of (get_or bits here.atom 0) k ≡ 1 → bit_of (cond here.negated (bit_or n x) p) k ≡ 1
-        has k z = subst (λ (c : Bool). bit_of (cond c (bit_or n x) p) k ≡ 1) (sym sign) (or_right n x k (back k z))
+        has : (k : ℕ) → bit_of (get_or bits here.atom 0) k ≡ 1 → bit_of (cond here.negated (bit_or m.negated x) m.plain) k ≡ 1
+        has k z = subst (λ (c : Bool). bit_of (cond c (bit_or m.negated x) m.plain) k ≡ 1) (sym sign) (or_right m.negated x k (back k z))
 
-    pub masked_plain : v < 32768 → MaskedTo bits body (i + 2) (bit_or p x) n w
-    unfolding literal_of
-    masked_plain b = next (bit_or p x) n w (literal_more bits m.read here p n (bit_or p x) n w w m.made kept from has (λ t. (t, has_bit)))
+    pub masked_plain : here.negated ≡ false → BodyMasked bits (ls ++ (here ∷ [])) (record { plain = bit_or m.plain x; negated = m.negated; whole = m.whole })
+    masked_plain sign = literal_more bits ls here m _ w kept from has (λ t. (t, has_bit))
       where
-        sign : here.negated ≡ false
-        sign = ap (λ (y : ℕ). leb 32768 y) (sym ev) ∙ lt-leb 32768 v b
-
-        kept : (c : Bool) (k : ℕ) → bit_of (cond c n p) k ≡ 1 → bit_of (cond c n (bit_or p x)) k ≡ 1
+        kept : (c : Bool) (k : ℕ) → bit_of (cond c m.negated m.plain) k ≡ 1 → bit_of (cond c m.negated (bit_or m.plain x)) k ≡ 1
         kept true k z = z
-        kept false k z = or_left p x k z
+        kept false k z = or_left m.plain x k z
 
-        from : (c : Bool) (k : ℕ) → bit_of (cond c n (bit_or p x)) k ≡ 1 → (bit_of (cond c n p) k ≡ 1) ⊎ ((here.negated ≡ c) × (bit_of (get_or bits here.atom 0) k ≡ 1))
+        from : (c : Bool) (k : ℕ) → bit_of (cond c m.negated (bit_or m.plain x)) k ≡ 1 → (bit_of (cond c m.negated m.plain) k ≡ 1) ⊎ ((here.negated ≡ c) × (bit_of (get_or bits here.atom 0) k ≡ 1))
         from true k z = inl z
-        from false k z = ⊎_elim (λ a. inl a) (λ a. inr (sign, out k a)) (or_cases p x k z)
+        from false k z = ⊎_elim (λ a. inl a) (λ a. inr (sign, out k a)) (or_cases m.plain x k z)
 
-        has : (k : ℕ) → bit_of (get_or bits here.atom 0) k ≡ 1 → bit_of (cond here.negated n (bit_or p x)) k ≡ 1
-        has k z = subst (λ (c : Bool). bit_of (cond c n (bit_or p x)) k ≡ 1) (sym sign) (or_right p x k (back k z))
-
-pub masked_end : {bits body : List ℕ} {i p n : ℕ} {w : Bool} → MaskedTo bits body i p n w → length body - i < 2 → BodyMasked bits (literals_of body) (record { plain = p; negated = n; whole = w })
-masked_end {bits} {body} {i} {p} {n} {w} m h =
-    subst (λ (ls : List Literal). BodyMasked bits ls (record { plain = p; negated = n; whole = w })) (sym (append-nil m.read) ∙ ap (λ (ls : List Literal). m.read ++ ls) (sym (literals_none body i h)) ∙ m.split) m.made
+        has : (k : ℕ) → bit_of (get_or bits here.atom 0) k ≡ 1 → bit_of (cond here.negated m.negated (bit_or m.plain x)) k ≡ 1
+        has k z = subst (λ (c : Bool). bit_of (cond c m.negated (bit_or m.plain x)) k ≡ 1) (sym sign) (or_right m.plain x k (back k z))
 
 -- ---- the masks of a rule
 name_plain : (h f : ℕ) → literal_named h ≡ positive f → h ≡ f
@@ -189,7 +148,7 @@ mask_literal {atoms} {body = body} w m sign i z =
     let e : v.0 ≡ record { atom = get_or atoms i 0; negated = sign } = ap (λ (c : Bool). record { atom = v.0.atom; negated = c }) v.2 ∙ ap (λ (f : ℕ). record { atom = f; negated = sign }) (sym b.1) in
     (b.0, subst (λ (l : Literal). l ∈ body) e v.1)
 
-rule_mask : (book rows : List ℕ) (j : ℕ) {atoms bits : List ℕ} {m : BodyMasks} → AtomBits atoms bits (length atoms)
+rule_mask : (book : List ℕ) (rows : List Row) (j : ℕ) {atoms bits : List ℕ} {m : BodyMasks} → AtomBits atoms bits (length atoms)
     → BodyMasked bits (row_at book rows j).body m → (h : ℕ) → h ≡ head_name rows j
     → RuleMask atoms (row_at book rows j) (record { plain = m.plain; negated = m.negated; head = get_or bits h 0 })
 unfolding row_at
@@ -199,10 +158,10 @@ rule_mask book rows j {atoms} {bits} w m h eh = record {
   head_in = λ i b e. subst (λ (f : ℕ). bit_of (get_or bits f 0) i ≡ 1) (sym (eh ∙ name_plain (head_name rows j) (get_or atoms i 0) e)) (w.full i b);
 }
 
-pub masks_start : (book rows atoms : List ℕ) → MasksMade book rows atoms [] 0
+pub masks_start : (book : List ℕ) (rows : List Row) (atoms : List ℕ) → MasksMade book rows atoms [] 0
 masks_start book rows atoms = record { room = omega arith; each = λ j i h. absurd (omega arith) }
 
-module _ {book rows atoms : List ℕ} {rules : List HeadMasks} {j : ℕ} (w : MasksMade book rows atoms rules j) where
+module _ {book : List ℕ} {rows : List Row} {atoms : List ℕ} {rules : List HeadMasks} {j : ℕ} (w : MasksMade book rows atoms rules j) where
   -- a row of another head
   masks_skip : ((i : ℕ) → i < length atoms → (row_at book rows j).head ≡ positive (get_or atoms i 0) → ⊥) → MasksMade book rows atoms rules (j + 1)
   masks_skip none = record { room = omega (arith, w.room); each = λ x i h b e. go x i h b e (dec_lt x j) }
@@ -222,14 +181,14 @@ module _ {book rows atoms : List ℕ} {rules : List HeadMasks} {j : ℕ} (w : Ma
           record { entry = m; listed = Memᴰ.append_right rules (Memᴰ.head refl); mask = subst (λ (y : ℕ). RuleMask atoms (row_at book rows y) m) (sym q) r }
 
 -- a row whose head's bits are none has no branching atom as its plain head
-no_head : (book rows atoms bits : List ℕ) (j h : ℕ) → AtomBits atoms bits (length atoms) → h ≡ head_name rows j → (x : ℕ) → x ≡ get_or bits h 0 → x ≡ 0
+no_head : (book : List ℕ) (rows : List Row) (atoms bits : List ℕ) (j h : ℕ) → AtomBits atoms bits (length atoms) → h ≡ head_name rows j → (x : ℕ) → x ≡ get_or bits h 0 → x ≡ 0
     → (i : ℕ) → i < length atoms → (row_at book rows j).head ≡ positive (get_or atoms i 0) → ⊥
 unfolding row_at
 no_head book rows atoms bits j h w eh x ex z i b e =
     no_bit i (subst (λ (y : ℕ). bit_of y i ≡ 1) (sym ex ∙ z) (subst (λ (f : ℕ). bit_of (get_or bits f 0) i ≡ 1) (sym (eh ∙ name_plain (head_name rows j) (get_or atoms i 0) e)) (w.full i b)))
 
 -- an entry more, or none where the head has no bit
-pub masks_put : {book rows atoms bits : List ℕ} {rules : List HeadMasks} {j : ℕ} → MasksMade book rows atoms rules j → AtomBits atoms bits (length atoms) → (m : BodyMasks)
+pub masks_put : {book : List ℕ} {rows : List Row} {atoms bits : List ℕ} {rules : List HeadMasks} {j : ℕ} → MasksMade book rows atoms rules j → AtomBits atoms bits (length atoms) → (m : BodyMasks)
     → BodyMasked bits (row_at book rows j).body m → (h : ℕ) → h ≡ head_name rows j → (x : ℕ) → x ≡ get_or bits h 0
     → MasksMade book rows atoms (rules ++ option_to_list (rule_of_masks m x)) (j + 1)
 masks_put {book} {rows} {atoms} {bits} {rules} {j} w b m bm h eh x ex = go (ℕ_discrete x 0)

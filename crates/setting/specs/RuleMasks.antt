@@ -7,6 +7,7 @@ use Rattle.base.specs.Bounds.{max_atoms}
 use Rattle.layers.specs.Masks.{bit_of}
 use Rattle.format.specs.Book.{Literal, Rule}
 use Rattle.models.specs.StableModels.{positive, negative}
+use Rattle.table.specs.declared.Row.{Row}
 use Rattle.table.specs.Rows.{row_count, row_at}
 use Rattle.setting.specs.declared.BodyMasks.{BodyMasks}
 use Rattle.setting.specs.declared.HeadMasks.{HeadMasks}
@@ -40,18 +41,18 @@ abbrev pub rule_of_masks : BodyMasks → ℕ → Option HeadMasks
 rule_of_masks body head = if head == 0 then None else Some (record { plain = body.plain; negated = body.negated; head = head })
 
 -- one of the entries has the masks of row j
-pub record MaskOf (book rows atoms : List ℕ) (rules : List HeadMasks) (j : ℕ) : Type 0 where
+pub record MaskOf (book : List ℕ) (rows : List Row) (atoms : List ℕ) (rules : List HeadMasks) (j : ℕ) : Type 0 where
   pub entry : HeadMasks
   pub listed : Memᴰ entry rules
   pub mask : RuleMask atoms (row_at book rows j) entry
 
 -- of the first n rows, each with one of the atoms as its plain head has its masks among the entries
-pub record MasksMade (book rows atoms : List ℕ) (rules : List HeadMasks) (n : ℕ) : Type 0 where
+pub record MasksMade (book : List ℕ) (rows : List Row) (atoms : List ℕ) (rules : List HeadMasks) (n : ℕ) : Type 0 where
   pub room : length rules ≤ n
   pub each : (j i : ℕ) → j < n → i < length atoms → (row_at book rows j).head ≡ positive (get_or atoms i 0) → MaskOf book rows atoms rules j
 
 -- the same of all rows
-pub record RuleMasks (book rows atoms : List ℕ) (rules : List HeadMasks) : Type 0 where
+pub record RuleMasks (book : List ℕ) (rows : List Row) (atoms : List ℕ) (rules : List HeadMasks) : Type 0 where
   pub each : (j i : ℕ) → j < row_count rows → i < length atoms → (row_at book rows j).head ≡ positive (get_or atoms i 0) → MaskOf book rows atoms rules j
 
 -- nothing that is decided denies a literal of the rule's body: no plain atom of it is denied, no negated one stands

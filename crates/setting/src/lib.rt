@@ -6,12 +6,12 @@
 ghost use Rattle.std.specs.Prelude.{◌≡◌, true, ◌+◌, ◌*◌, ◌/◌, ◌<◌, ◌≤◌, length, get_or};
 ghost use Rattle.base.specs.Bounds.{max_atoms, max_branching};
 ghost use Rattle.format.specs.Book.{literals_of};
-ghost use Rattle.table.specs.Rows.{row_count, row_at, RowsFit};
+ghost use Rattle.table.specs.Rows.{row_count, row_at};
 ghost use Rattle.setting.specs.RuleMasks.{Low, AtomBits, BodyMasked, rule_of_masks, Headed};
 
 use base::MAX_ATOMS;
-use format::literal_value;
-use table::row_body;
+use format::Literals;
+use table::Table;
 
 // The i-th branching fact, as an index.
 pub fn atom_at(atoms: &[u32], i: usize) -> usize
@@ -41,7 +41,7 @@ pub fn bits_of(bits: &[u32], f: usize) -> u32
     bits.get(f).copied().unwrap_or(0)
 }
 
-// The masks of a body's bytes: its plain atoms and its negated ones; whole where all of them branch.
+// The masks of a body: its plain atoms and its negated ones; whole where all of them branch.
 #[derive(Clone, Copy)]
 pub struct BodyMasks {
     pub plain: u32,
@@ -49,40 +49,34 @@ pub struct BodyMasks {
     pub whole: bool,
 }
 
-// An atom that does not branch has no bit, and leaves the masks as they are.
+// The masks of a body's bytes. An atom that does not branch has no bit, and leaves the masks as they are.
 pub fn body_masks(bits: &[u32], body: &[u8]) -> BodyMasks
     ensures { BodyMasked bits.now (literals_of body.now) result }
 {
-    let mut plain = 0;
-    let mut negated = 0;
-    let mut whole = true;
-    let mut i: usize = 0;
-    while 2 <= body.len() - i {
-        let v = literal_value(body[i], body[i + 1]);
-        let bit = bits_of(bits, v % 32768);
+    let mut masks = BodyMasks {
+        plain: 0,
+        negated: 0,
+        whole: true,
+    };
+    for literal in Literals(body) {
+        let bit = bits_of(bits, literal.atom);
         if bit == 0 {
-            whole = false;
-        } else if 32768 <= v {
-            negated = negated | bit;
+            masks.whole = false;
+        } else if literal.negated {
+            masks.negated |= bit;
         } else {
-            plain = plain | bit;
+            masks.plain |= bit;
         }
-        i += 2;
     }
-    BodyMasks {
-        plain,
-        negated,
-        whole,
-    }
+    masks
 }
 
 // The masks of a row's body.
-pub fn row_masks(book: &[u8], rows: &[u16], bits: &[u32], j: usize) -> BodyMasks
-    requires rows_fit { RowsFit book.now rows.now }
-    requires j_bound { j < row_count rows.now }
-    ensures { BodyMasked bits.now (row_at book.now rows.now j).body result }
+pub fn row_masks(table: Table, bits: &[u32], j: usize) -> BodyMasks
+    requires { j < row_count table.rows.now }
+    ensures { BodyMasked bits.now (row_at table.entry.book.now table.entry.rows.now j).body result }
 {
-    body_masks(bits, row_body(book, rows, j))
+    body_masks(bits, table.body(j))
 }
 
 // A rule as masks over the branching facts: the plain and the negated atoms of its body, and its head.

@@ -2,5 +2,5 @@
 use Rattle.nogoods.specs.Nogoods.{Rejectable}
 use Rattle.nogoods.proofs.rejectable_masks.Given as goal
 
-abbrev pub invariant-loop-j : goal.invariant-loop-j
-invariant-loop-j l = Rejectable l.rows l.rejectable l.j
+abbrev pub invariant-loop-row : goal.invariant-loop-row
+invariant-loop-row l = Rejectable l.rows l.rejectable l.row-index

@@ -10,4 +10,4 @@ use Rattle.setting.proofs.row_masks.Goals as goal
 pub returns : goal.returns
 unfolding row_at
 returns c =
-    subst (λ (x : List ℕ). BodyMasked c.args.bits.now (literals_of x) c.body_masks.result) c.row_body.ensures c.body_masks.ensures
+    subst (λ (x : List ℕ). BodyMasked c.args.bits.now (literals_of x) c.body_masks.result) c.body.ensures c.body_masks.ensures
