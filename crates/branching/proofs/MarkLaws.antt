@@ -1,102 +1,87 @@
--- Marking the facts of a body, literal by literal: what is marked and what is left are together what the body makes branch. Used by
--- branches and mark_body. Assumes nothing.
+-- Marking the facts of a body, literal by literal. Used by mark_body. Assumes nothing.
 use mathlib.Core.Path.{◌≡◌, refl, sym, ap, subst, ◌∙◌}
 use mathlib.Core.Bool.{Bool, true, false, ◌&&◌, ◌||◌}
-use mathlib.Core.List.{List, []}
-use Prim.Native.Nat.{ℕ, ◌+◌, ◌*◌, ◌-◌, ◌%◌, ◌<◌, ◌≤◌}
+use mathlib.Core.List.{List, [], ◌∷◌, ◌++◌}
+use Prim.Native.Nat.{ℕ, ◌<◌}
 use native.Mathlib.Decide.{ℕ_discrete}
 use native.Mathlib.Omega.{arith}
-use borrow.Author.Tests.{eq-eqb, ne_eqb, lt-ltb, le-ltb, le-leb, lt-leb, ltb-true}
-use lib.Dec.{eqb, ltb, leb}
-use lib.ListN.{length, get_or, set, drop, length-set}
+use borrow.Author.Tests.{eq-eqb, ne_eqb, lt-ltb, ltb-true}
+use lib.Dec.{eqb, ltb}
+use lib.ListN.{length, get_or, set, length-set}
 use lib.Seq.{get_or-set_same, get_or-set_other}
+use Rattle.std.proofs.lemmas.List.Folds.{list_any-append}
 use Rattle.base.specs.Bounds.{max_atoms}
 use Rattle.base.specs.Lists.{any}
-use Rattle.format.specs.Book.{Literal, literal_of, literals_of}
-use Rattle.format.proofs.LiteralLaws.{literals_next, literals_none}
+use Rattle.format.specs.Book.{Literal, literals_of}
 use Rattle.models.specs.StableModels.{atom_holds}
 use Rattle.layers.proofs.BitLaws.{or_true, or_false, or_assoc, and_left, and_right}
 use Rattle.branching.specs.Marks.{branches_in, BodyMarked}
 
--- what the loop over a body has marked, and what is left
-pub record Marking (body : List ℕ) (rejecting : Bool) (marks₀ : List Bool) (i : ℕ) (marks : List Bool) : Type 0 where
-  pub inside : i ≤ length body
-  pub size : length marks ≡ length marks₀
-  pub same : (f : ℕ) → f < max_atoms → (atom_holds marks f || branches_in rejecting f (literals_of (drop i body))) ≡ (atom_holds marks₀ f || branches_in rejecting f (literals_of body))
+-- the facts that these literals make branch are marked besides those that were
+pub record Marking (rejecting : Bool) (before : List Bool) (done : List Literal) (marks : List Bool) : Type 0 where
+  pub size : length marks ≡ max_atoms
+  pub marked : (f : ℕ) → f < max_atoms → atom_holds marks f ≡ (atom_holds before f || branches_in rejecting f done)
 
-pub marking_start : (body : List ℕ) (rejecting : Bool) (marks : List Bool) → Marking body rejecting marks 0 marks
-marking_start body rejecting marks = record { inside = omega arith; size = refl; same = λ f h. refl }
-
-none_false : (rejecting : Bool) (f : ℕ) (a : Bool) → (a || branches_in rejecting f []) ≡ a
+pub marking_start : (rejecting : Bool) (marks : List Bool) → length marks ≡ max_atoms → Marking rejecting marks [] marks
 unfolding branches_in any
-none_false rejecting f a = or_false a
-
-pub marking_end : (body : List ℕ) (rejecting : Bool) (marks₀ : List Bool) (i : ℕ) (marks : List Bool) → Marking body rejecting marks₀ i marks → length body - i < 2
-    → BodyMarked body rejecting marks₀ marks
-marking_end body rejecting marks₀ i marks w h = record {
-  size = w.size;
-  marked = λ f b.
-      sym (none_false rejecting f (atom_holds marks f)) ∙ ap (λ (l : List Literal). atom_holds marks f || branches_in rejecting f l) (sym (literals_none body i h)) ∙ w.same f b;
-}
+marking_start rejecting marks e = record { size = e; marked = λ f h. sym (or_false (atom_holds marks f)) }
 
 -- one literal more
-module _ (body : List ℕ) (rejecting : Bool) (marks₀ : List Bool) (i : ℕ) (marks : List Bool) (w : Marking body rejecting marks₀ i marks) (h : 2 ≤ length body - i)
-    (v : ℕ) (ev : v ≡ get_or body i 0 * 256 + get_or body (i + 1) 0) (t : Bool) (et : t ≡ (ltb (v % 32768) max_atoms && (leb 32768 v || rejecting))) where
+module _ (rejecting : Bool) (before : List Bool) (done : List Literal) (marks : List Bool) (w : Marking rejecting before done marks) (l : Literal) where
   here : ℕ → Bool
-  here f = eqb (v % 32768) f && (leb 32768 v || rejecting)
+  here f = eqb l.atom f && (l.negated || rejecting)
 
-  opened : (f : ℕ) → branches_in rejecting f (literals_of (drop i body)) ≡ (here f || branches_in rejecting f (literals_of (drop (i + 2) body)))
-  unfolding branches_in any here literal_of
-  opened f = ap (any (λ l. eqb l.atom f && (l.negated || rejecting))) (literals_next body i h) ∙ rw (← ev) refl
+  one_more : (f : ℕ) → branches_in rejecting f (done ++ (l ∷ [])) ≡ (branches_in rejecting f done || here f)
+  unfolding branches_in any here
+  one_more f = list_any-append (λ (l : Literal). eqb l.atom f && (l.negated || rejecting)) done (l ∷ []) ∙ ap (λ (c : Bool). any (λ (l : Literal). eqb l.atom f && (l.negated || rejecting)) done || c) (or_false (here f))
 
   -- marks that also have the literal's fact, where it branches
-  module _ (next : List Bool) (size : length next ≡ length marks) (now_marked : (f : ℕ) → f < max_atoms → atom_holds next f ≡ (atom_holds marks f || here f)) where
-    marked_more : Marking body rejecting marks₀ (i + 2) next
-    marked_more = record {
-      inside = omega arith;
-      size = size ∙ w.size;
-      same = λ f b.
-          ap (λ (c : Bool). c || branches_in rejecting f (literals_of (drop (i + 2) body))) (now_marked f b)
-          ∙ or_assoc (atom_holds marks f) (here f) (branches_in rejecting f (literals_of (drop (i + 2) body)))
-          ∙ ap (λ (c : Bool). atom_holds marks f || c) (sym (opened f)) ∙ w.same f b;
-    }
+  marked_more : (next : List Bool) → length next ≡ length marks → ((f : ℕ) → f < max_atoms → atom_holds next f ≡ (atom_holds marks f || here f)) → Marking rejecting before (done ++ (l ∷ [])) next
+  marked_more next size now_marked = record {
+    size = size ∙ w.size;
+    marked = λ f b.
+        now_marked f b
+        ∙ ap (λ (c : Bool). c || here f) (w.marked f b)
+        ∙ or_assoc (atom_holds before f) (branches_in rejecting f done) (here f)
+        ∙ ap (λ (c : Bool). atom_holds before f || c) (sym (one_more f));
+  }
 
-  pub small : t ≡ true → v % 32768 < max_atoms
-  small q = ltb-true (v % 32768) max_atoms (and_left (ltb (v % 32768) max_atoms) (leb 32768 v || rejecting) (sym et ∙ q))
+  -- the marks as the test of the literal leaves them
+  module _ (t : Bool) (et : t ≡ (ltb l.atom max_atoms && (l.negated || rejecting))) where
+    pub small : t ≡ true → l.atom < max_atoms
+    small q = ltb-true l.atom max_atoms (and_left (ltb l.atom max_atoms) (l.negated || rejecting) (sym et ∙ q))
 
-  pub marking_set : t ≡ true → length marks ≡ max_atoms → Marking body rejecting marks₀ (i + 2) (set marks (v % 32768) true)
-  unfolding here atom_holds
-  marking_set q l = marked_more (set marks (v % 32768) true) (length-set marks (v % 32768) true) (λ f b. go f (ℕ_discrete (v % 32768) f))
-    where
-      yes_it : (leb 32768 v || rejecting) ≡ true
-      yes_it = and_right (ltb (v % 32768) max_atoms) (leb 32768 v || rejecting) (sym et ∙ q)
+    pub marking_set : t ≡ true → Marking rejecting before (done ++ (l ∷ [])) (set marks l.atom true)
+    unfolding here atom_holds
+    marking_set q = marked_more (set marks l.atom true) (length-set marks l.atom true) (λ f b. go f (ℕ_discrete l.atom f))
+      where
+        yes_it : (l.negated || rejecting) ≡ true
+        yes_it = and_right (ltb l.atom max_atoms) (l.negated || rejecting) (sym et ∙ q)
 
-      go : (f : ℕ) → Dec (v % 32768 ≡ f) → get_or (set marks (v % 32768) true) f false ≡ (get_or marks f false || (eqb (v % 32768) f && (leb 32768 v || rejecting)))
-      go f (yes e) =
-          subst (λ (x : ℕ). get_or (set marks (v % 32768) true) x false ≡ true) e (get_or-set_same marks (v % 32768) true false (omega (arith, small q)))
-          ∙ or_true (get_or marks f false)
-          ∙ ap (λ (c : Bool). get_or marks f false || c) (sym (rw (eq-eqb (v % 32768) f e, yes_it) refl))
-      go f (no n) =
-          get_or-set_other marks (v % 32768) f true false (λ e. n (sym e))
-          ∙ sym (or_false (get_or marks f false))
-          ∙ ap (λ (c : Bool). get_or marks f false || c) (sym (rw (ne_eqb (v % 32768) f n) refl))
+        go : (f : ℕ) → Dec (l.atom ≡ f) → get_or (set marks l.atom true) f false ≡ (get_or marks f false || (eqb l.atom f && (l.negated || rejecting)))
+        go f (yes e) =
+            subst (λ (x : ℕ). get_or (set marks l.atom true) x false ≡ true) e (get_or-set_same marks l.atom true false (omega (arith, w.size, small q)))
+            ∙ or_true (get_or marks f false)
+            ∙ ap (λ (c : Bool). get_or marks f false || c) (sym (rw (eq-eqb l.atom f e, yes_it) refl))
+        go f (no n) =
+            get_or-set_other marks l.atom f true false (λ e. n (sym e))
+            ∙ sym (or_false (get_or marks f false))
+            ∙ ap (λ (c : Bool). get_or marks f false || c) (sym (rw (ne_eqb l.atom f n) refl))
 
-  pub marking_pass : t ≡ false → Marking body rejecting marks₀ (i + 2) marks
-  unfolding here
-  marking_pass q = marked_more marks refl (λ f b. sym (or_false (atom_holds marks f)) ∙ ap (λ (c : Bool). atom_holds marks f || c) (sym (off f b (ℕ_discrete (v % 32768) f))))
-    where
-      off : (f : ℕ) → f < max_atoms → Dec (v % 32768 ≡ f) → (eqb (v % 32768) f && (leb 32768 v || rejecting)) ≡ false
-      off f b (no n) = rw (ne_eqb (v % 32768) f n) refl
-      off f b (yes e) =
-          let z : (leb 32768 v || rejecting) ≡ false = rw (lt-ltb (v % 32768) max_atoms (omega arith)) at (sym et ∙ q) in
-          rw (eq-eqb (v % 32768) f e, z) refl
+    pub marking_pass : t ≡ false → Marking rejecting before (done ++ (l ∷ [])) marks
+    unfolding here
+    marking_pass q = marked_more marks refl (λ f b. sym (or_false (atom_holds marks f)) ∙ ap (λ (c : Bool). atom_holds marks f || c) (sym (off f b (ℕ_discrete l.atom f))))
+      where
+        off : (f : ℕ) → f < max_atoms → Dec (l.atom ≡ f) → (eqb l.atom f && (l.negated || rejecting)) ≡ false
+        off f b (no n) = rw (ne_eqb l.atom f n) refl
+        off f b (yes e) =
+            let z : (l.negated || rejecting) ≡ false = rw (lt-ltb l.atom max_atoms (omega arith)) at (sym et ∙ q) in
+            rw (eq-eqb l.atom f e, z) refl
 
--- the test of one literal, as the code makes it
-pub not-small : (v : ℕ) (rejecting : Bool) → max_atoms ≤ v % 32768 → false ≡ (ltb (v % 32768) max_atoms && (leb 32768 v || rejecting))
-not-small v rejecting h = sym (rw (le-ltb (v % 32768) max_atoms h) refl)
-
-pub negated-branches : (v : ℕ) (rejecting : Bool) → v % 32768 < max_atoms → 32768 ≤ v → true ≡ (ltb (v % 32768) max_atoms && (leb 32768 v || rejecting))
-negated-branches v rejecting h k = sym (rw (lt-ltb (v % 32768) max_atoms h, le-leb 32768 v k) refl)
-
-pub plain_branches : (v : ℕ) (rejecting : Bool) → v % 32768 < max_atoms → v < 32768 → rejecting ≡ (ltb (v % 32768) max_atoms && (leb 32768 v || rejecting))
-plain_branches v rejecting h k = sym (rw (lt-ltb (v % 32768) max_atoms h, lt-leb 32768 v k) refl)
+-- all literals passed
+pub marking_end : (body : List ℕ) (rejecting : Bool) (before : List Bool) (done : List Literal) (marks : List Bool) → length before ≡ max_atoms → Marking rejecting before done marks → done ≡ literals_of body
+    → BodyMarked body rejecting before marks
+marking_end body rejecting before done marks l w e = record {
+  size = w.size ∙ sym l;
+  marked = λ f b. w.marked f b ∙ ap (λ (ls : List Literal). atom_holds before f || branches_in rejecting f ls) e;
+}

@@ -1,27 +1,21 @@
 // The branching facts of a program, from its table: by both grounds, each once, rising.
 #![tactic(auto)]
 
-ghost use Rattle.std.specs.Prelude.{◌≡◌, false, ◌&&◌, ◌||◌, ◌%◌, ◌<◌, ◌≤◌, leb, ltb, length, set, replicate};
+ghost use Rattle.std.specs.Prelude.{◌≡◌, false, ◌&&◌, ◌||◌, ◌<◌, ◌≤◌, ltb, length, set, replicate};
 ghost use Rattle.base.specs.Bounds.{max_atoms, max_branching};
 ghost use Rattle.table.specs.Table.{Tabulates};
 ghost use Rattle.table.specs.Tabled.{tabled};
 ghost use Rattle.branching.specs.Marks.{BodyMarked, BranchingMarks, Listed};
 
 use base::MAX_ATOMS;
-use format::literal_value;
+use format::{Literal, Literals};
 use table::{Row, Table, span_bytes};
 
-// Whether the literal of number v makes its fact branch: it is negated, or its rule can displace. No fact is past the bound.
-fn branches(v: usize, rejecting: bool) -> bool
-    ensures { result ≡ (ltb (v % 32768) max_atoms && (leb 32768 v || rejecting)) }
+// Whether a literal makes its fact branch: it is negated, or its rule can displace. No fact is past the bound.
+fn branches(l: Literal, rejecting: bool) -> bool
+    ensures { result ≡ (ltb l.atom max_atoms && (l.negated || rejecting)) }
 {
-    if MAX_ATOMS <= v % 32768 {
-        return false;
-    }
-    if 32768 <= v {
-        return true;
-    }
-    rejecting
+    l.atom < MAX_ATOMS && (l.negated || rejecting)
 }
 
 // Marks the facts of a body that branch.
@@ -29,13 +23,10 @@ fn mark_body(body: &[u8], rejecting: bool, marks: &mut [bool])
     requires { length marks.old ≡ max_atoms }
     ensures { BodyMarked body.now rejecting marks.old marks.new }
 {
-    let mut i: usize = 0;
-    while 2 <= body.len() - i {
-        let v = literal_value(body[i], body[i + 1]);
-        if branches(v, rejecting) {
-            marks[v % 32768] = true;
+    for l in Literals(body) {
+        if branches(l, rejecting) {
+            marks[l.atom] = true;
         }
-        i += 2;
     }
 }
 

@@ -1,5 +1,4 @@
 pub mod NameLaws
-pub mod BodyLaws
 pub mod RowLaws
 pub mod WalkLaws
 pub mod OverridingLaws

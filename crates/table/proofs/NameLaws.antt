@@ -2,12 +2,12 @@
 -- opposite and name_of, and wherever marks or masks stand at a name. Assumes nothing.
 use mathlib.Core.Path.{◌≡◌, refl, sym, ap, ◌∙◌}
 use mathlib.Core.Bool.{Bool, true, false, not, cond}
-use Prim.Native.Nat.{ℕ, ◌+◌, ◌*◌, ◌-◌, ◌%◌, ◌<◌, ◌≤◌}
+use Prim.Native.Nat.{ℕ, ◌+◌, ◌-◌, ◌<◌, ◌≤◌}
 use native.Mathlib.Omega.{arith}
 use borrow.Author.Tests.{le-leb, lt-leb}
 use lib.Dec.{T, leb, leb→le}
 use Rattle.base.specs.Bounds.{max_atoms, max_names}
-use Rattle.format.specs.Book.{Literal, literal_of}
+use Rattle.format.specs.Book.{Literal}
 use Rattle.models.specs.StableModels.{positive, negative, complement}
 use Rattle.table.specs.Names.{literal_named, name_of}
 
@@ -50,16 +50,12 @@ name_back h = go (leb max_atoms h) (λ t. leb→le max_atoms h t)
 pub one_name : (h o : ℕ) → literal_named h ≡ literal_named o → h ≡ o
 one_name h o e = sym (name_back h) ∙ ap name_of e ∙ name_back o
 
--- the name of two bytes: their value, or what it is above 32,768 and the bound on facts
-module _ (a b v : ℕ) (e : v ≡ a * 256 + b) (f : (literal_of a b).atom < max_atoms) where
-  pub name_plain : v < 32768 → (literal_named v ≡ literal_of a b) × (v < max_names)
-  unfolding literal_of
-  name_plain h =
-      let u : v ≡ v % 32768 = omega arith in
-      (rw (← e, lt-leb 32768 v h) (name_low v (omega (arith, f, e)) ∙ ap positive u), omega (arith, f, e))
+-- the name of a literal: its fact, or the bound on facts more
+pub named_plain : (l : Literal) → l.negated ≡ false → l.atom < max_atoms → literal_named l.atom ≡ l
+named_plain l e h = name_low l.atom h ∙ ap (λ (c : Bool). record { atom = l.atom; negated = c }) (sym e)
 
-  pub name-negated : 32768 ≤ v → v < 65536 → (literal_named (v - 32768 + max_atoms) ≡ literal_of a b) × (v - 32768 + max_atoms < max_names)
-  unfolding literal_of
-  name-negated h k =
-      let u : v - 32768 + max_atoms - max_atoms ≡ v % 32768 = omega arith in
-      (rw (← e, le-leb 32768 v h) (name-high (v - 32768 + max_atoms) (omega arith) ∙ ap negative u), omega (arith, f, e))
+pub named_negated : (l : Literal) → l.negated ≡ true → literal_named (l.atom + max_atoms) ≡ l
+named_negated l e =
+    name-high (l.atom + max_atoms) (omega arith)
+    ∙ ap negative {x = l.atom + max_atoms - max_atoms} {y = l.atom} (omega arith)
+    ∙ ap (λ (c : Bool). record { atom = l.atom; negated = c }) (sym e)

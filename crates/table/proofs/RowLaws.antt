@@ -11,16 +11,14 @@ use lib.Dec.{eqb}
 use lib.ListN.{length, get_or, take}
 use lib.Seq.{take-suc, take-length}
 use Rattle.base.proofs.MapLaws.{map_snoc}
-use Rattle.base.specs.Lists.{any, up_to}
+use Rattle.base.specs.Lists.{up_to}
 use Rattle.layers.specs.Masks.{bit_of}
-use Rattle.format.specs.Book.{Literal, Rule, literals_of}
-use Rattle.models.specs.StableModels.{same_literal, leans_on_itself}
+use Rattle.format.specs.Book.{Rule}
 use Rattle.base.proofs.Members.{◌∈◌}
 use Rattle.layers.proofs.WarshallLaws.{test_bit}
-use Rattle.table.specs.Names.{literal_named, literal_numbered}
 use Rattle.table.specs.declared.Row.{Row}
 use Rattle.table.specs.declared.TheConstants.{NO_ROW}
-use Rattle.table.specs.Rows.{nth, SpanFits, row_count, head_name, row_layer, row_body, row_rule, row_at, alive, rows_of, RowsBounded, RowsFit, SameRules}
+use Rattle.table.specs.Rows.{nth, SpanFits, row_count, head_name, row_layer, row_rule, row_at, alive, rows_of, RowsBounded, RowsFit, SameRules}
 use Rattle.table.proofs.NameLaws.{name_back}
 
 module _ {A B : Type 0} (f : A → B) (d : A) where
@@ -71,14 +69,6 @@ pub alive_told : (book : List ℕ) (rows : List Row) (rejects : List ℕ) (j : �
     → not t ≡ alive rejects (row_at book rows j)
 unfolding alive row_at
 alive_told book rows rejects j t e = ap not (e ∙ ap (λ (x : ℕ). eqb (bit_of (get_or rejects x 0) (row_layer rows j)) 1) (sym (name_back (head_name rows j))))
-
--- a row leans on itself where the literal of its head's number is among its body's
-pub row_leans : (book : List ℕ) (rows : List Row) (j h v : ℕ) (body : List ℕ) → h ≡ head_name rows j → literal_numbered v ≡ literal_named h → body ≡ row_body book rows j
-    → any (same_literal (literal_numbered v)) (literals_of body) ≡ leans_on_itself (row_at book rows j)
-unfolding row_at leans_on_itself
-row_leans book rows j h v body p q s =
-    ap (λ (l : Literal). any (same_literal l) (literals_of body)) (q ∙ ap literal_named p)
-    ∙ ap (λ (b : List ℕ). any (same_literal (literal_named (head_name rows j))) (literals_of b)) s
 
 -- lists that are alike at each place give the same values
 map_alike : {A B : Type 0} (f : A → B) (d : A) (xs ys : List A) → length ys ≡ length xs → ((j : ℕ) → f (get_or xs j d) ≡ f (get_or ys j d)) → map f xs ≡ map f ys

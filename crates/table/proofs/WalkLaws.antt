@@ -39,6 +39,10 @@ rule_at s at = record {
   body = literals_of (take (get_or s at 0 - 3) (drop (at + 4) s));
 }
 
+-- its head
+abbrev pub head_at : List ℕ → ℕ → Literal
+head_at s at = literal_of (get_or s (at + 2) 0) (get_or s (at + 3) 0)
+
 rule_here : (s : List ℕ) (at : ℕ) → 3 ≤ get_or s at 0 → rule_of (take (get_or s at 0) (drop (at + 1) s)) ≡ rule_at s at
 unfolding rule_of rule_at
 rule_here s at k =
@@ -214,34 +218,36 @@ abbrev pub RowsTo : List ℕ → ℕ → ℕ → List Row → ℕ → ℕ → Ty
 RowsTo book first mask rows k at = WalkedTo (row_rule book) (λ r. r) (takes_rule mask) (RowFits book) book first rows k at
 
 -- what the code tests of a record
-tested : (mask : ℕ) (s : List ℕ) (at : ℕ) → takes_rule mask (rule_at s at) ≡ (eqb (bit_of mask (get_or s (at + 1) 0)) 1 && not (is_falsity (literal_of (get_or s (at + 2) 0) (get_or s (at + 3) 0))))
+tested : (mask : ℕ) (s : List ℕ) (at : ℕ) → takes_rule mask (rule_at s at) ≡ (eqb (bit_of mask (get_or s (at + 1) 0)) 1 && not (is_falsity (head_at s at)))
 unfolding takes_rule in_mask is_constraint rule_at
 tested mask s at = refl
 
 -- the row of a record
-row_is : (s : List ℕ) (at name o : ℕ) → literal_named name ≡ literal_of (get_or s (at + 2) 0) (get_or s (at + 3) 0)
+row_is : (s : List ℕ) (at name o : ℕ) → literal_named name ≡ head_at s at
     → row_rule s (record { body = record { start = at + 4; size = get_or s at 0 - 3 }; head = name; layer = get_or s (at + 1) 0; overridden = o }) ≡ rule_at s at
 unfolding rule_at
 row_is s at name o e = ap (λ (l : Literal). record { layer = get_or s (at + 1) 0; head = l; body = literals_of (take (get_or s at 0 - 3) (drop (at + 4) s)) }) e
 
 module _ {book : List ℕ} {first : ℕ} (mask : ℕ) {rows : List Row} {k at : ℕ} (w : RowsTo book first mask rows k at) where
-  -- a record that is taken has a head with a name
-  pub head-named : at < length book → (t : Bool) → t ≡ (eqb (bit_of mask (get_or book (at + 1) 0)) 1 && not (is_falsity (literal_of (get_or book (at + 2) 0) (get_or book (at + 3) 0)))) → t ≡ true
-      → (literal_of (get_or book (at + 2) 0) (get_or book (at + 3) 0)).atom < max_atoms
-  head-named h t et e = (here w h).atom_low (second (eqb (bit_of mask (get_or book (at + 1) 0)) 1) (is_falsity (literal_of (get_or book (at + 2) 0) (get_or book (at + 3) 0))) (sym et ∙ e))
-    where
-      second : (a b : Bool) → (a && not b) ≡ true → b ≡ false
-      second true true z = sym z
-      second true false z = refl
-      second false b z = absurd (false≢true z)
+  module _ (h : at < length book) (head : Literal) (eh : head ≡ head_at book at) (t : Bool) (et : t ≡ (eqb (bit_of mask (get_or book (at + 1) 0)) 1 && not (is_falsity head))) where
+    takes : t ≡ takes_rule mask (rule_at book at)
+    takes = et ∙ ap (λ (l : Literal). eqb (bit_of mask (get_or book (at + 1) 0)) 1 && not (is_falsity l)) eh ∙ sym (tested mask book at)
 
-  module _ (h : at < length book) (t : Bool) (et : t ≡ (eqb (bit_of mask (get_or book (at + 1) 0)) 1 && not (is_falsity (literal_of (get_or book (at + 2) 0) (get_or book (at + 3) 0))))) where
+    -- a record that is taken has a head with a name
+    pub head-named : t ≡ true → head.atom < max_atoms
+    head-named e = subst (λ (l : Literal). l.atom < max_atoms) (sym eh) ((here w h).atom_low (second (eqb (bit_of mask (get_or book (at + 1) 0)) 1) (is_falsity (head_at book at)) (sym (tested mask book at) ∙ sym takes ∙ e)))
+      where
+        second : (a b : Bool) → (a && not b) ≡ true → b ≡ false
+        second true true z = sym z
+        second true false z = refl
+        second false b z = absurd (false≢true z)
+
     pub rows_skip : t ≡ false → RowsTo book first mask rows k (at + 1 + get_or book at 0)
-    rows_skip n = walk_skip w h (tested mask book at ∙ sym et ∙ n)
+    rows_skip n = walk_skip w h (sym takes ∙ n)
 
-    pub rows_more : (name : ℕ) → literal_named name ≡ literal_of (get_or book (at + 2) 0) (get_or book (at + 3) 0) → name < max_names → t ≡ true
+    pub rows_more : (name : ℕ) → literal_named name ≡ head → name < max_names → t ≡ true
         → RowsTo book first mask (set rows k (record { body = record { start = at + 4; size = get_or book at 0 - 3 }; head = name; layer = get_or book (at + 1) 0; overridden = 0 })) (k + 1) (at + 1 + get_or book at 0)
-    rows_more name en bn e = walk_more w h _ (row_is book at name 0 en) (bn, (here w h).layer_low, omega (arith, (here w h).ends, (here w h).long)) (tested mask book at ∙ sym et ∙ e)
+    rows_more name en bn e = walk_more w h _ (row_is book at name 0 (en ∙ eh)) (bn, (here w h).layer_low, omega (arith, (here w h).ends, (here w h).long)) (sym takes ∙ e)
 
   pub rows_end : length book ≤ at → RowsMade book first mask rows k
   unfolding rows_of

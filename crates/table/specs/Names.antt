@@ -1,5 +1,5 @@
 -- Literals as numbers that index an array: a plain literal is its fact, a negated one is the bound on facts more. Assumes nothing.
-use Rattle.std.specs.Prelude.{cond, ℕ, ◌+◌, ◌-◌, ◌%◌, leb}
+use Rattle.std.specs.Prelude.{cond, ℕ, ◌+◌, ◌-◌, leb}
 use Rattle.base.specs.Bounds.{max_atoms}
 use Rattle.format.specs.Book.{Literal}
 
@@ -8,7 +8,3 @@ literal_named h = record { atom = cond (leb max_atoms h) (h - max_atoms) h; nega
 
 unfoldable pub name_of : Literal → ℕ
 name_of l = cond l.negated (l.atom + max_atoms) l.atom
-
--- the literal whose two bytes make the number v
-unfoldable pub literal_numbered : ℕ → Literal
-literal_numbered v = record { atom = v % 32768; negated = leb 32768 v }

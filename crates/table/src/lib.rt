@@ -6,15 +6,15 @@ ghost use Rattle.std.specs.Prelude.{◌≡◌, ◌*◌, ◌<◌, ◌≤◌, leng
 ghost use Rattle.base.specs.Bounds.{max_atoms, max_names, max_layers, max_rules};
 ghost use Rattle.base.specs.Lists.{all, any};
 ghost use Rattle.layers.specs.Masks.{bit_of};
-ghost use Rattle.format.specs.Book.{literal_of, literals_of, is_falsity};
+ghost use Rattle.format.specs.Book.{literals_of, is_falsity};
 ghost use Rattle.models.specs.StableModels.{atom_holds, complement, same_literal, holds, body_holds, leans_on_itself};
-ghost use Rattle.table.specs.Names.{literal_named, literal_numbered};
-ghost use Rattle.table.specs.Rows.{SpanFits, span_bytes, row_count, head_name, row_layer, overridden, with_mask, row_body, row_at, alive, RowsBounded, RowsFit, SameRules};
+ghost use Rattle.table.specs.Names.{literal_named};
+ghost use Rattle.table.specs.Rows.{SpanFits, span_bytes, row_rule, row_count, head_name, row_layer, overridden, with_mask, row_body, row_at, alive, RowsBounded, RowsFit, SameRules};
 ghost use Rattle.table.specs.Overriding.{HeadLayers, unless_leaning, Overridden};
 ghost use Rattle.table.specs.Table.{program_of, RuleRecords, Prepared, RelevantLayers, RowsMade, TableMade};
 
 use base::{MAX_ATOMS, MAX_LAYERS, MAX_NAMES};
-use format::{is_falsity, literal_value};
+use format::{Literal, Literals};
 
 // Where a body stands in the book.
 #[derive(Clone, Copy)]
@@ -44,39 +44,26 @@ pub const NO_ROW: Row = Row {
 };
 
 // Whether an atom holds: one that the array does not have does not.
+#[tactic(auto, unfolding(models::specs::StableModels::atom_holds))]
 pub fn atom_holds(m: &[bool], f: usize) -> bool
     ensures { result ≡ atom_holds m.now f }
 {
-    if f < m.len() {
-        return m[f];
-    }
-    false
+    f < m.len() && m[f]
 }
 
-// Whether the literal of two bytes holds.
-pub fn literal_holds(m: &[bool], a: u8, b: u8) -> bool
-    ensures { result ≡ holds m.now (literal_of a b) }
+// Whether a literal holds.
+#[tactic(auto, unfolding(models::specs::StableModels::holds, models::specs::StableModels::signed))]
+pub fn literal_holds(m: &[bool], l: Literal) -> bool
+    ensures { result ≡ holds m.now l }
 {
-    let v = literal_value(a, b);
-    let stands = atom_holds(m, v % 32768);
-    if 32768 <= v {
-        return !stands;
-    }
-    stands
+    atom_holds(m, l.atom) != l.negated
 }
 
 // Whether every literal of a body's bytes holds.
 pub fn body_holds(m: &[bool], body: &[u8]) -> bool
     ensures { result ≡ all (holds m.now) (literals_of body.now) }
 {
-    let mut i: usize = 0;
-    while 2 <= body.len() - i {
-        if !literal_holds(m, body[i], body[i + 1]) {
-            return false;
-        }
-        i += 2;
-    }
-    true
+    Literals(body).all(|l| literal_holds(m, l))
 }
 
 // The name of a row's head.
@@ -155,16 +142,27 @@ pub fn opposite(h: usize) -> usize
     h - MAX_ATOMS
 }
 
-// The name of the literal of two bytes.
-fn name_of(a: u8, b: u8) -> usize
-    requires { (literal_of a b).atom < max_atoms }
-    ensures { (literal_named result ≡ literal_of a b) × (result < max_names) }
+// The name of a literal.
+#[tactic(auto, using(crate::proofs::NameLaws::named_negated, crate::proofs::NameLaws::named_plain))]
+fn name_of(l: Literal) -> usize
+    requires { l.atom < max_atoms }
+    ensures { (literal_named result ≡ l) × (result < max_names) }
 {
-    let v = literal_value(a, b);
-    if v < 32768 {
-        return v;
+    if l.negated {
+        return l.atom + MAX_ATOMS;
     }
-    v - 32768 + MAX_ATOMS
+    l.atom
+}
+
+// The literal of a name.
+#[tactic(auto, unfolding(crate::specs::Names::literal_named))]
+fn literal_named(h: usize) -> Literal
+    ensures { result ≡ literal_named h }
+{
+    if h < MAX_ATOMS {
+        return Literal { atom: h, negated: false };
+    }
+    Literal { atom: h - MAX_ATOMS, negated: true }
 }
 
 // Whether the mask has the layer.
@@ -176,14 +174,11 @@ pub fn has_layer(mask: u32, layer: usize) -> bool
 }
 
 // Whether a record with that layer and head gives a row: the mask has its layer, and it is no constraint, whose head has no name.
-fn takes_rule(mask: u32, layer: usize, a: u8, b: u8) -> bool
+fn takes_rule(mask: u32, layer: usize, head: Literal) -> bool
     requires { layer < max_layers }
-    ensures { result ≡ (eqb (bit_of mask layer) 1 && not (is_falsity (literal_of a b))) }
+    ensures { result ≡ (eqb (bit_of mask layer) 1 && not (is_falsity head)) }
 {
-    if has_layer(mask, layer) {
-        return !is_falsity(a, b);
-    }
-    false
+    has_layer(mask, layer) && !head.is_falsity()
 }
 
 // Writes the rows of the rules whose layer is in the mask, in their order, and says how many there are: one walk over the records by
@@ -200,16 +195,15 @@ pub fn make_rows(book: &[u8], first: usize, mask: u32, rows: &mut [Row]) -> usiz
     while at < book.len() {
         let len = book[at];
         let layer = book[at + 1];
-        let a = book[at + 2];
-        let b = book[at + 3];
-        if takes_rule(mask, layer as usize, a, b) {
+        let head = Literal::from_bytes(book[at + 2], book[at + 3]);
+        if takes_rule(mask, layer as usize, head) {
             let body = Span {
                 start: (at + 4) as u16,
                 size: len - 3,
             };
             rows[count] = Row {
                 body,
-                head: name_of(a, b) as u16,
+                head: name_of(head) as u16,
                 layer,
                 overridden: 0,
             };
@@ -225,76 +219,40 @@ fn head_layers(rows: &[Row]) -> [u32; MAX_NAMES]
     requires { RowsBounded rows.now }
     ensures { HeadLayers rows.now result (row_count rows.now) }
 {
-    let count = rows.len();
-    let mut masks: [u32; MAX_NAMES] = [0; MAX_NAMES];
-    let mut j = 0;
-    while j < count {
-        let h = row_head(rows, j);
-        let layer = row_layer(rows, j);
-        masks[h] = masks[h] | (1 << (layer as u32));
-        j += 1;
+    let mut masks = [0; MAX_NAMES];
+    for row in rows {
+        masks[row.head as usize] |= 1 << (row.layer as u32);
     }
     masks
 }
 
-// The number that the two bytes of a literal make, by its name.
-fn number_of(h: usize) -> usize
-    requires { h < max_names }
-    ensures { (literal_numbered result ≡ literal_named h) × (result < 65536) }
+// Whether a literal is among those of a body's bytes, sign and all.
+fn has_literal(body: &[u8], l: Literal) -> bool
+    ensures { result ≡ any (same_literal l) (literals_of body.now) }
 {
-    if h < MAX_ATOMS {
-        return h;
-    }
-    h - MAX_ATOMS + 32768
+    Literals(body).any(|other| l == other)
 }
 
-// Whether the literal of number v is among those of a body's bytes.
-fn has_literal(body: &[u8], v: usize) -> bool
-    requires { v < 65536 }
-    ensures { result ≡ any (same_literal (literal_numbered v)) (literals_of body.now) }
+// Whether a row leans on itself: its head is among its own body's literals.
+#[tactic(auto, unfolding(models::specs::StableModels::leans_on_itself))]
+fn row_leans(book: &[u8], row: Row) -> bool
+    requires { SpanFits book.now row.body }
+    ensures { result ≡ leans_on_itself (row_rule book.now row) }
 {
-    let mut i: usize = 0;
-    while 2 <= body.len() - i {
-        if literal_value(body[i], body[i + 1]) == v {
-            return true;
-        }
-        i += 2;
-    }
-    false
-}
-
-// Whether a row leans on itself: its head is among its own body's literals, sign and all.
-fn row_leans(book: &[u8], rows: &[Row], j: usize) -> bool
-    requires rows_fit { RowsFit book.now rows.now }
-    requires j_bound { j < row_count rows.now }
-    ensures { result ≡ leans_on_itself (row_at book.now rows.now j) }
-{
-    let v = number_of(row_head(rows, j));
-    has_literal(row_body(book, rows, j), v)
+    has_literal(span_bytes(book, row.body), literal_named(row.head as usize))
 }
 
 // The mask of the layers in which a row overrides rules, from that of the lower layers in which the opposite head stands: empty where it
 // leans on itself. The body is read only where there is a rule to override.
-fn unless_leaning(book: &[u8], rows: &[Row], j: usize, mask: u32) -> u32
-    requires rows_fit { RowsFit book.now rows.now }
-    requires j_bound { j < row_count rows.now }
-    ensures { result ≡ unless_leaning (row_at book.now rows.now j) mask }
+#[tactic(auto, unfolding(crate::specs::Overriding::unless_leaning))]
+fn unless_leaning(book: &[u8], row: Row, mask: u32) -> u32
+    requires { SpanFits book.now row.body }
+    ensures { result ≡ unless_leaning (row_rule book.now row) mask }
 {
-    if mask == 0 {
-        return mask;
-    }
-    if row_leans(book, rows, j) {
+    if mask != 0 && row_leans(book, row) {
         return 0;
     }
     mask
-}
-
-// Writes a row's mask.
-fn put_overridden(rows: &mut [Row], j: usize, mask: u32)
-    requires { j < row_count rows.old }
-    ensures { rows.new ≡ with_mask rows.old j mask }
-{
-    rows[j].overridden = mask;
 }
 
 // Writes each row's mask of the layers in which it overrides a rule: `lower` has each layer's mask of the layers below it.
@@ -303,14 +261,9 @@ pub fn overridden_layers(book: &[u8], rows: &mut [Row], lower: [u32; MAX_LAYERS]
     ensures { SameRules rows.old rows.new × Overridden book.now rows.old lower rows.new (row_count rows.old) }
 {
     let heads = head_layers(rows);
-    let count = rows.len();
-    let mut j = 0;
-    while j < count {
-        let o = opposite(row_head(rows, j));
-        let layer = row_layer(rows, j);
-        let mask = unless_leaning(book, rows, j, heads[o] & lower[layer]);
-        put_overridden(rows, j, mask);
-        j += 1;
+    for row in rows.iter_mut() {
+        let o = opposite(row.head as usize);
+        row.overridden = unless_leaning(book, *row, heads[o] & lower[row.layer as usize]);
     }
 }
 
@@ -408,13 +361,5 @@ impl<'a> Table<'a> {
     {
         let row = self.rows[j];
         !has_layer(rejects[row.head as usize], row.layer as usize)
-    }
-
-    // Whether a row leans on itself: its head is among its own body's literals, sign and all.
-    pub fn leans(self, j: usize) -> bool
-        requires { j < row_count self.rows.now }
-        ensures { result ≡ leans_on_itself (row_at self.entry.book.now self.entry.rows.now j) }
-    {
-        has_literal(self.body(j), number_of(self.head(j)))
     }
 }

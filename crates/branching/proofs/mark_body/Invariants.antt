@@ -1,13 +1,6 @@
--- The invariant (`Marking`): what is marked, with what the literals left would mark, is what all of them mark. The bytes left fall.
-use mathlib.Core.Path.{◌≡◌}
-use Prim.Native.Nat.{◌-◌}
-use lib.ListN.{length}
-use Rattle.base.specs.Bounds.{max_atoms}
+-- The invariant (`Marking`): marked are the facts that the literals passed make branch, besides those that were.
 use Rattle.branching.proofs.MarkLaws.{Marking}
 use Rattle.branching.proofs.mark_body.Given as goal
 
-abbrev pub invariant-loop-i : goal.invariant-loop-i
-invariant-loop-i l = (length l.marks ≡ max_atoms) × Marking l.body l.rejecting l.initial.marks l.i l.marks
-
-abbrev pub decreases-loop-i : goal.decreases-loop-i
-decreases-loop-i l = length l.body - l.i
+abbrev pub invariant-loop-l : goal.invariant-loop-l
+invariant-loop-l l = Marking l.rejecting l.initial.marks l.yielded l.marks

@@ -1,4 +1,4 @@
--- The invariant: the masks have the bit of every row passed. The rows left fall.
+-- The invariant: the masks have the bit of every row passed.
 use mathlib.Core.Path.{refl, subst}
 use lib.ListN.{length}
 use Rattle.table.specs.Overriding.{HeadLayers}
@@ -6,14 +6,14 @@ use Rattle.table.proofs.OverridingLaws.{heads-start, heads-more}
 use native.Mathlib.Omega.{arith}
 use Rattle.table.proofs.head_layers.Goals as goal
 
-pub loop-j-init : goal.loop-j-init
-loop-j-init c =
-    (refl, omega arith, heads-start c.args.rows.now)
+pub loop-row-init : goal.loop-row-init
+loop-row-init c =
+    heads-start c.args.rows.now
 
-pub loop-j-preserved : goal.loop-j-preserved
-loop-j-preserved c =
-    (refl, omega arith, heads-more c.args.rows.now c.loop-j.masks c.loop-j.j c.row_head-h.result c.row_layer-layer.result c.loop-j.invariant.2 c.row_head-h.ensures.0 c.row_head-h.ensures.1 c.row_layer-layer.ensures.0 c.row_layer-layer.ensures.1)
+pub loop-row-preserved : goal.loop-row-preserved
+loop-row-preserved c =
+    heads-more c.args.rows.now c.loop-row.masks c.loop-row.row-index _ _ c.loop-row.invariant refl (c.requires.name c.loop-row.row-index c.loop-row-test.true) refl (c.requires.layer_low c.loop-row.row-index c.loop-row-test.true)
 
 pub returns : goal.returns
 returns c =
-    subst (HeadLayers c.args.rows.now c.loop-j.masks) {x = c.loop-j.j} {y = length c.args.rows.now} (omega (arith, c.loop-j-test.false, c.loop-j.invariant.1)) c.loop-j.invariant.2
+    subst (HeadLayers c.args.rows.now c.loop-row.masks) {x = c.loop-row.row-index} {y = length c.args.rows.now} (omega (arith, c.loop-row-test.false)) c.loop-row.invariant

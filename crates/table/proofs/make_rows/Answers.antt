@@ -36,7 +36,7 @@ overflow_sub-body c =
 
 pub name_of-requires : goal.name_of-requires
 name_of-requires c =
-    head-named c.args.mask c.loop-at.invariant (search rules) _ c.takes_rule.ensures c.if-takes_rule.true
+    head-named c.args.mask c.loop-at.invariant (search rules) _ c.from_bytes-head.ensures _ c.takes_rule.ensures c.if-takes_rule.true
 
 pub bounds-rows-count : goal.bounds-rows-count
 bounds-rows-count c =
@@ -45,8 +45,8 @@ bounds-rows-count c =
 pub loop-at-preserved : goal.loop-at-preserved
 loop-at-preserved c =
     elim c.if-takes_rule.branch [
-      | then-takes_rule w ↦ rw (w.rows-is, w.count-is) (rows_more c.args.mask c.loop-at.invariant (search rules) c.takes_rule.result c.takes_rule.ensures w.name_of.result w.name_of.ensures.0 w.name_of.ensures.1 w.if-takes_rule.true)
-      | else-takes_rule w ↦ rw (w.rows-is, w.count-is) (rows_skip c.args.mask c.loop-at.invariant (search rules) c.takes_rule.result c.takes_rule.ensures w.if-takes_rule.false)
+      | then-takes_rule w ↦ rw (w.rows-is, w.count-is) (rows_more c.args.mask c.loop-at.invariant (search rules) _ c.from_bytes-head.ensures c.takes_rule.result c.takes_rule.ensures w.name_of.result w.name_of.ensures.0 w.name_of.ensures.1 w.if-takes_rule.true)
+      | else-takes_rule w ↦ rw (w.rows-is, w.count-is) (rows_skip c.args.mask c.loop-at.invariant (search rules) _ c.from_bytes-head.ensures c.takes_rule.result c.takes_rule.ensures w.if-takes_rule.false)
     ]
 
 pub returns : goal.returns

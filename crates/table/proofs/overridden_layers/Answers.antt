@@ -1,23 +1,29 @@
 -- The invariant: the masks of the rows passed have the lower layers in which the opposite head stands, or none where the row leans on
--- itself, and the other numbers of the rows are as they were. The rows left fall.
-use mathlib.Core.Path.{refl, subst, ◌∙◌}
+-- itself, and the rest of the rows is as it was.
+use mathlib.Core.Path.{subst}
 use lib.ListN.{length}
+use Rattle.table.specs.Rows.{row_at}
 use Rattle.table.specs.Overriding.{Overridden}
 use Rattle.table.proofs.RowLaws.{fits-same, name_kept, layer_kept}
 use Rattle.table.proofs.OverridingLaws.{overridden-start, rules-start, rules-more, overridden-more}
-use borrow.Author.Rules.{rules}
 use native.Mathlib.Omega.{arith}
 use Rattle.table.proofs.overridden_layers.Goals as goal
 
-pub loop-j-init : goal.loop-j-init
-loop-j-init c =
-    (refl, omega arith, rules-start c.args.rows.now, overridden-start c.args.book.now c.args.rows.now c.args.lower c.args.rows.now, c.requires)
+pub loop-row-init : goal.loop-row-init
+loop-row-init c =
+    record { fits = c.requires; same = rules-start c.args.rows.now; masks = overridden-start c.args.book.now c.args.rows.now c.args.lower c.args.rows.now }
 
-pub loop-j-preserved : goal.loop-j-preserved
-loop-j-preserved c =
-    let rules = rules-more c.args.rows.now c.loop-j.rows c.loop-j.invariant.2 c.loop-j.j c.unless_leaning-mask.result (search rules) in
-    rw c.put_overridden.ensures (refl, omega arith, rules, overridden-more c.args.book.now c.args.rows.now c.args.lower c.head_layers-heads.result c.loop-j.rows c.loop-j.invariant.2 c.loop-j.j c.row_head.result c.opposite-o.result c.row_layer-layer.result c.unless_leaning-mask.result c.loop-j.invariant.3 (search rules) c.head_layers-heads.ensures (c.row_head.ensures.0 ∙ name_kept c.loop-j.invariant.2 c.loop-j.j) c.opposite-o.ensures.0 (c.row_layer-layer.ensures.0 ∙ layer_kept c.loop-j.invariant.2 c.loop-j.j) c.unless_leaning-mask.ensures, fits-same rules c.requires)
+pub loop-row-preserved : goal.loop-row-preserved
+unfolding row_at
+loop-row-preserved c =
+    let r = c.loop-row.invariant.same in
+    let rules = rules-more c.args.rows.now c.loop-row.rows r c.loop-row.row-index c.unless_leaning-row.result c.loop-row-test.true in
+    record {
+      fits = fits-same rules c.requires;
+      same = rules;
+      masks = overridden-more c.args.book.now c.args.rows.now c.args.lower c.head_layers-heads.result c.loop-row.rows r c.loop-row.row-index _ c.opposite-o.result _ c.unless_leaning-row.result c.loop-row.invariant.masks c.loop-row-test.true c.head_layers-heads.ensures (name_kept r c.loop-row.row-index) c.opposite-o.ensures.0 (layer_kept r c.loop-row.row-index) c.unless_leaning-row.ensures;
+    }
 
 pub returns : goal.returns
 returns c =
-    (c.loop-j.invariant.2, subst (Overridden c.args.book.now c.args.rows.now c.args.lower c.loop-j.rows) {x = c.loop-j.j} {y = length c.args.rows.now} (omega (arith, c.loop-j-test.false, c.loop-j.invariant.1)) c.loop-j.invariant.3)
+    (c.loop-row.invariant.same, subst (Overridden c.args.book.now c.args.rows.now c.args.lower c.loop-row.rows) {x = c.loop-row.row-index} {y = length c.args.rows.now} (omega (arith, c.loop-row-test.false)) c.loop-row.invariant.masks)
