@@ -15,7 +15,7 @@ use Rattle.models.specs.Branching.{can_reject, branching, branching_atoms, branc
 use Rattle.table.specs.declared.Row.{Row}
 use Rattle.table.specs.Table.{Tabulates}
 use Rattle.table.specs.Tabled.{tabled}
-use Rattle.branching.specs.Marks.{BranchingMarks, Listed}
+use Rattle.branching.specs.Marks.{BranchingMarks}
 
 -- the branching facts below f are counted, and listed as long as there is a place for them
 pub record ListedTo (P : Program) (f : ℕ) (atoms : List ℕ) (count : ℕ) : Type 0 where
@@ -63,13 +63,14 @@ module _ (P : Program) where
         let q : filter (branching P) (up_to f) ≡ filter (branching P) (up_to (f + 1)) = sym (next false e ∙ append-nil (filter (branching P) (up_to f))) in
         record { few = omega (arith, w.few); size = w.size; count_is = w.count_is ∙ ap length q; listed = λ h. w.listed h ∙ q }
 
-  pub listed_end : (f : ℕ) (atoms : List ℕ) (count : ℕ) → f ≡ P.atoms → ListedTo P f atoms count → Listed P atoms count
-  unfolding branching_atoms branching_count
-  listed_end f atoms count e w = record {
-    size = w.size;
-    count_is = w.count_is ∙ ap (λ (k : ℕ). length (filter (branching P) (up_to k))) e;
-    atoms_are = λ h. w.listed h ∙ ap (λ (k : ℕ). filter (branching P) (up_to k)) e;
-  }
+  module _ (f : ℕ) (atoms : List ℕ) (count : ℕ) (e : f ≡ P.atoms) (w : ListedTo P f atoms count) where
+    pub listed_all : count ≤ max_branching → take count atoms ≡ branching_atoms P
+    unfolding branching_atoms
+    listed_all h = w.listed h ∙ ap (λ (k : ℕ). filter (branching P) (up_to k)) e
+
+    pub listed_many : count ≡ branching_count P
+    unfolding branching_atoms branching_count
+    listed_many = w.count_is ∙ ap (λ (k : ℕ). length (filter (branching P) (up_to k))) e
 
 -- what is marked branches, however many facts there are
 pub marked-branches : (book : List ℕ) (rows : List Row) (n : ℕ) (marks : List Bool) → BranchingMarks (tabled book rows 0) marks → (f : ℕ) → f < max_atoms → (c : Bool) → get_or marks f false ≡ c

@@ -1,15 +1,16 @@
 // The branching facts of a program, from its table: by both grounds, each once, rising.
 #![tactic(auto)]
 
-ghost use Rattle.std.specs.Prelude.{◌≡◌, false, ◌&&◌, ◌||◌, ◌<◌, ◌≤◌, ltb, length, set, replicate};
+ghost use Rattle.std.specs.Prelude.{◌≡◌, false, ◌&&◌, ◌||◌, ◌<◌, ◌≤◌, List, ℕ, ltb, length, set, take, replicate};
 ghost use Rattle.base.specs.Bounds.{max_atoms, max_branching};
 ghost use Rattle.table.specs.Table.{Tabulates};
 ghost use Rattle.table.specs.Tabled.{tabled};
 ghost use Rattle.branching.specs.Marks.{BodyMarked, BranchingMarks, Listed};
 
-use base::MAX_ATOMS;
+use base::{MAX_ATOMS, MAX_BRANCHING};
 use format::{Literal, Literals};
-use table::{Row, Table, span_bytes};
+use std::marker::Model;
+use table::{Table, span_bytes};
 
 // Whether a literal makes its fact branch: it is negated, or its rule can displace. No fact is past the bound.
 fn branches(l: Literal, rejecting: bool) -> bool
@@ -52,23 +53,47 @@ fn put_atom(atoms: &mut [u32], at: usize, f: usize)
     }
 }
 
-// Lists the branching facts, rising, and says how many they are. More than a search goes through have no place in the list.
-pub fn branching_atoms(book: &[u8], rows: &[Row], n: usize, atoms: &mut [u32]) -> usize
-    requires tabulates { Tabulates (tabled book.now rows.now n) book.now rows.now }
+// The branching facts, rising: as many as a search goes through.
+#[derive(Drop)]
+pub struct Branching {
+    atoms: [u32; MAX_BRANCHING],
+    count: usize,
+}
+
+impl Model for Branching {
+    ghost Value = { List ℕ };
+
+    ghost view = { λ b. take b.count b.atoms };
+
+    ghost invariant = { λ b. b.count ≤ max_branching };
+}
+
+impl Branching {
+    pub fn as_slice(&self) -> &[u32]
+        ensures { result.now ≡ self.now }
+    {
+        &self.atoms[..self.count]
+    }
+}
+
+// The branching facts; where they are more than a search goes through, how many they are.
+pub fn branching_atoms(table: Table, n: usize) -> Result<Branching, usize>
+    requires tabulates { Tabulates (tabled table.book.now table.rows.now n) table.book.now table.rows.now }
     requires n_le_max_atoms { n ≤ max_atoms }
-    requires atoms_len { length atoms.old ≡ max_branching }
-    ensures { Listed (tabled book.now rows.now n) atoms.new result }
+    ensures { Listed (tabled table.entry.book.now table.entry.rows.now n) result }
 {
     let mut marks = [false; MAX_ATOMS];
-    mark_branching(Table { book, rows }, &mut marks);
+    mark_branching(table, &mut marks);
+    let mut atoms = [0; MAX_BRANCHING];
     let mut count = 0;
-    let mut f = 0;
-    while f < n {
+    for f in 0..n {
         if marks[f] {
-            put_atom(atoms, count, f);
+            put_atom(&mut atoms, count, f);
             count += 1;
         }
-        f += 1;
     }
-    count
+    if MAX_BRANCHING < count {
+        return Err(count);
+    }
+    Ok(Branching { atoms, count })
 }

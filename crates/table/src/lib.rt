@@ -160,9 +160,15 @@ fn literal_named(h: usize) -> Literal
     ensures { result ≡ literal_named h }
 {
     if h < MAX_ATOMS {
-        return Literal { atom: h, negated: false };
+        return Literal {
+            atom: h,
+            negated: false,
+        };
     }
-    Literal { atom: h - MAX_ATOMS, negated: true }
+    Literal {
+        atom: h - MAX_ATOMS,
+        negated: true,
+    }
 }
 
 // Whether the mask has the layer.
