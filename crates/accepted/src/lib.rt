@@ -15,7 +15,7 @@ ghost use Rattle.accepted.specs.Driven.{has_absent_layer, driven_tests, layer_te
 
 use bans::ban_table;
 use base::MAX_LAYERS;
-use book::{Cause, check_book, read_header};
+use book::{Cause, Header, check_book};
 use table::{Row, Span, rule_table};
 
 // Whether the set has a layer that a book of so many layers lacks. A book of MAX_LAYERS lacks none: every set is lawful there, and 32 bits
@@ -64,7 +64,7 @@ impl<'a> Driving<'a> {
     pub fn atom_count(&self) -> usize
         ensures { (result ≡ (book_of self.now.book.now).atoms) × (0 < result) × (result ≤ max_atoms) }
     {
-        read_header(self.book).atoms
+        Header::read(self.book).atoms
     }
 
     // Writes the table of the rules that count at the layer, and says how many there are.
@@ -72,7 +72,7 @@ impl<'a> Driving<'a> {
         requires { length rows.old ≡ max_rules }
         ensures { TableMade (driven_program self.now) self.now.book.now rows.new result }
     {
-        let from = read_header(self.book).rules + 6;
+        let from = Header::read(self.book).rules + 6;
         rule_table(self.book, from, self.layer, self.off, self.lower, rows)
     }
 
@@ -81,7 +81,7 @@ impl<'a> Driving<'a> {
         requires { length bans.old ≡ max_rules }
         ensures { BansMade (driven_program self.now).constraints self.now.book.now bans.new result }
     {
-        let from = read_header(self.book).rules + 6;
+        let from = Header::read(self.book).rules + 6;
         ban_table(self.book, from, self.layer, self.off, self.lower, bans)
     }
 }
@@ -92,7 +92,7 @@ pub fn check_layer(book: &[u8], layer: u32, off: u32) -> Result<Driving<'_>, Cau
     ensures driving { IfOk result (λ d. (d.book.now ≡ book.now) × (d.layer ≡ layer) × (d.off ≡ off)) }
 {
     let lower = check_book(book)?;
-    let header = read_header(book);
+    let header = Header::read(book);
     check_driven(header.layers, layer as usize, off)?;
     Ok(Driving {
         book,

@@ -1,14 +1,14 @@
 -- Causes 7 and 8: the closed masks of the arrows have a bit exactly where a layer is below another, so a layer is below itself where
--- there is one on the diagonal. Used by repeated_arrow, lower_masks and check_arrows. Assumes nothing.
+-- there is one on the diagonal. Used by check_arrows. Assumes nothing.
 use mathlib.Core.Path.{◌≡◌, refl, sym, ap, subst, ◌∙◌}
 use mathlib.Core.Bool.{Bool, true, false, not, ◌&&◌}
 use mathlib.Core.List.Memᴰ
 use mathlib.Core.List.{List, map}
-use Prim.Native.Nat.{ℕ, ◌-◌, ◌<◌, ◌≤◌}
+use Prim.Native.Nat.{ℕ, ◌<◌, ◌≤◌}
 use native.Mathlib.Omega.{arith}
 use borrow.Author.Tests.{eq-eqb, eqb-true, ltb-true, lt-ltb, not-false}
 use lib.Dec.{T, eqb, ltb, eqb→eq, eqb_refl}
-use lib.ListN.{length, get_or, take, drop}
+use lib.ListN.{length, get_or}
 use Rattle.base.specs.Bounds.{max_layers}
 use Rattle.base.specs.Lists.{all, any, up_to}
 use Rattle.format.specs.Book.{records, arrow_of, arrow_records, rule_records, arrows_of, atom_count, layer_count}
@@ -19,7 +19,7 @@ use Rattle.book.specs.Checks.{HeaderOf}
 use Rattle.base.proofs.Members.{◌∈◌, and_left, and_right, and_both, all_at, all_of, any_at, any_of, same_test}
 use Rattle.base.proofs.UpTo.{passed, true_of}
 use Rattle.layers.proofs.BelowLaws.{below-sound, below_complete}
-use Rattle.format.proofs.SectionLaws.{or_first, arrow-part}
+use Rattle.format.proofs.SectionLaws.{or_first}
 use Rattle.book.proofs.RangeLaws.{ranges}
 use Rattle.book.proofs.MaskLaws.{linked}
 
@@ -121,26 +121,28 @@ module _ {s : List ℕ} {n l k : ℕ} (h : HeaderOf s n l k) (five : is_out_of_r
       let w : (r : List ℕ) × r ∈ arrow_records s × (arrow_of r ≡ a) = Memᴰ.of_map arrow_of (arrow_records s) i in
       subst (λ (b : Arrow). (b.earlier < layer_count s) × (b.later < layer_count s)) w.2 (both_low (layer_count s) w.0 (all_at (arrow_ok (layer_count s)) arrows_good w.1))
 
-  pub part_good : all (arrow_ok max_layers) (records (take (k - 14) (drop 14 s))) ≡ true
-  part_good =
-      ap (all (arrow_ok max_layers)) (arrow-part s k h.rules_at_lem)
-      ∙ passed (all (arrow_ok max_layers) (arrow_records s)) (all_of (arrow_ok max_layers) (arrow_records s) (λ r i. wider (layer_count s) r layers_few (all_at (arrow_ok (layer_count s)) arrows_good i)))
+  -- the bytes of the arrow section's records, as the code cuts them
+  module _ (part : List ℕ) (ep : records part ≡ arrow_records s) where
+    pub part_good : all (arrow_ok max_layers) (records part) ≡ true
+    part_good =
+        ap (all (arrow_ok max_layers)) ep
+        ∙ passed (all (arrow_ok max_layers) (arrow_records s)) (all_of (arrow_ok max_layers) (arrow_records s) (λ r i. wider (layer_count s) r layers_few (all_at (arrow_ok (layer_count s)) arrows_good i)))
 
-  pub seven_is : (t : Bool) → t ≡ repeats (map arrow_of (records (take (k - 14) (drop 14 s)))) → t ≡ repeats_arrow s
-  unfolding repeats_arrow arrows_of
-  seven_is t e = e ∙ ap (λ (rs : List (List ℕ)). repeats (map arrow_of rs)) (arrow-part s k h.rules_at_lem)
+    pub seven_is : (t : Bool) → t ≡ repeats (map arrow_of (records part)) → t ≡ repeats_arrow s
+    unfolding repeats_arrow arrows_of
+    seven_is t e = e ∙ ap (λ (rs : List (List ℕ)). repeats (map arrow_of rs)) ep
 
-  -- the masks of the arrows, as the code makes them, and their closure
-  module _ (start : List ℕ) (reads : (x y : ℕ) → marked start y x ≡ linked (map arrow_of (records (take (k - 14) (drop 14 s)))) x y) where
-    reads-arrows : (x y : ℕ) → marked start y x ≡ linked (arrows_of s) x y
-    unfolding arrows_of
-    reads-arrows x y = reads x y ∙ ap (λ (rs : List (List ℕ)). linked (map arrow_of rs) x y) (arrow-part s k h.rules_at_lem)
+    -- the masks of the arrows, as the code makes them, and their closure
+    module _ (start : List ℕ) (reads : (x y : ℕ) → marked start y x ≡ linked (map arrow_of (records part)) x y) where
+      reads-arrows : (x y : ℕ) → marked start y x ≡ linked (arrows_of s) x y
+      unfolding arrows_of
+      reads-arrows x y = reads x y ∙ ap (λ (rs : List (List ℕ)). linked (map arrow_of rs) x y) ep
 
-    pub masks_empty : EmptyFrom l start
-    masks_empty = empty_from (arrows_of s) start reads-arrows l (λ a i. omega (arith, (arrows-low a i).1, h.layers_are))
+      pub masks_empty : EmptyFrom l start
+      masks_empty = empty_from (arrows_of s) start reads-arrows l (λ a i. omega (arith, (arrows-low a i).1, h.layers_are))
 
-    pub masks_are : (m : List ℕ) → ((i j : ℕ) → Linked m i j → Way start i j) → ((i j : ℕ) → Way start i j → Linked m i j) → LowerMasks (arrows_of s) m
-    masks_are m = closed (arrows_of s) start reads-arrows m (λ a i. omega (arith, (arrows-low a i).1, layers_few))
+      pub masks_are : (m : List ℕ) → ((i j : ℕ) → Linked m i j → Way start i j) → ((i j : ℕ) → Way start i j → Linked m i j) → LowerMasks (arrows_of s) m
+      masks_are m = closed (arrows_of s) start reads-arrows m (λ a i. omega (arith, (arrows-low a i).1, layers_few))
 
   pub count-few : l ≤ max_layers
   count-few = omega (arith, h.layers_are, layers_few)

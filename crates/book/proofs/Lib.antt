@@ -2,5 +2,4 @@ pub mod RecordLaws
 pub mod RangeLaws
 pub mod MaskLaws
 pub mod CycleLaws
-pub mod VerdictLaws
 pub mod Accepted

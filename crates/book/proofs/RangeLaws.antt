@@ -1,35 +1,22 @@
 -- The header, and causes 5 and 6: the tests of the code decide whether the numbers are in their ranges and whether the records of both
--- sections are good, and what follows for the numbers where cause 5 does not apply. Used by outside, read_header, out_of_range,
--- bad_record and wherever the arrow section is cut; CycleLaws and the crate `accepted` cite `ranges`. Assumes nothing.
+-- sections are good, and what follows for the numbers where cause 5 does not apply. Used by read, out_of_range,
+-- bad_record and wherever a section is cut; CycleLaws and the crate `accepted` cite `ranges`. Assumes nothing.
 use mathlib.Core.Path.{◌≡◌, refl, sym, ap, ◌∙◌}
 use mathlib.Core.Bool.{Bool, true, false, not, ◌&&◌, ◌||◌}
 use mathlib.Core.List.{List}
-use Prim.Native.Nat.{ℕ, ◌+◌, ◌-◌, ◌<◌, ◌≤◌}
+use Prim.Native.Nat.{ℕ, ◌+◌, ◌≤◌}
 use native.Mathlib.Omega.{arith}
-use native.Mathlib.Decide.{dec_lt}
-use borrow.Author.Tests.{le-leb, lt-leb, le-ltb, lt-ltb, leb-true, not-false}
-use lib.Dec.{leb, ltb}
-use lib.ListN.{length, get_or, take, drop}
+use borrow.Author.Tests.{leb-true, not-false}
+use lib.Dec.{leb}
+use lib.ListN.{length, get_or}
 use Rattle.base.specs.Bounds.{max_atoms, max_layers, max_arrows, max_rules}
 use Rattle.base.specs.Lists.{all}
-use Rattle.format.specs.Book.{u16_at, u32_at, records, section_bytes, section_count, section_end, atom_count, layer_count, rule_section, arrow_records, rule_records}
+use Rattle.format.specs.Book.{u16_at, u32_at, section_bytes, section_count, section_end, atom_count, layer_count, rule_section, arrow_records, rule_records}
 use Rattle.format.specs.Sections.{has_broken_section}
 use Rattle.book.specs.Causes.{within, arrow_ok, rule_ok, is_out_of_range, has_bad_record}
 use Rattle.book.specs.Checks.{HeaderOf}
 use Rattle.layers.proofs.BitLaws.{and_left, and_right}
-use Rattle.format.proofs.SectionLaws.{or_first, or_second, Laid, laid, arrow-part, rule_part}
-
-pub out_low : (low high x : ℕ) → x < low → true ≡ not (within low high x)
-unfolding within
-out_low low high x h = sym (rw (lt-leb low x h) refl)
-
-pub out_high : (low high x : ℕ) → low ≤ x → ltb high x ≡ not (within low high x)
-unfolding within
-out_high low high x h = go (dec_lt high x)
-  where
-    go : Dec (high < x) → ltb high x ≡ not (leb low x && leb x high)
-    go (yes i) = rw (lt-ltb high x i, le-leb low x h, lt-leb x high i) refl
-    go (no i) = rw (le-ltb high x (omega arith), le-leb low x h, le-leb x high (omega arith)) refl
+use Rattle.format.proofs.SectionLaws.{or_first, or_second, Laid, laid}
 
 -- the header, as the code reads it
 pub header_of : {s : List ℕ} → has_broken_section s ≡ false → (n l b : ℕ) → n ≡ u16_at s 5 → l ≡ get_or s 7 0 → b ≡ u32_at s 8 → HeaderOf s n l (14 + b)
@@ -39,25 +26,6 @@ header_of e n l b en el eb = record { whole = e; atoms_are = en; layers_are = el
 -- where both sections lie
 pub header_in : {s : List ℕ} {n l k : ℕ} → HeaderOf s n l k → (14 ≤ k) × (k + 6 ≤ length s)
 header_in {s} h = let w : Laid s = laid s h.whole in (omega (arith, w.first_in, h.rules_at_lem), omega (arith, w.second_in, h.rules_at_lem))
-
-module _ {s : List ℕ} {n l k : ℕ} (h : HeaderOf s n l k) (t1 : Bool) (e1 : t1 ≡ not (within 1 max_atoms n)) where
-  pub five_facts : t1 ≡ true → true ≡ is_out_of_range s
-  unfolding is_out_of_range
-  five_facts q = sym (rw (← h.atoms_are, ← e1, q) refl)
-
-  module _ (f1 : t1 ≡ false) (t2 : Bool) (e2 : t2 ≡ not (within 1 max_layers l)) where
-    pub five_layers : t2 ≡ true → true ≡ is_out_of_range s
-    unfolding is_out_of_range
-    five_layers q = sym (rw (← h.atoms_are, ← e1, f1, ← h.layers_are, ← e2, q) refl)
-
-    module _ (f2 : t2 ≡ false) (a : ℕ) (ea : a ≡ u16_at s 12) (t3 : Bool) (e3 : t3 ≡ not (within 0 max_arrows a)) where
-      pub five_arrows : t3 ≡ true → true ≡ is_out_of_range s
-      unfolding is_out_of_range section_count
-      five_arrows q = sym (rw (← h.atoms_are, ← e1, f1, ← h.layers_are, ← e2, f2, ← ea, ← e3, q) refl)
-
-      pub five_rules : t3 ≡ false → (r : ℕ) → r ≡ u16_at s (k + 4) → (t4 : Bool) → t4 ≡ not (within 0 max_rules r) → t4 ≡ is_out_of_range s
-      unfolding is_out_of_range section_count
-      five_rules f3 r er t4 e4 = sym (rw (← h.atoms_are, ← e1, f1, ← h.layers_are, ← e2, f2, ← ea, ← e3, f3, ← h.rules_at_lem, ← er, ← e4) refl)
 
 -- where cause 5 does not apply
 in_range : (low high x : ℕ) → not (within low high x) ≡ false → (low ≤ x) × (x ≤ high)
@@ -91,17 +59,17 @@ ranges s e =
       rules_few = (in_range 0 max_rules (section_count s (rule_section s)) (or_second (a || b || c) d e)).1;
     }
 
--- the records of both sections, as the code cuts them
-module _ {s : List ℕ} {n l k : ℕ} (h : HeaderOf s n l k) (t : Bool) (et : t ≡ all (arrow_ok l) (records (take (k - 14) (drop 14 s)))) where
+-- the records of both sections
+module _ {s : List ℕ} {n l k : ℕ} (h : HeaderOf s n l k) (t : Bool) (et : t ≡ all (arrow_ok l) (arrow_records s)) where
   arrows_is : t ≡ all (arrow_ok (layer_count s)) (arrow_records s)
-  arrows_is = et ∙ ap (all (arrow_ok l)) (arrow-part s k h.rules_at_lem) ∙ ap (λ (x : ℕ). all (arrow_ok x) (arrow_records s)) h.layers_are
+  arrows_is = et ∙ ap (λ (x : ℕ). all (arrow_ok x) (arrow_records s)) h.layers_are
 
-  pub six_arrows : t ≡ false → true ≡ has_bad_record s
+  pub six_arrows : t ≡ false → not t ≡ has_bad_record s
   unfolding has_bad_record
   six_arrows f = sym (rw (← arrows_is, f) refl)
 
-  pub six_rules : t ≡ true → (u : Bool) → u ≡ all (rule_ok l n) (records (take (length s - (k + 6)) (drop (k + 6) s))) → not u ≡ has_bad_record s
+  pub six_rules : t ≡ true → (u : Bool) → u ≡ all (rule_ok l n) (rule_records s) → not u ≡ has_bad_record s
   unfolding has_bad_record
   six_rules f u eu =
-      let v : u ≡ all (rule_ok (layer_count s) (atom_count s)) (rule_records s) = eu ∙ ap (all (rule_ok l n)) (rule_part s k h.rules_at_lem (laid s h.whole)) ∙ ap (λ (x : ℕ). all (rule_ok x n) (rule_records s)) h.layers_are ∙ ap (λ (x : ℕ). all (rule_ok (layer_count s) x) (rule_records s)) h.atoms_are in
+      let v : u ≡ all (rule_ok (layer_count s) (atom_count s)) (rule_records s) = eu ∙ ap (λ (x : ℕ). all (rule_ok x n) (rule_records s)) h.layers_are ∙ ap (λ (x : ℕ). all (rule_ok (layer_count s) x) (rule_records s)) h.atoms_are in
       sym (rw (← arrows_is, f, ← v) refl)

@@ -1,44 +1,47 @@
--- `arrow_masks` meets its contract: what the masks and the arrows not yet walked have together stays the same. Assumes nothing.
-use mathlib.Core.Path.{refl, sym, ◌∙◌}
-use mathlib.Core.List.{map}
-use Prim.Native.Nat.{◌+◌}
-use lib.ListN.{drop}
-use Rattle.format.specs.Book.{records, arrow_of}
-use Rattle.book.proofs.MaskLaws.{ArrowAt, arrow_at, split_as, mask_start, mask_next, mask_end}
-use borrow.Author.Rules.{rules}
-use native.Mathlib.Omega.{arith}
+-- Each record of the section is an arrow's. Two equal arrows are met where the bit is there already.
+use mathlib.Core.Path.{refl, sym, subst}
+use Rattle.std.proofs.Common.{rules}
+use Rattle.format.specs.declared.Records.{Records}
+use Rattle.book.proofs.MaskLaws.{Walked, walk_start, end_repeated, end_reads, Two, next_two, next_hit, next_walked}
 use Rattle.book.proofs.arrow_masks.Goals as goal
+use Rattle.book.proofs.arrow_masks.Goals.{in_default-via-then-rec-lt2, in_default-via-else-rec-lt2+else-rec-lt3}
 
-pub loop-at-init : goal.loop-at-init
-loop-at-init c =
-    (record { inside = search rules; good = c.requires }, refl, mask_start (map arrow_of (records c.args.part.now)))
+pub loop-rec-init : goal.loop-rec-init
+loop-rec-init c =
+    subst (λ (s : Records). Walked c.args.part.now s.0.now _) (sym c.into_iter-rec-iterator.ensures.into_iter_gives) (walk_start c.args.part.now c.requires)
 
-pub bounds-part-at : goal.bounds-part-at
-bounds-part-at c =
-    omega (arith, (arrow_at c.args.part.now c.loop-at.at (search rules) c.loop-at.invariant.0.good).room)
+pub unreachable-requires : goal.unreachable-requires
+unreachable-requires c =
+    let size = (next_two c.loop-rec.invariant _ _ c.in-Some.ensures.steps).size in
+    elim c.in_default.branch [
+      | in_default-via-then-rec-lt2 w ↦ search (rules, size)
+      | in_default-via-else-rec-lt2+else-rec-lt3 w ↦ search (rules, size)
+    ]
 
-pub bounds-part-at-in-loop-at : goal.bounds-part-at-in-loop-at
-bounds-part-at-in-loop-at c =
-    omega (arith, (arrow_at c.args.part.now c.loop-at.at (search rules) c.loop-at.invariant.0.good).room)
+pub bit_of-requires : goal.bit_of-requires
+bit_of-requires c =
+    let w : Two c.in-Some.rec.now = next_two c.loop-rec.invariant _ _ c.in-Some.ensures.steps in
+    let low = w.later in
+    (search (rules, low), w.earlier)
+
+pub returns-then-bit_of-clause-repeated : goal.returns-then-bit_of-clause-repeated
+returns-then-bit_of-clause-repeated c =
+    next_hit c.loop-rec.invariant _ _ c.in-Some.ensures.steps _ _ refl refl c.bit_of.result c.bit_of.ensures c.if-bit_of.true
 
 pub set_bit-requires : goal.set_bit-requires
 set_bit-requires c =
-    let w : ArrowAt c.args.part.now c.loop-at.at = arrow_at c.args.part.now c.loop-at.at (search rules) c.loop-at.invariant.0.good in
-    (omega (arith, c.wide-i.ensures.0, c.wide-j.ensures.0, w.earlier, w.later, c.loop-at.invariant.1), omega (arith, c.wide-i.ensures.0, c.wide-j.ensures.0, w.earlier, w.later))
+    let w : Two c.in-Some.rec.now = next_two c.loop-rec.invariant _ _ c.in-Some.ensures.steps in
+    let low = w.later in
+    (search (rules, low), w.earlier)
 
-pub overflow_add-at-in-loop-at-2 : goal.overflow_add-at-in-loop-at-2
-overflow_add-at-in-loop-at-2 c =
-    omega (arith, (arrow_at c.args.part.now c.loop-at.at (search rules) c.loop-at.invariant.0.good).room)
+pub loop-rec-preserved : goal.loop-rec-preserved
+loop-rec-preserved c =
+    next_walked c.loop-rec.invariant _ _ c.in-Some.ensures.steps _ _ refl refl c.bit_of.result c.bit_of.ensures c.if-bit_of.false _ c.set_bit.ensures
 
-pub loop-at-smaller : goal.loop-at-smaller
-loop-at-smaller c =
-    omega (arith, (arrow_at c.args.part.now c.loop-at.at (search rules) c.loop-at.invariant.0.good).room)
+pub returns-clause-repeated : goal.returns-clause-repeated
+returns-clause-repeated c =
+    end_repeated c.loop-rec.invariant c.in-None.ensures.steps.0
 
-pub loop-at-preserved : goal.loop-at-preserved
-loop-at-preserved c =
-    let w : ArrowAt c.args.part.now c.loop-at.at = arrow_at c.args.part.now c.loop-at.at (search rules) c.loop-at.invariant.0.good in
-    (record { inside = w.room; good = w.rest }, c.set_bit.auto.m ∙ c.loop-at.invariant.1, λ x y. c.loop-at.invariant.2 x y ∙ mask_next c.loop-at.m _ (map arrow_of (records (drop c.loop-at.at c.args.part.now))) (map arrow_of (records (drop (c.loop-at.at + 3) c.args.part.now))) c.wide-i.result c.wide-j.result (split_as c.args.part.now c.loop-at.at c.wide-i.result c.wide-j.result w c.wide-i.ensures.0 c.wide-j.ensures.0) c.set_bit.ensures x y)
-
-pub returns : goal.returns
-returns c =
-    λ x y. sym (c.loop-at.invariant.2 x y ∙ mask_end c.loop-at.m c.args.part.now c.loop-at.at c.loop-at-test.false x y)
+pub returns-clause-masks : goal.returns-clause-masks
+returns-clause-masks c =
+    end_reads c.loop-rec.invariant c.in-None.ensures.steps.0

@@ -1,4 +1,7 @@
 -- `prepare` meets its contract: what the table is made from is what the check has made sure of. Assumes nothing.
+use mathlib.Core.Path.{ap, ◌∙◌}
+use lib.ListN.{length}
+use Rattle.format.specs.Book.{rule_section}
 use Rattle.book.proofs.Accepted.{accepted_lawful}
 use Rattle.book.proofs.RangeLaws.{header_in}
 use Rattle.accepted.proofs.RangeFacts.{layer_low}
@@ -6,17 +9,17 @@ use Rattle.accepted.proofs.PreparedLaws.{prepared}
 use native.Mathlib.Omega.{arith}
 use Rattle.accepted.proofs.Driving.prepare.Goals as goal
 
-pub read_header-from-requires : goal.read_header-from-requires
-read_header-from-requires c =
+pub read-requires : goal.read-requires
+read-requires c =
     (accepted_lawful c.args.self.now.book.now c.args.self.now.accepted).not4
 
 pub overflow_add-from : goal.overflow_add-from
 overflow_add-from c =
-    omega (arith, header_in c.read_header-from.ensures)
+    omega (arith, header_in c.read.result.says, ap length c.read.ensures)
 
 pub rule_table-requires-clause-prepared : goal.rule_table-requires-clause-prepared
 rule_table-requires-clause-prepared c =
-    prepared c.args.self.now.book.now c.args.self.now.accepted c.read_header-from.result.rules c.read_header-from.ensures.rules_at_lem c.args.self.now.lower c.args.self.now.lower_masks
+    prepared c.args.self.now.book.now c.args.self.now.accepted c.read.result.rules (c.read.result.says.rules_at_lem ∙ ap rule_section c.read.ensures) c.args.self.now.lower c.args.self.now.lower_masks
 
 pub rule_table-requires-clause-layer_lt_max_layers : goal.rule_table-requires-clause-layer_lt_max_layers
 rule_table-requires-clause-layer_lt_max_layers c =
