@@ -210,7 +210,7 @@ impl Reader<'_> {
 
 // How many brackets are open behind a byte.
 fn open_behind(unshut: usize, c: u8) -> usize
-    requires { unshut < 18446744073709551615 }
+    requires { unshut + 1 < 2 ^ 64 }
     ensures { result ≡ opened unshut c }
 {
     match c {
@@ -274,7 +274,7 @@ pub fn read_condition(text: &[u8], n: usize) -> Result<Postfix, Cause>
     }
 }
 
-// Pushes a bit on a stack of bits, the top in the lowest.
+// Pushes a bit on a stack of bits, the top in the lowest. A number is all the stack that a condition needs: 16 brackets deep, it has at most 36 bits.
 fn push(stack: u64, bit: bool) -> u64
     requires { 2 * stack + 1 < 2 ^ 64 }
     ensures { result ≡ push stack bit }
