@@ -1,7 +1,7 @@
 -- Causes 16, 17 and 11 from what was read, and what the code of a condition is good for where none applies. Used by `read_condition`.
 -- Assumes nothing.
 use mathlib.Core.Path.{◌≡◌, refl, sym, ap, ◌∙◌}
-use mathlib.Core.Bool.{Bool, true, false, not, ◌||◌}
+use mathlib.Core.Bool.{Bool, true, false, not}
 use mathlib.Core.List.{List}
 use Prim.Native.Nat.{ℕ, ◌≤◌, ◌<◌}
 use native.Mathlib.Decide.{dec_lt}
@@ -15,6 +15,7 @@ use Rattle.grammar.proofs.ParseLaws.{read_exactly, none_unread}
 use Rattle.book.specs.Causes.{verdict_if, first_of}
 use Rattle.book.specs.declared.Cause.TheVariants.{BadCondition, TooDeep, NoSuchFact}
 use Rattle.std.specs.Prelude.{Err}
+use Rattle.std.proofs.Math.Bool.{or-true}
 use Rattle.condition.specs.declared.Code.{Code}
 use Rattle.condition.specs.Code.{odd, run, code_holds, StackFits, deepest, codes_below, peak}
 use Rattle.condition.specs.Causes.{max_condition, max_depth, is_unread, is_deep, names_other, fits_in, is_bad_condition, is_too_deep, names_no_fact, condition_tests, fits_text}
@@ -24,17 +25,13 @@ use Rattle.condition.proofs.BelowLaws.{codes_names}
 use Rattle.condition.proofs.StackLaws.{stack-low}
 use Rattle.condition.proofs.RunLaws.{code_value}
 
-or_true : (a : Bool) → (a || true) ≡ true
-or_true true = refl
-or_true false = refl
-
 pub bad_condition : (n : ℕ) (s : List ℕ) → NoReading s → first_of (condition_tests n s) ≡ Err BadCondition
 unfolding condition_tests first_of verdict_if is_bad_condition is_unread
 bad_condition n s h = go (dec_lt max_condition (length s))
   where
     go : Dec (max_condition < length s) → first_of (condition_tests n s) ≡ Err BadCondition
     go (yes k) = rw (lt-ltb max_condition (length s) k) refl
-    go (no k) = rw (none_unread s (h (omega (arith, k))), or_true (ltb max_condition (length s))) refl
+    go (no k) = rw (none_unread s (h (omega (arith, k))), or-true (ltb max_condition (length s))) refl
 
 module _ {s : List ℕ} {codes : List Code} (h : CompiledTo s codes) (n : ℕ) where
   read : reading_of s ≡ Read h.tree

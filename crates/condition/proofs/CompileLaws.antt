@@ -1,13 +1,14 @@
 -- The readers' answer for a whole text: a reading and its code, or none. Used by `compile`. Assumes nothing.
 use mathlib.Core.Path.{◌≡◌, refl, ap, subst, ◌∙◌}
 use mathlib.Core.Bool.{Bool, true, false}
-use mathlib.Core.List.{List, [], ◌∷◌, ◌++◌}
+use mathlib.Core.List.{List, [], ◌++◌}
 use Prim.Native.Nat.{ℕ, ◌≤◌, ◌<◌}
 use native.Mathlib.Omega.{arith}
 use borrow.Author.Tests.{eqb-true, eqb-false}
 use lib.Dec.{eqb}
 use lib.ListN.{length}
 use Rattle.std.specs.Bool.{then_some}
+use Rattle.std.proofs.lemmas.List.{nil_from_length}
 use Rattle.grammar.specs.Conditions.{Condition}
 use Rattle.grammar.specs.Reader.{disjunction, nothing, from, Took}
 use Rattle.grammar.proofs.OneReadingLaws.{once, whole}
@@ -26,15 +27,11 @@ long_text s h k a r = omega (arith, h, k)
 pub deep_text : (s : List ℕ) (d : ℕ) → d ≡ deepest 0 0 s → 127 < d → NoReading s
 deep_text s d e h k a r = omega (arith, e, h, k, deepest-depth r, depth-short r)
 
-nothing_left : (s : List ℕ) → length s ≡ 0 → s ≡ []
-nothing_left [] e = refl
-nothing_left (x ∷ s) e = absurd (omega arith)
-
 whole_text : {old new : Reader} → Written (from disjunction nothing) old new → old.code ≡ [] → length new.rest.now ≡ 0 → length old.rest.now ≤ max_condition → CompiledTo old.rest.now new.code
 whole_text {old} {new} x b e k = record {
   tree = x.tree;
   short = k;
-  reads = read_whole (subst (λ (l : List ℕ). Took (from disjunction nothing) old.rest.now x.tree l) (nothing_left new.rest.now e) x.took);
+  reads = read_whole (subst (λ (l : List ℕ). Took (from disjunction nothing) old.rest.now x.tree l) (nil_from_length new.rest.now e) x.took);
   wrote = x.wrote ∙ ap (λ (l : List Code). l ++ postfix x.tree) b;
 }
 
