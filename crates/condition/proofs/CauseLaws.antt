@@ -10,11 +10,11 @@ use borrow.Author.Tests.{lt-ltb, le-ltb}
 use lib.Dec.{ltb}
 use lib.ListN.{length}
 use Rattle.grammar.specs.Conditions.{depth}
-use Rattle.grammar.specs.Parse.{Read, reading_of}
+use Rattle.grammar.specs.Parse.{reading_of}
 use Rattle.grammar.proofs.ParseLaws.{read_exactly, none_unread}
 use Rattle.book.specs.Causes.{verdict_if, first_of}
 use Rattle.book.specs.declared.Cause.TheVariants.{BadCondition, TooDeep, NoSuchFact}
-use Rattle.std.specs.Prelude.{Err}
+use Rattle.std.specs.Prelude.{Err, Some}
 use Rattle.std.proofs.Math.Bool.{or-true}
 use Rattle.condition.specs.declared.Code.{Code}
 use Rattle.condition.specs.Code.{odd, run, code_holds, StackFits, deepest, codes_below, peak}
@@ -34,7 +34,7 @@ bad_condition n s h = go (dec_lt max_condition (length s))
     go (no k) = rw (none_unread s (h (omega (arith, k))), or-true (ltb max_condition (length s))) refl
 
 module _ {s : List ℕ} {codes : List Code} (h : CompiledTo s codes) (n : ℕ) where
-  read : reading_of s ≡ Read h.tree
+  read : reading_of s ≡ Some h.tree
   read = (read_exactly s h.tree).1 h.reads
 
   good : is_bad_condition s ≡ false

@@ -1,9 +1,9 @@
 -- Document 02, (e): causes 16, 17 and 11 of a condition, in order of test, and the states in which it holds, by its one reading.
 -- Assumes nothing.
-use Rattle.std.specs.Prelude.{Bool, true, false, not, ◌||◌, List, [], ◌∷◌, ℕ, ltb, length}
+use Rattle.std.specs.Prelude.{Bool, true, false, not, ◌||◌, List, [], ◌∷◌, ℕ, ltb, length, Option, Some, None}
 use Rattle.models.specs.StableModels.{Interpretation}
-use Rattle.grammar.specs.Conditions.{fits, depth, names_below}
-use Rattle.grammar.specs.Parse.{TextRead, Read, Unread, reading_of}
+use Rattle.grammar.specs.Conditions.{Condition, fits, depth, names_below}
+use Rattle.grammar.specs.Parse.{reading_of}
 use Rattle.book.specs.Causes.{Test}
 use Rattle.book.specs.declared.Cause.TheVariants.{BadCondition, TooDeep, NoSuchFact}
 
@@ -16,24 +16,24 @@ abbrev pub max_depth : ℕ
 max_depth = 16
 
 -- of a text's reading: there is none
-unfoldable pub is_unread : TextRead → Bool
-is_unread (Read a) = false
-is_unread Unread = true
+unfoldable pub is_unread : Option Condition → Bool
+is_unread (Some a) = false
+is_unread None = true
 
 -- its brackets are nested too deep
-unfoldable pub is_deep : TextRead → Bool
-is_deep (Read a) = ltb max_depth (depth a)
-is_deep Unread = false
+unfoldable pub is_deep : Option Condition → Bool
+is_deep (Some a) = ltb max_depth (depth a)
+is_deep None = false
 
 -- it names something that is not a fact below n
-unfoldable pub names_other : ℕ → TextRead → Bool
-names_other n (Read a) = not (names_below n a)
-names_other n Unread = false
+unfoldable pub names_other : ℕ → Option Condition → Bool
+names_other n (Some a) = not (names_below n a)
+names_other n None = false
 
 -- it holds in the state
-unfoldable pub fits_in : Interpretation → TextRead → Bool
-fits_in m (Read a) = fits m a
-fits_in m Unread = false
+unfoldable pub fits_in : Interpretation → Option Condition → Bool
+fits_in m (Some a) = fits m a
+fits_in m None = false
 
 -- 16: "an empty condition, one over 255 bytes or one outside the grammar"; the empty text has no reading
 unfoldable pub is_bad_condition : List ℕ → Bool

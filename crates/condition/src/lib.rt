@@ -42,14 +42,14 @@ impl Code {
     }
 }
 
-// A condition's postfix code, of at most MAX_CONDITION codes.
+// A condition's postfix code.
+// Kept: no heap, so an array of the most codes that a condition can have, and how many there are; clauses see the list.
 #[derive(Drop)]
 pub struct Postfix {
     codes: [Code; MAX_CONDITION],
     used: usize,
 }
 
-// Clauses see the codes.
 impl Model for Postfix {
     ghost use Rattle.std.specs.Prelude.{◌≤◌, List, take};
     ghost use Rattle.condition.specs.declared.Code.{Code};

@@ -10,13 +10,19 @@ use lib.Dec.{eqb, leb}
 use lib.ListN.{length, length-append}
 use Rattle.grammar.specs.Conditions.{Condition, Atom, Not, Bracket, Digit, Digits, none, more, max_digits, Reads, or-level}
 use Rattle.grammar.specs.Reader.{Operator, disjunction, conjunction, byte_of, Before, nothing, after, joined, Task, from, on, bracket, operand, NoDigit, Took, operand_took, operator_stop, operator_go, not_took, shut_took, name_took}
-use Rattle.grammar.specs.Parse.{Parsed, Taken, Outside, follow, is_digit, is_name_length, name_of, name_from, shut, parse, steps, TextRead, Read, Unread, whole, reading_of, ReadExactly}
+use Rattle.std.specs.Prelude.{Option, Some, None}
+use Rattle.grammar.specs.Parse.{Parsed, taken, follow, is_digit, is_name_length, name_of, name_from, shut, parse, steps, whole, reading_of, ReadExactly}
 use Rattle.grammar.proofs.OneReadingLaws as reading
 use Rattle.grammar.proofs.SoundLaws.{read_whole}
 
 -- ---- a test that passed or failed
-never : {A : Type 0} {a : Condition} {u : List ℕ} → Outside ≡ Taken a u → A
+never : {A : Type 0} {a : Condition} {u : List ℕ} → ◌≡◌ {A = Parsed} None (taken a u) → A
 never e = let z : ◌≡◌ {A = ℕ} 0 1 = cc in absurd (omega arith)
+
+taken_same : {a b : Condition} {u v : List ℕ} → taken a u ≡ taken b v → (a ≡ b) × (u ≡ v)
+taken_same {a} {b} {u} {v} e =
+    let p : ◌≡◌ {A = Condition × List ℕ} (a, u) (b, v) = cc in
+    (ap (λ (x : Condition × List ℕ). x.0) p, ap (λ (x : Condition × List ℕ). x.1) p)
 
 both : (a b : Bool) → (a && b) ≡ true → (a ≡ true) × (b ≡ true)
 both true b e = (refl, e)
@@ -57,14 +63,14 @@ record NameTaken (k v : ℕ) (s : List ℕ) (w : Condition) (u : List ℕ) : Typ
   few : k + length text ≤ max_digits
   ends : NoDigit u
 
-ends_here : (k v : ℕ) (s : List ℕ) (w : Condition) (u : List ℕ) → NoDigit s → name_of k v s ≡ Taken w u → NameTaken k v s w u
+ends_here : (k v : ℕ) (s : List ℕ) (w : Condition) (u : List ℕ) → NoDigit s → name_of k v s ≡ taken w u → NameTaken k v s w u
 unfolding name_of
 ends_here k v s w u n e = go (is_name_length k) refl e
   where
-    go : (b : Bool) → is_name_length k ≡ b → cond b (Taken (Atom v) s) Outside ≡ Taken w u → NameTaken k v s w u
+    go : (b : Bool) → is_name_length k ≡ b → cond b (taken (Atom v) s) None ≡ taken w u → NameTaken k v s w u
     go true f g =
-        let r : s ≡ u = cc in
-        let x : w ≡ Atom v = cc in
+        let r : s ≡ u = (taken_same g).1 in
+        let x : w ≡ Atom v = sym (taken_same g).0 in
         record {
           text = [];
           number = v;
@@ -77,13 +83,13 @@ ends_here k v s w u n e = go (is_name_length k) refl e
         }
     go false f g = never g
 
-name-sound : (k v : ℕ) (s : List ℕ) (w : Condition) (u : List ℕ) → name_from k v s ≡ Taken w u → NameTaken k v s w u
+name-sound : (k v : ℕ) (s : List ℕ) (w : Condition) (u : List ℕ) → name_from k v s ≡ taken w u → NameTaken k v s w u
 unfolding name_from
 name-sound k v [] w u e = ends_here k v [] w u (λ c t f d. omega (arith, ap length f)) e
 name-sound k v (c ∷ s) w u e = go (name-sound (suc k) (v * 10 + (c - 48)) s w u) (is_digit c) refl e
   where
-    go : (name_from (suc k) (v * 10 + (c - 48)) s ≡ Taken w u → NameTaken (suc k) (v * 10 + (c - 48)) s w u)
-        → (b : Bool) → is_digit c ≡ b → cond b (name_from (suc k) (v * 10 + (c - 48)) s) (name_of k v (c ∷ s)) ≡ Taken w u → NameTaken k v (c ∷ s) w u
+    go : (name_from (suc k) (v * 10 + (c - 48)) s ≡ taken w u → NameTaken (suc k) (v * 10 + (c - 48)) s w u)
+        → (b : Bool) → is_digit c ≡ b → cond b (name_from (suc k) (v * 10 + (c - 48)) s) (name_of k v (c ∷ s)) ≡ taken w u → NameTaken k v (c ∷ s) w u
     go rest true f g =
         let x = rest g in
         record {
@@ -102,54 +108,54 @@ name-sound k v (c ∷ s) w u e = go (name-sound (suc k) (v * 10 + (c - 48)) s w 
 record Followed (p : Parsed) (next : Condition → List ℕ → Parsed) (w : Condition) (u : List ℕ) : Type 0 where
   tree : Condition
   left : List ℕ
-  first : p ≡ Taken tree left
-  then : next tree left ≡ Taken w u
+  first : p ≡ taken tree left
+  then : next tree left ≡ taken w u
 
-followed : (p : Parsed) (next : Condition → List ℕ → Parsed) (w : Condition) (u : List ℕ) → follow p next ≡ Taken w u → Followed p next w u
+followed : (p : Parsed) (next : Condition → List ℕ → Parsed) (w : Condition) (u : List ℕ) → follow p next ≡ taken w u → Followed p next w u
 unfolding follow
-followed (Taken a t) next w u e = record { tree = a; left = t; first = refl; then = e }
-followed Outside next w u e = never e
+followed (Some (a, t)) next w u e = record { tree = a; left = t; first = refl; then = e }
+followed None next w u e = never e
 
-shut-sound : (a : Condition) (v : List ℕ) (w : Condition) (u : List ℕ) → shut a v ≡ Taken w u → (v ≡ 41 ∷ u) × (w ≡ Bracket a)
+shut-sound : (a : Condition) (v : List ℕ) (w : Condition) (u : List ℕ) → shut a v ≡ taken w u → (v ≡ 41 ∷ u) × (w ≡ Bracket a)
 unfolding shut
 shut-sound a [] w u e = never e
 shut-sound a (c ∷ v) w u e = go (eqb c 41) refl e
   where
-    go : (b : Bool) → eqb c 41 ≡ b → cond b (Taken (Bracket a) v) Outside ≡ Taken w u → (c ∷ v ≡ 41 ∷ u) × (w ≡ Bracket a)
-    go true f g = let r : v ≡ u = cc in let x : w ≡ Bracket a = cc in (rw (eqb-true c 41 f, r) refl, x)
+    go : (b : Bool) → eqb c 41 ≡ b → cond b (taken (Bracket a) v) None ≡ taken w u → (c ∷ v ≡ 41 ∷ u) × (w ≡ Bracket a)
+    go true f g = let r : v ≡ u = (taken_same g).1 in let x : w ≡ Bracket a = sym (taken_same g).0 in (rw (eqb-true c 41 f, r) refl, x)
     go false f g = never g
 
-parse-sound : (n : ℕ) (k : Task) (s : List ℕ) (w : Condition) (u : List ℕ) → parse n k s ≡ Taken w u → Took k s w u
+parse-sound : (n : ℕ) (k : Task) (s : List ℕ) (w : Condition) (u : List ℕ) → parse n k s ≡ taken w u → Took k s w u
 unfolding parse
 parse-sound zero k s w u e = never e
 parse-sound (suc n) (from o p) s w u e =
     let x = followed (parse n (operand o) s) (λ b t. parse n (on o (joined o p b)) t) w u e in
     operand_took (parse-sound n (operand o) s x.tree x.left x.first) refl (parse-sound n (on o (joined o p x.tree)) x.left w u x.then)
 parse-sound (suc n) (on o a) [] w u e =
-    let x : a ≡ w = cc in
-    let r : [] ≡ u = cc in
+    let x : a ≡ w = (taken_same e).0 in
+    let r : [] ≡ u = (taken_same e).1 in
     subst (λ (c : Condition). Took (on o a) [] c u) x (subst (λ (l : List ℕ). Took (on o a) [] a l) r (operator_stop (λ t f. omega (arith, ap length f))))
 parse-sound (suc n) (on o a) (c ∷ t) w u e = go (parse-sound n (from o (after a)) t w u) (eqb c (byte_of o)) refl e
   where
-    go : (parse n (from o (after a)) t ≡ Taken w u → Took (from o (after a)) t w u) → (b : Bool) → eqb c (byte_of o) ≡ b → cond b (parse n (from o (after a)) t) (Taken a (c ∷ t)) ≡ Taken w u → Took (on o a) (c ∷ t) w u
+    go : (parse n (from o (after a)) t ≡ taken w u → Took (from o (after a)) t w u) → (b : Bool) → eqb c (byte_of o) ≡ b → cond b (parse n (from o (after a)) t) (taken a (c ∷ t)) ≡ taken w u → Took (on o a) (c ∷ t) w u
     go rest true f g = operator_go (ap (λ (x : ℕ). x ∷ t) (eqb-true c (byte_of o) f)) (rest g)
     go rest false f g =
-        let x : a ≡ w = cc in
-        let r : c ∷ t ≡ u = cc in
+        let x : a ≡ w = (taken_same g).0 in
+        let r : c ∷ t ≡ u = (taken_same g).1 in
         subst (λ (y : Condition). Took (on o a) (c ∷ t) y u) x
         (subst (λ (l : List ℕ). Took (on o a) (c ∷ t) a l) r (operator_stop (λ y h. eqb-false c (byte_of o) f (reading.first_same h))))
 parse-sound (suc n) bracket [] w u e = never e
 parse-sound (suc n) bracket (c ∷ t) w u e = go (λ k a v. parse-sound n k t a v) (eqb c 33) (eqb c 40) refl refl e
   where
-    go : ((k : Task) (a : Condition) (v : List ℕ) → parse n k t ≡ Taken a v → Took k t a v) → (b d : Bool) → eqb c 33 ≡ b → eqb c 40 ≡ d
-        → cond b (follow (parse n bracket t) (λ a u. Taken (Not a) u)) (cond d (follow (parse n (from disjunction nothing) t) shut) (name_from 0 0 (c ∷ t))) ≡ Taken w u
+    go : ((k : Task) (a : Condition) (v : List ℕ) → parse n k t ≡ taken a v → Took k t a v) → (b d : Bool) → eqb c 33 ≡ b → eqb c 40 ≡ d
+        → cond b (follow (parse n bracket t) (λ a u. taken (Not a) u)) (cond d (follow (parse n (from disjunction nothing) t) shut) (name_from 0 0 (c ∷ t))) ≡ taken w u
         → Took bracket (c ∷ t) w u
     go rest true d f h g =
-        let x = followed (parse n bracket t) (λ a u. Taken (Not a) u) w u g in
-        let y : Not x.tree ≡ w = cc in
-        let r : x.left ≡ u = cc in
+        let x = followed (parse n bracket t) (λ a u. taken (Not a) u) w u g in
+        let y : Not x.tree ≡ w = (taken_same x.then).0 in
+        let r : x.left ≡ u = (taken_same x.then).1 in
         subst (λ (z : Condition). Took bracket (c ∷ t) z u) y
-        (not_took (ap (λ (z : ℕ). z ∷ t) (eqb-true c 33 f)) (rest bracket x.tree u (x.first ∙ ap (λ (l : List ℕ). Taken x.tree l) r)))
+        (not_took (ap (λ (z : ℕ). z ∷ t) (eqb-true c 33 f)) (rest bracket x.tree u (x.first ∙ ap (λ (l : List ℕ). taken x.tree l) r)))
     go rest false true f h g =
         let x = followed (parse n (from disjunction nothing) t) shut w u g in
         let y = shut-sound x.tree x.left w u x.then in
@@ -193,13 +199,13 @@ falls (not_took e p) = omega (arith, ap length e, falls p)
 falls (shut_took e p g) = omega (arith, ap length e, falls p, ap length g)
 falls (name_took {t = t} {u = u} e d some few n) = omega (arith, ap length e, length-append t u)
 
-name_complete : {v f : ℕ} (k : ℕ) (t u : List ℕ) → Digits v t f → NoDigit u → 1 ≤ k + length t → k + length t ≤ max_digits → name_from k v (t ++ u) ≡ Taken (Atom f) u
+name_complete : {v f : ℕ} (k : ℕ) (t u : List ℕ) → Digits v t f → NoDigit u → 1 ≤ k + length t → k + length t ≤ max_digits → name_from k v (t ++ u) ≡ taken (Atom f) u
 unfolding name_from name_of
 name_complete k t [] (none v) n some few = rw (is_length k (omega arith) (omega arith)) refl
 name_complete k t (c ∷ u) (none v) n some few = rw (no_digit c (λ d. n c u refl d), is_length k (omega arith) (omega arith)) refl
 name_complete k t u (more {v = v} {c = c} {s = r} h d) n some few = rw (is_digit_lem c h) (name_complete (suc k) r u d n (omega arith) (omega arith))
 
-parse_complete : {k : Task} {s u : List ℕ} {a : Condition} → Took k s a u → (n : ℕ) → 3 * length s + rank k < n → parse n k s ≡ Taken a u
+parse_complete : {k : Task} {s u : List ℕ} {a : Condition} → Took k s a u → (n : ℕ) → 3 * length s + rank k < n → parse n k s ≡ taken a u
 unfolding parse follow shut
 parse_complete h zero e = absurd (omega arith)
 parse_complete (operand_took {o = o} {p = x} {t = t} {u = u} {b = b} {w = w} p e q) (suc n) h =
@@ -216,11 +222,11 @@ parse_complete (name_took {u = u} e (more {c = c} {s = r} k d) some few n) (suc 
     rw (e, ne_eqb c 33 (λ z. omega (arith, k, z)), ne_eqb c 40 (λ z. omega (arith, k, z))) (name_complete 0 (c ∷ r) u (more k d) n (omega arith) (omega arith))
 
 -- ---- the whole text
-whole_read : (p : Parsed) (a : Condition) → whole p ≡ Read a → p ≡ Taken a []
+whole_read : (p : Parsed) (a : Condition) → whole p ≡ Some a → p ≡ taken a []
 unfolding whole
-whole_read (Taken b []) a e = cc
-whole_read (Taken b (c ∷ u)) a e = let z : ◌≡◌ {A = ℕ} 0 1 = cc in absurd (omega arith)
-whole_read Outside a e = let z : ◌≡◌ {A = ℕ} 0 1 = cc in absurd (omega arith)
+whole_read (Some (b, [])) a e = let x : b ≡ a = cc in ap (λ (y : Condition). taken y []) x
+whole_read (Some (b, c ∷ u)) a e = let z : ◌≡◌ {A = ℕ} 0 1 = cc in absurd (omega arith)
+whole_read None a e = let z : ◌≡◌ {A = ℕ} 0 1 = cc in absurd (omega arith)
 
 pub read_exactly : ReadExactly
 unfolding reading_of whole
@@ -230,12 +236,12 @@ read_exactly s a = (
 )
 
 -- a text is unread exactly if the grammar gives it no reading
-pub unread_none : (s : List ℕ) → reading_of s ≡ Unread → (a : Condition) → Reads or-level a s → ⊥
+pub unread_none : (s : List ℕ) → reading_of s ≡ None → (a : Condition) → Reads or-level a s → ⊥
 unread_none s e a h = let f = sym e ∙ (read_exactly s a).1 h in let z : ◌≡◌ {A = ℕ} 0 1 = cc in omega arith
 
-pub none_unread : (s : List ℕ) → ((a : Condition) → Reads or-level a s → ⊥) → reading_of s ≡ Unread
+pub none_unread : (s : List ℕ) → ((a : Condition) → Reads or-level a s → ⊥) → reading_of s ≡ None
 none_unread s n = go (reading_of s) refl
   where
-    go : (r : TextRead) → reading_of s ≡ r → r ≡ Unread
-    go (Read a) e = absurd (n a ((read_exactly s a).0 e))
-    go Unread e = refl
+    go : (r : Option Condition) → reading_of s ≡ r → r ≡ None
+    go (Some a) e = absurd (n a ((read_exactly s a).0 e))
+    go None e = refl
