@@ -1,5 +1,4 @@
 pub mod ByteOrder
 pub mod SortedLaws
 pub mod Once
-pub mod ByteLaws
 pub mod RunLaws

@@ -1,13 +1,12 @@
 -- The order of records as byte strings, and records of one width one behind the other. Assumes nothing.
-use Rattle.std.specs.Prelude.{◌≡◌, Bool, true, false, cond, ℕ, ltb, length}
-use mathlib.Core.List.{List, [], ◌∷◌, Memᴰ}
+use Rattle.std.specs.Prelude.{◌≡◌, Bool, ℕ, length}
+use Rattle.std.specs.Ordering.{nat_cmp, is_lt}
+use Rattle.std.specs.Cmp.Lexicographic.{slice_cmp}
+use mathlib.Core.List.{List, Memᴰ}
 
 -- the order of byte strings: the first byte where they differ decides
 unfoldable pub bytes_before : List ℕ → List ℕ → Bool
-bytes_before [] [] = false
-bytes_before [] (y ∷ ys) = true
-bytes_before (x ∷ xs) [] = false
-bytes_before (x ∷ xs) (y ∷ ys) = cond (ltb x y) true (cond (ltb y x) false (bytes_before xs ys))
+bytes_before x y = is_lt (slice_cmp nat_cmp x y)
 
 -- each record is w bytes wide
 abbrev pub Wide : ℕ → List (List ℕ) → Type 0

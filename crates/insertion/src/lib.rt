@@ -5,21 +5,12 @@ ghost use Rattle.std.specs.Prelude.{◌≡◌, ◌++◌, ◌+◌, ◌≤◌, len
 ghost use Rattle.insertion.specs.Runs.{bytes_before};
 
 // Whether the record at an offset comes before rec.
+#[tactic(auto, unfolding(crate::specs::Runs::bytes_before))]
 pub fn record_before(part: &[u8], at: usize, rec: &[u8]) -> bool
     requires { at + length rec.now ≤ length part.now }
     ensures { result ≡ bytes_before (take (length rec.now) (drop at part.now)) rec.now }
 {
-    let mut i = 0;
-    while i < rec.len() {
-        if part[at + i] < rec[i] {
-            return true;
-        }
-        if rec[i] < part[at + i] {
-            return false;
-        }
-        i += 1;
-    }
-    false
+    part[at..at + rec.len()].cmp(rec).is_lt()
 }
 
 // Writes rec at an offset.
@@ -27,9 +18,5 @@ pub fn put_record(part: &mut [u8], at: usize, rec: &[u8])
     requires { at + length rec.now ≤ length part.old }
     ensures { part.new ≡ take at part.old ++ (rec.now ++ drop (at + length rec.now) part.old) }
 {
-    let mut i = 0;
-    while i < rec.len() {
-        part[at + i] = rec[i];
-        i += 1;
-    }
+    part[at..at + rec.len()].copy_from_slice(rec);
 }

@@ -16,8 +16,16 @@ use Rattle.insertion.proofs.ByteOrder.{bytes_le_lt, bytes_asym}
 use Rattle.insertion.proofs.RunLaws.{flat_append, flat-length}
 use Rattle.merging.specs.Merging.{Two, Parted, Merged}
 use Rattle.merging.proofs.MergeLaws.{drop-from, merge_halves, insert_all-nothing}
-use Rattle.merging.proofs.RotateLaws.{turned, lent_length}
 use Rattle.merging.proofs.CutLaws.{bytes_same}
+
+-- two lists that change places
+module _ (A B q : List ℕ) (a : ℕ) (e : q ≡ A ++ B) (h : length A ≡ a) where
+  turned : drop a q ++ take a q ≡ B ++ A
+  turned = ap₂ (λ (x y : List ℕ). x ++ y) (ap (drop a) e ∙ drop_at A B a h) (ap (take a) e ∙ take_at A B a h)
+
+-- a part from a to e
+pub lent_length : (a e : ℕ) (q : List ℕ) → e ≤ length q → length (take (e - a) (drop a q)) ≡ e - a
+lent_length a e q h = length-take-le (e - a) (drop a q) (omega (arith, length-drop a q))
 
 -- the offsets of a cut
 pub record CutSizes (w n m i j len : ℕ) : Type 0 where
@@ -28,6 +36,8 @@ pub record CutSizes (w n m i j len : ℕ) : Type 0 where
   pub low : (i + j) * w ≡ i * w + j * w
   pub high : (n - i + (m - j)) * w ≡ (n - i) * w + (m - j) * w
   pub count : n + m ≤ len
+  pub first_in : i ≤ n
+  pub second_in : j ≤ m
 
 pub cut_sizes : (w n m i j len : ℕ) → 0 < w → i ≤ n → j ≤ m → len ≡ (n + m) * w → CutSizes w n m i j len
 cut_sizes w n m i j len p hi hj e =
@@ -42,7 +52,12 @@ cut_sizes w n m i j len p hi hj e =
       low = omega arith;
       high = omega arith;
       count = omega (arith, e, c);
+      first_in = hi;
+      second_in = hj;
     }
+
+pub sizes_of : {w n m i j : ℕ} {l : List ℕ} → Parted w n m l i j → 0 < w → length l ≡ (n + m) * w → CutSizes w n m i j (length l)
+sizes_of {w} {n} {m} {i} {j} {l} p h e = cut_sizes w n m i j (length l) h p.first_within p.second_within e
 
 -- the inner two of four pieces change places
 module _ (X₁ X₂ Y₁ Y₂ l : List ℕ) (e : l ≡ X₁ ++ (X₂ ++ (Y₁ ++ Y₂))) (low high k : ℕ) (hl : length X₁ ≡ low) (hh : low + (k + length Y₁) ≡ high) (hk : length X₂ ≡ k) where

@@ -13,17 +13,17 @@ overflow_sub-last c =
     let z = run_sizes c.args.n c.args.m c.args.w len c.requires.0 c.requires.1 c.requires.3 in
     omega (arith, z.0)
 
-pub record_less-requires : goal.record_less-requires
-record_less-requires c =
+pub record_before-requires : goal.record_before-requires
+record_before-requires c =
     let len = length c.args.part.now in
     let z = run_sizes c.args.n c.args.m c.args.w len c.requires.0 c.requires.1 c.requires.3 in
     omega (arith, z.2, lent_len c.args.w (c.args.n * c.args.w - c.args.w) (c.args.n * c.args.w) c.args.part.now (omega (arith, z.0)) (omega (arith, z.0, z.2)))
 
-pub returns-then-not-record_less : goal.returns-then-not-record_less
-returns-then-not-record_less c =
+pub returns-then-not-record_before : goal.returns-then-not-record_before
+returns-then-not-record_before c =
     let len = length c.args.part.now in
     let z = run_sizes c.args.n c.args.m c.args.w len c.requires.0 c.requires.1 c.requires.3 in
-    cut_rising c.args.w c.args.n c.args.m c.args.part.now c.requires.0 c.requires.1 c.requires.3 (sym (lent_before c.args.w (c.args.n * c.args.w - c.args.w) (c.args.n * c.args.w) c.args.part.now (omega (arith, z.0)) (omega (arith, z.0, z.2)) (c.args.n * c.args.w)) ∙ sym c.record_less.ensures ∙ c.if-not-record_less.true)
+    cut_rising c.args.w c.args.n c.args.m c.args.part.now c.requires.0 c.requires.1 c.requires.3 (sym (lent_before c.args.w (c.args.n * c.args.w - c.args.w) (c.args.n * c.args.w) c.args.part.now (omega (arith, z.0)) (omega (arith, z.0, z.2)) (c.args.n * c.args.w)) ∙ sym c.record_before.ensures ∙ c.if-not-record_before.true)
 
 pub overflow_sub-rear : goal.overflow_sub-rear
 overflow_sub-rear c =
@@ -31,17 +31,17 @@ overflow_sub-rear c =
     let z = run_sizes c.args.n c.args.m c.args.w len c.requires.0 c.requires.1 c.requires.3 in
     omega (arith, z.2)
 
-pub record_less-requires-2 : goal.record_less-requires-2
-record_less-requires-2 c =
+pub record_before-requires-2 : goal.record_before-requires-2
+record_before-requires-2 c =
     let len = length c.args.part.now in
     let z = run_sizes c.args.n c.args.m c.args.w len c.requires.0 c.requires.1 c.requires.3 in
     omega (arith, z.2, lent_len c.args.w (len - c.args.w) len c.args.part.now (omega (arith, z.2)) (omega (arith, z.2)))
 
-pub returns-then-not-record_less-2 : goal.returns-then-not-record_less-2
-returns-then-not-record_less-2 c =
+pub returns-then-not-record_before-2 : goal.returns-then-not-record_before-2
+returns-then-not-record_before-2 c =
     let len = length c.args.part.now in
     let z = run_sizes c.args.n c.args.m c.args.w len c.requires.0 c.requires.1 c.requires.3 in
-    cut_falling c.args.w c.args.n c.args.m c.args.part.now c.requires.0 c.requires.1 c.requires.3 (sym (lent_before c.args.w (len - c.args.w) len c.args.part.now (omega (arith, z.2)) (omega (arith, z.2)) 0) ∙ sym c.record_less-2.ensures ∙ c.if-not-record_less-2.true)
+    cut_falling c.args.w c.args.n c.args.m c.args.part.now c.requires.0 c.requires.1 c.requires.3 (sym (lent_before c.args.w (len - c.args.w) len c.args.part.now (omega (arith, z.2)) (omega (arith, z.2)) 0) ∙ sym c.record_before-2.ensures ∙ c.if-not-record_before-2.true)
 
 pub overflow_mul-i : goal.overflow_mul-i
 overflow_mul-i c =
@@ -60,8 +60,8 @@ returns-then-m-n c =
     let len = length c.args.part.now in
     let z = run_sizes c.args.n c.args.m c.args.w len c.requires.0 c.requires.1 c.requires.3 in
     cut_first c.args.w c.args.n c.args.m c.args.part.now c.requires.0 c.requires.1 c.requires.3 c.place-j.result c.if-m-n.true
-    (sym (lent_before c.args.w (c.args.n * c.args.w - c.args.w) (c.args.n * c.args.w) c.args.part.now (omega (arith, z.0)) (omega (arith, z.0, z.2)) (c.args.n * c.args.w)) ∙ sym c.record_less.ensures ∙ c.if-not-record_less.false)
-    (sym (lent_before c.args.w (len - c.args.w) len c.args.part.now (omega (arith, z.2)) (omega (arith, z.2)) 0) ∙ sym c.record_less-2.ensures ∙ c.if-not-record_less-2.false)
+    (sym (lent_before c.args.w (c.args.n * c.args.w - c.args.w) (c.args.n * c.args.w) c.args.part.now (omega (arith, z.0)) (omega (arith, z.0, z.2)) (c.args.n * c.args.w)) ∙ sym c.record_before.ensures ∙ c.if-not-record_before.false)
+    (sym (lent_before c.args.w (len - c.args.w) len c.args.part.now (omega (arith, z.2)) (omega (arith, z.2)) 0) ∙ sym c.record_before-2.ensures ∙ c.if-not-record_before-2.false)
     c.place-j.ensures
 
 pub overflow_mul-j : goal.overflow_mul-j

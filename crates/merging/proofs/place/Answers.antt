@@ -20,18 +20,18 @@ pub overflow_add-from : goal.overflow_add-from
 overflow_add-from c =
     omega (arith, half_room c.args.w c.args.from c.args.count c.loop-lo.lo c.loop-lo.hi (length c.args.part.now) (search rules) c.loop-lo.invariant.within c.requires.0)
 
-pub record_less-requires : goal.record_less-requires
-record_less-requires c =
+pub record_before-requires : goal.record_before-requires
+record_before-requires c =
     omega (arith, half_room c.args.w c.args.from c.args.count c.loop-lo.lo c.loop-lo.hi (length c.args.part.now) (search rules) c.loop-lo.invariant.within c.requires.0, lent_len c.args.w c.args.at (c.args.at + c.args.w) c.args.part.now (omega arith) c.requires.1)
 
-pub loop-lo-preserved-then-record_less : goal.loop-lo-preserved-then-record_less
-loop-lo-preserved-then-record_less c =
-    let b = sym (lent_before c.args.w c.args.at (c.args.at + c.args.w) c.args.part.now (omega arith) c.requires.1 (c.args.from + (c.loop-lo.lo + (c.loop-lo.hi - c.loop-lo.lo) / 2) * c.args.w)) ∙ sym c.record_less.ensures ∙ c.if-record_less.true in
+pub loop-lo-preserved-then-record_before : goal.loop-lo-preserved-then-record_before
+loop-lo-preserved-then-record_before c =
+    let b = sym (lent_before c.args.w c.args.at (c.args.at + c.args.w) c.args.part.now (omega arith) c.requires.1 (c.args.from + (c.loop-lo.lo + (c.loop-lo.hi - c.loop-lo.lo) / 2) * c.args.w)) ∙ sym c.record_before.ensures ∙ c.if-record_before.true in
     placing_up c.args.w c.args.from c.args.count c.args.at c.args.part.now c.loop-lo.lo c.loop-lo.hi (c.loop-lo.lo + (c.loop-lo.hi - c.loop-lo.lo) / 2) (omega arith) b c.loop-lo.invariant
 
 pub loop-lo-preserved : goal.loop-lo-preserved
 loop-lo-preserved c =
-    let b = sym (lent_before c.args.w c.args.at (c.args.at + c.args.w) c.args.part.now (omega arith) c.requires.1 (c.args.from + (c.loop-lo.lo + (c.loop-lo.hi - c.loop-lo.lo) / 2) * c.args.w)) ∙ sym c.record_less.ensures ∙ c.if-record_less.false in
+    let b = sym (lent_before c.args.w c.args.at (c.args.at + c.args.w) c.args.part.now (omega arith) c.requires.1 (c.args.from + (c.loop-lo.lo + (c.loop-lo.hi - c.loop-lo.lo) / 2) * c.args.w)) ∙ sym c.record_before.ensures ∙ c.if-record_before.false in
     placing_down c.args.w c.args.from c.args.count c.args.at c.args.part.now c.loop-lo.lo c.loop-lo.hi (c.loop-lo.lo + (c.loop-lo.hi - c.loop-lo.lo) / 2) (omega arith) (omega arith) b c.loop-lo.invariant
 
 pub returns : goal.returns
