@@ -1,5 +1,5 @@
 -- A record as the code makes it, byte by byte and bit by bit: one more bit doubles the number, one more byte goes behind the
--- others. The proofs of `atom_bit`, `record_byte` and `record_of` cite it. Assumes nothing.
+-- others. The proofs of `record_byte` and `record_of` cite it. Assumes nothing.
 use mathlib.Core.Path.{◌≡◌, refl, sym, ap, ◌∙◌}
 use mathlib.Core.Bool.{Bool, true, false}
 use mathlib.Core.List.{List, [], ◌∷◌, ◌++◌}
@@ -10,24 +10,10 @@ use native.Mathlib.Omega.{arith}
 use lib.ListN.{length, take, drop, set}
 use lib.Seq.{take-suc-set, drop-drop, get_or-drop}
 use Rattle.models.specs.StableModels.{Interpretation, atom_holds}
-use Rattle.models.specs.Listing.{bit_value, bits_value, packed, record_size, record_of}
+use Rattle.models.specs.Listing.{bit_value, bits_value, packed}
 use Rattle.models.proofs.RecordLaws.{high_lt}
 
 -- a bit
-pub bit-set : (m : Interpretation) (f : ℕ) → atom_holds m f ≡ true → 1 ≡ bit_value (atom_holds m f) 1
-unfolding bit_value
-bit-set m f e = rw e refl
-
-pub bit-clear : (m : Interpretation) (f : ℕ) → atom_holds m f ≡ false → 0 ≡ bit_value (atom_holds m f) 1
-unfolding bit_value
-bit-clear m f e = rw e refl
-
-pub bit_past : (m : Interpretation) (f : ℕ) → length m ≤ f → 0 ≡ bit_value (atom_holds m f) 1
-unfolding bit_value atom_holds
-bit_past [] f h = refl
-bit_past (a ∷ m) zero h = absurd (omega arith)
-bit_past (a ∷ m) (suc f) h = bit_past m f (omega arith)
-
 pub bit_le : (b : Bool) → bit_value b 1 ≤ 1
 unfolding bit_value
 bit_le true = omega arith
@@ -51,9 +37,9 @@ pub byte_start : (m : Interpretation) → 0 ≡ bits_value 0 m
 unfolding bits_value
 byte_start m = refl
 
-pub byte_step : (m : Interpretation) (at i v b : ℕ) → v ≡ bits_value i (drop at m) → b ≡ bit_value (atom_holds m (at + i)) 1 → v + v + b ≡ bits_value (i + 1) (drop at m)
+pub byte_step : (m : Interpretation) (at i v b : ℕ) → v ≡ bits_value i (drop at m) → b ≡ bit_value (atom_holds m (at + i)) 1 → 2 * v + b ≡ bits_value (i + 1) (drop at m)
 unfolding atom_holds
-byte_step m at i v b e f = rw (add-one i, bits_snoc i (drop at m), get_or-drop at m i false, e, f) refl
+byte_step m at i v b e f = rw (add-one i, bits_snoc i (drop at m), get_or-drop at m i false, ← e, ← f) (omega arith)
 
 -- before the last bit there is room for one more
 pub byte_fits : (m : Interpretation) (at i v : ℕ) → v ≡ bits_value i (drop at m) → i < 8 → v < 128
@@ -74,7 +60,3 @@ record_start m = refl
 
 pub record_step : (r : List ℕ) (m : Interpretation) (j v : ℕ) → j < length r → take j r ≡ packed j m → v ≡ bits_value 8 (drop (8 * j) m) → take (j + 1) (set r j v) ≡ packed (j + 1) m
 record_step r m j v h e f = rw (add-one j, take-suc-set r j v h, packed_snoc j m, e, f) refl
-
-pub record_end_lem : (r : List ℕ) (m : Interpretation) (j : ℕ) → j ≡ record_size (length m) → take j r ≡ packed j m → take (record_size (length m)) r ≡ record_of (length m) m
-unfolding record_of
-record_end_lem r m j e h = rw (← e) h

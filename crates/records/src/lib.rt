@@ -7,7 +7,7 @@ ghost use Rattle.models.specs.StableModels.{atom_holds};
 ghost use Rattle.models.specs.Listing.{bit_value, bits_value, record_size, record_of, be16, be32};
 ghost use Rattle.records.specs.Written.{added_to};
 
-use base::{MAX_RECORD, wide};
+use base::MAX_RECORD;
 use format::be32;
 use insertion::put_record;
 
@@ -15,6 +15,7 @@ use insertion::put_record;
 pub const HEAD_SIZE: usize = 11;
 
 // The bytes of a record of n facts.
+#[tactic(auto, unfolding(models::specs::Listing::record_size))]
 pub fn record_size(n: usize) -> usize
     requires { n ≤ max_atoms }
     ensures { (result ≡ record_size n) × (result ≤ max_record) }
@@ -23,15 +24,11 @@ pub fn record_size(n: usize) -> usize
 }
 
 // The bit of fact f; 0 where the state has no such fact.
+#[tactic(auto, unfolding(models::specs::Listing::bit_value, models::specs::StableModels::atom_holds))]
 pub fn atom_bit(m: &[bool], f: usize) -> u8
     ensures { result ≡ bit_value (atom_holds m.now f) 1 }
 {
-    if f < m.len() {
-        if m[f] {
-            return 1;
-        }
-    }
-    0
+    u8::from(m.get(f).copied().unwrap_or(false))
 }
 
 // The eight facts from an offset on, the first in the highest bit.
@@ -40,25 +37,21 @@ pub fn record_byte(m: &[bool], at: usize) -> u8
     ensures { result ≡ bits_value 8 (drop at m.now) }
 {
     let mut v: u8 = 0;
-    let mut i = 0;
-    while i < 8 {
-        v = v + v + atom_bit(m, at + i);
-        i += 1;
+    for i in 0..8 {
+        v = 2 * v + atom_bit(m, at + i);
     }
     v
 }
 
 // A state's record, in the first bytes.
+#[tactic(auto, using(crate::proofs::PackLaws::record_start), unfolding(models::specs::Listing::record_of))]
 pub fn record_of(m: &[bool]) -> [u8; MAX_RECORD]
     requires { length m.now ≤ max_atoms }
     ensures { take (record_size (length m.now)) result ≡ record_of (length m.now) m.now }
 {
     let mut r = [0; MAX_RECORD];
-    let w = record_size(m.len());
-    let mut j = 0;
-    while j < w {
+    for j in 0..record_size(m.len()) {
         r[j] = record_byte(m, 8 * j);
-        j += 1;
     }
     r
 }
@@ -68,23 +61,16 @@ pub fn put_state(state: &[bool], n: usize, part: &mut [u8], at: usize)
     requires { (length state.now ≡ n) × (n ≤ max_atoms) × (at + record_size n ≤ length part.old) }
     ensures { part.new ≡ take at part.old ++ (record_of n state.now ++ drop (at + record_size n) part.old) }
 {
-    let r = record_of(state);
-    let w = record_size(n);
-    put_record(part, at, &r[0..w]);
+    put_record(part, at, &record_of(state)[..record_size(n)]);
 }
 
 // Writes a number's last four bytes at an offset, the highest first.
+#[tactic(auto, unfolding(models::specs::Listing::be32))]
 pub fn put_be32(part: &mut [u8], at: usize, v: usize)
     requires { at + 4 ≤ length part.old }
     ensures { part.new ≡ take at part.old ++ (be32 v ++ drop (at + 4) part.old) }
 {
-    let bytes = [
-        (v / 16777216 % 256) as u8,
-        (v / 65536 % 256) as u8,
-        (v / 256 % 256) as u8,
-        (v % 256) as u8,
-    ];
-    put_record(part, at, &bytes[0..4]);
+    put_record(part, at, &v.to_be_bytes()[4..]);
 }
 
 // Adds a state to the sums by fact: to each fact's four bytes 1 where it stands.
@@ -92,31 +78,20 @@ pub fn add_state(m: &[bool], sums: &mut [u8])
     requires { (length m.now ≤ max_atoms) × (4 * length m.now ≤ length sums.old) }
     ensures { sums.new ≡ added_to (length m.now) sums.old m.now }
 {
-    let mut f = 0;
-    while f < m.len() {
-        let sum = be32(sums, 4 * f) + wide(atom_bit(m, f));
+    for (f, stands) in m.iter().enumerate() {
+        let sum = be32(sums, 4 * f) + usize::from(*stands);
         put_be32(sums, 4 * f, sum);
-        f += 1;
     }
 }
 
 // Writes the listing's head: version, length of the whole listing, n and k.
+#[tactic(auto, unfolding(models::specs::Listing::be16, models::specs::Listing::be32))]
 pub fn put_head(buf: &mut [u8], size: usize, n: usize, k: usize)
     requires { 11 ≤ length buf.old }
     ensures { buf.new ≡ 1 ∷ (be32 size ++ (be16 n ++ (be32 k ++ drop 11 buf.old))) }
 {
-    let head = [
-        1,
-        (size / 16777216 % 256) as u8,
-        (size / 65536 % 256) as u8,
-        (size / 256 % 256) as u8,
-        (size % 256) as u8,
-        (n / 256 % 256) as u8,
-        (n % 256) as u8,
-        (k / 16777216 % 256) as u8,
-        (k / 65536 % 256) as u8,
-        (k / 256 % 256) as u8,
-        (k % 256) as u8,
-    ];
-    put_record(buf, 0, &head[0..HEAD_SIZE]);
+    let [_, _, _, _, s0, s1, s2, s3] = size.to_be_bytes();
+    let [_, _, _, _, _, _, n0, n1] = n.to_be_bytes();
+    let [_, _, _, _, k0, k1, k2, k3] = k.to_be_bytes();
+    put_record(buf, 0, &[1, s0, s1, s2, s3, n0, n1, k0, k1, k2, k3]);
 }
