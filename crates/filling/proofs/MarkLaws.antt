@@ -19,7 +19,7 @@ use Rattle.base.proofs.MapLaws.{constant_at}
 use Rattle.format.specs.Book.{Literal, literal_of, literals_of}
 use Rattle.models.specs.StableModels.{atom_holds, complement}
 use Rattle.table.specs.Names.{literal_named}
-use Rattle.table.specs.Rows.{row_count, head_name, row_at, alive}
+use Rattle.table.specs.Rows.{row_count, head_name, row_body, row_at, alive}
 use Rattle.table.proofs.NameLaws.{name_low, name-high}
 use Rattle.filling.specs.Marks.{Room, literal_marked, adds}
 
@@ -45,73 +45,56 @@ set_keeps p f g h t = go (ℕ_discrete g f)
     go (no n) = subst T (sym (get_or-set_other p f g true false n)) t
 
 module _ (p q : List Bool) where
-  pub marked-low : (h : ℕ) → h < max_atoms → atom_holds p h ≡ literal_marked p q (literal_named h)
+  pub marked_low : (h : ℕ) → h < max_atoms → atom_holds p h ≡ literal_marked p q (literal_named h)
   unfolding literal_marked
-  marked-low h k = ap (literal_marked p q) (sym (name_low h k))
+  marked_low h k = ap (literal_marked p q) (sym (name_low h k))
 
-  pub marked-high : (h : ℕ) → max_atoms ≤ h → atom_holds q (h - max_atoms) ≡ literal_marked p q (literal_named h)
+  pub marked_high : (h : ℕ) → max_atoms ≤ h → atom_holds q (h - max_atoms) ≡ literal_marked p q (literal_named h)
   unfolding literal_marked
-  marked-high h k = ap (literal_marked p q) (sym (name-high h k))
+  marked_high h k = ap (literal_marked p q) (sym (name-high h k))
 
   -- a fact past the arrays is not marked, and the sign says which array has the mark
   module _ (l : Literal) where
-    pub marked-past : length q ≡ length p → length p ≤ l.atom → false ≡ literal_marked p q l
+    pub marked_past : length q ≡ length p → length p ≤ l.atom → false ≡ literal_marked p q l
     unfolding literal_marked atom_holds
-    marked-past size h = past l.negated
+    marked_past size h = past l.negated
       where
         past : (c : Bool) → false ≡ get_or (cond c q p) l.atom false
         past true = sym (get_or-eq_default q false (omega (arith, size)))
         past false = sym (get_or-eq_default p false h)
 
-    pub negated-marked : l.negated ≡ true → get_or q l.atom false ≡ literal_marked p q l
+    pub negated_marked : l.negated ≡ true → get_or q l.atom false ≡ literal_marked p q l
     unfolding literal_marked atom_holds
-    negated-marked e = rw e refl
+    negated_marked e = rw e refl
 
     pub plain_marked : l.negated ≡ false → get_or p l.atom false ≡ literal_marked p q l
     unfolding literal_marked atom_holds
     plain_marked e = rw e refl
 
--- the place of a name whose fact the arrays have
-pub fact-low : (h n : ℕ) → (literal_named h).atom < n → h < max_atoms → h < n
-fact-low h n b k = subst (λ (l : Literal). l.atom < n) (name_low h k) b
+-- the fact of a name
+pub atom_low : (h : ℕ) → h < max_atoms → (literal_named h).atom ≡ h
+atom_low h k = ap (λ (l : Literal). l.atom) (name_low h k)
 
-pub fact-high : (h n : ℕ) → (literal_named h).atom < n → max_atoms ≤ h → h - max_atoms < n
-fact-high h n b k = subst (λ (l : Literal). l.atom < n) (name-high h k) b
+pub atom_high : (h : ℕ) → max_atoms ≤ h → (literal_named h).atom ≡ h - max_atoms
+atom_high h k = ap (λ (l : Literal). l.atom) (name-high h k)
 
 -- a head, whose name is in a local, and its opposite
 module _ {rows : List Row} {p q : List Bool} (w : Room rows p q) where
-  pub head-within : (j h : ℕ) → j < row_count rows → h ≡ head_name rows j → (literal_named h).atom < length p
-  head-within j h b e = subst (λ (x : ℕ). (literal_named x).atom < length p) (sym e) (w.heads j b)
+  pub head_within : (j h : ℕ) → j < row_count rows → h ≡ head_name rows j → (literal_named h).atom < length p
+  head_within j h b e = subst (λ (x : ℕ). (literal_named x).atom < length p) (sym e) (w.heads j b)
 
   pub opposite_within : (j h o : ℕ) → j < row_count rows → h ≡ head_name rows j → literal_named o ≡ complement (literal_named h) → (literal_named o).atom < length p
   unfolding complement
-  opposite_within j h o b e c = subst (λ (l : Literal). l.atom < length p) (sym c) (head-within j h b e)
+  opposite_within j h o b e c = subst (λ (l : Literal). l.atom < length p) (sym c) (head_within j h b e)
 
   pub room-same : (p' q' : List Bool) → length p' ≡ length p → length q' ≡ length q → Room rows p' q'
   room-same p' q' x y = record { same = y ∙ w.same ∙ sym x; few = omega (arith, x, w.few); heads = λ j b. omega (arith, x, w.heads j b) }
 
--- the tests of a row, one after the other: its head, whether it is alive, its body
-module _ (p q : List Bool) (book : List ℕ) (rows : List Row) (rejects : List ℕ) (j h : ℕ) (e : h ≡ head_name rows j) (r : Bool) (er : r ≡ literal_marked p q (literal_named h)) where
-  head_mark : r ≡ literal_marked p q (row_at book rows j).head
-  unfolding row_at
-  head_mark = er ∙ ap (λ (x : ℕ). literal_marked p q (literal_named x)) e
-
-  pub adds-not : r ≡ true → false ≡ adds p q rejects (row_at book rows j)
-  unfolding adds
-  adds-not t = ap (λ (c : Bool). not c && (alive rejects (row_at book rows j) && all (literal_marked p q) (row_at book rows j).body)) (sym t ∙ head_mark)
-
-  module _ (f : r ≡ false) (a : Bool) (ea : a ≡ alive rejects (row_at book rows j)) where
-    rest : (a && all (literal_marked p q) (row_at book rows j).body) ≡ adds p q rejects (row_at book rows j)
-    unfolding adds
-    rest =
-        ap (λ (c : Bool). c && all (literal_marked p q) (row_at book rows j).body) ea
-        ∙ ap (λ (c : Bool). not c && (alive rejects (row_at book rows j) && all (literal_marked p q) (row_at book rows j).body)) (sym f ∙ head_mark)
-
-    pub adds_dead : a ≡ false → false ≡ adds p q rejects (row_at book rows j)
-    adds_dead t = ap (λ (c : Bool). c && all (literal_marked p q) (row_at book rows j).body) (sym t) ∙ rest
-
-    pub adds-body : a ≡ true → (b : Bool) → b ≡ all (literal_marked p q) (row_at book rows j).body → b ≡ adds p q rejects (row_at book rows j)
-    adds-body t b eb = eb ∙ ap (λ (c : Bool). c && all (literal_marked p q) (row_at book rows j).body) (sym t) ∙ rest
+-- the tests of a row: its head, whether it is alive, its body
+pub adds_row : (p q : List Bool) (book : List ℕ) (rows : List Row) (rejects : List ℕ) (j : ℕ)
+    → adds p q rejects (row_at book rows j) ≡ (not (literal_marked p q (literal_named (head_name rows j))) && (alive rejects (row_at book rows j) && all (literal_marked p q) (literals_of (row_body book rows j))))
+unfolding adds row_at
+adds_row p q book rows rejects j = refl
 
 -- a literal of the bytes that fails a test, by its number
 and-off : (c d : Bool) → false ≡ d → false ≡ (c && d)

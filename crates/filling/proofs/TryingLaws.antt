@@ -7,7 +7,7 @@ use Prim.Native.Nat.{ℕ, ◌-◌, ◌<◌, ◌≤◌}
 use native.Mathlib.Decide.{dec_lt}
 use native.Mathlib.Omega.{arith}
 use lib.Dec.{T}
-use lib.ListN.{length, set}
+use lib.ListN.{set}
 use Rattle.std.specs.Prelude.{Ok, Err}
 use Rattle.base.specs.Bounds.{max_atoms, max_names}
 use Rattle.format.specs.Book.{Literal}
@@ -16,7 +16,7 @@ use Rattle.table.specs.Names.{literal_named}
 use Rattle.table.specs.Rows.{row_count, head_name, row_at}
 use Rattle.table.proofs.NameLaws.{name_low, name-high}
 use Rattle.filling.specs.Marks.{Room, literal_marked, adds, FollowsFrom, Conflict, Tried}
-use Rattle.filling.proofs.MarkLaws.{fact-low, fact-high, head-within}
+use Rattle.filling.proofs.MarkLaws.{atom_low, atom_high, head_within}
 use Rattle.filling.proofs.GrowingLaws.{OneMore, one_low, one_high, opposite_free, grown-none, grown_one, head-follows}
 
 -- a fact both ways
@@ -58,7 +58,7 @@ module _ {E : Type 0} {book : List ℕ} {rows : List Row} {rejects : List ℕ} {
       }
 
       pub tried_low : h < max_atoms → Tried {E = E} book rows rejects j p q (set p h true) q (Ok true)
-      tried_low k = one_tried (one_low book rows rejects p q j (sym a) h e k (fact-low h (length p) (head-within w j h b e) k))
+      tried_low k = one_tried (one_low book rows rejects p q j (sym a) h e k (omega (arith, atom_low h k, head_within w j h b e)))
 
       pub tried_high : max_atoms ≤ h → Tried {E = E} book rows rejects j p q p (set q (h - max_atoms) true) (Ok true)
-      tried_high k = one_tried (one_high book rows rejects p q j (sym a) h e k (omega (arith, w.same, fact-high h (length p) (head-within w j h b e) k)))
+      tried_high k = one_tried (one_high book rows rejects p q j (sym a) h e k (omega (arith, w.same, atom_high h k, head_within w j h b e)))

@@ -34,6 +34,7 @@ struct Marks<'a> {
 
 impl Marks<'_> {
     // The mark of a name.
+    #[tactic(auto, using(crate::proofs::MarkLaws::marked_low, crate::proofs::MarkLaws::marked_high, crate::proofs::MarkLaws::atom_low, crate::proofs::MarkLaws::atom_high), unfolding(models::specs::StableModels::atom_holds))]
     fn name(&self, h: usize) -> bool
         requires { (literal_named h).atom < length self.now.positive.now }
         ensures { result ≡ literal_marked self.now.positive.now self.now.negative.now (literal_named h) }
@@ -47,6 +48,7 @@ impl Marks<'_> {
 
     // The mark of a literal. Both arrays are read, so that the sign is no branch: bodies mix signs as they like. A fact past them has
     // no mark.
+    #[tactic(auto, using(crate::proofs::MarkLaws::marked_past, crate::proofs::MarkLaws::negated_marked, crate::proofs::MarkLaws::plain_marked))]
     fn literal(&self, l: Literal) -> bool
         ensures { result ≡ literal_marked self.now.positive.now self.now.negative.now l }
     {
@@ -109,10 +111,10 @@ pub struct Rules<'a> {
     ghost masks: { length rejects.now ≡ max_names },
 }
 
-// Kept: the arrays of marks are handed on as two slices. A struct that holds them as `&mut` would have to say in the clauses of each
-// step that it still holds the arrays that were lent to it.
+// Kept: marks are lent as two slices, since with a struct of two `&mut` each step's clauses also say that it still holds those two.
 impl Rules<'_> {
     // Whether a row adds its head: the head is not marked, the row is alive and its body is marked.
+    #[tactic(auto, using(crate::proofs::MarkLaws::adds_row))]
     fn adds(&self, marks: &Marks, hints: &Hints, j: usize) -> bool
         requires room { Room self.now.table.rows.now marks.now.positive.now marks.now.negative.now }
         requires j_bound { j < row_count self.now.table.rows.now }

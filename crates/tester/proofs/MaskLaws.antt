@@ -25,12 +25,12 @@ use Rattle.filling.proofs.MarkLaws.{blank, set_only, set_keeps}
 
 -- rejection
 module _ {book : List ℕ} {rows : List Row} {m : Interpretation} where
-  pub rejects_start : RejectedMasks book rows m (replicate {A = ℕ} max_names 0) 0
-  rejects_start = record {
+  pub rejects_start : (rejects : List ℕ) → rejects ≡ replicate {A = ℕ} max_names 0 → RejectedMasks book rows m rejects 0
+  rejects_start rejects z = rw z (record {
     size = length-replicate {A = ℕ} max_names 0;
     sound = λ h i e. absurd (zero_bit (get_or (replicate {A = ℕ} max_names 0) h 0) i (no_bits max_names h) e);
     full = λ h i x b. absurd (omega (arith, x.before));
-  }
+  })
 
   later : {j h i : ℕ} → Rejection book rows m j h i → Rejection book rows m (j + 1) h i
   later x = record { row = x.row; before = omega (arith, x.before); facing = x.facing; holds_in = x.holds_in; bit = x.bit }
@@ -183,9 +183,9 @@ module _ (m : Interpretation) (h : ℕ) where
   unfolding holds signed
   plain_holds b = ap (holds m) (sym (name_low h b))
 
-  pub negated-holds : max_atoms ≤ h → not (atom_holds m (h - max_atoms)) ≡ holds m (literal_named h)
+  pub negated_holds : max_atoms ≤ h → not (atom_holds m (h - max_atoms)) ≡ holds m (literal_named h)
   unfolding holds signed
-  negated-holds b = ap (holds m) (sym (name-high h b))
+  negated_holds b = ap (holds m) (sym (name-high h b))
 
 -- violated rows
 head-holds : (book : List ℕ) (rows : List Row) (m : Interpretation) (j h : ℕ) → h ≡ head_name rows j → (x : Bool) → x ≡ holds m (literal_named h) → x ≡ holds m (row_at book rows j).head

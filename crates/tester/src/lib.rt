@@ -32,6 +32,7 @@ fn row_mask(table: Table, m: &[bool], j: usize) -> u32
 }
 
 // Bit i at name h: rules of layer i with that head are rejected. The array is lent, all 0.
+#[tactic(auto, using(crate::proofs::MaskLaws::rejects_skip, crate::proofs::MaskLaws::rejects_more))]
 fn reject(table: Table, m: &[bool], rejects: &mut [u32])
     requires { rejects.old ≡ replicate max_names 0 }
     ensures { RejectedMasks table.entry.book.now table.entry.rows.now m.now rejects.new (row_count table.entry.rows.now) }
@@ -45,6 +46,7 @@ fn reject(table: Table, m: &[bool], rejects: &mut [u32])
 }
 
 // Whether the literal of a name holds.
+#[tactic(auto, using(crate::proofs::MaskLaws::plain_holds, crate::proofs::MaskLaws::negated_holds))]
 fn name_holds(m: &[bool], h: usize) -> bool
     ensures { result ≡ holds m.now (literal_named h) }
 {
@@ -78,6 +80,7 @@ fn supported(rules: &Rules, m: &[bool], atoms: &mut [bool]) -> bool
 }
 
 // Marks the defaults: the atoms that are not supported.
+#[tactic(auto, using(crate::proofs::MaskLaws::others_more, crate::proofs::MaskLaws::others_end))]
 fn mark_defaults(atoms: &[bool], others: &mut [bool])
     requires { length others.old ≡ length atoms.now }
     ensures { Others atoms.now others.new (length atoms.now) }
@@ -88,6 +91,7 @@ fn mark_defaults(atoms: &[bool], others: &mut [bool])
 }
 
 // Whether the marks of an atom are what the interpretation says of it.
+#[tactic(auto, unfolding(crate::specs::Agreement::marks_agree))]
 fn mark_agrees(positive: &[bool], negative: &[bool], m: &[bool], f: usize) -> bool
     ensures { result ≡ marks_agree positive.now negative.now m.now f }
 {
@@ -99,12 +103,7 @@ fn mark_agrees(positive: &[bool], negative: &[bool], m: &[bool], f: usize) -> bo
 fn marks_agree(positive: &[bool], negative: &[bool], m: &[bool], n: usize) -> bool
     ensures { result ≡ all (marks_agree positive.now negative.now m.now) (up_to n) }
 {
-    for f in 0..n {
-        if !mark_agrees(positive, negative, m, f) {
-            return false;
-        }
-    }
-    true
+    (0..n).all(|f| mark_agrees(positive, negative, m, f))
 }
 
 // Whether an interpretation is a stable model of the program that the rows and masks tabulate, where it is known which rules are rejected

@@ -1,14 +1,16 @@
--- The invariant: the atoms passed agree.
-use Rattle.tester.specs.Agreement.{marks_agree}
-use Rattle.tester.proofs.AgreementLaws.{all_fails, all_end}
-use borrow.Author.Rules.{rules}
+-- The chain tests the atoms below `n`, one after the other.
+use mathlib.Core.Path.{refl, ap, ◌∙◌}
+use Rattle.std.proofs.Common.{rules, tests}
+use Rattle.std.proofs.lemmas.Iterator.{YieldsList-from_range}
+use Rattle.std.proofs.lemmas.Iterator.Search.{all_from_yields_List}
 use native.Mathlib.Omega.{arith}
+use Rattle.base.specs.Lists.{all}
+use Rattle.layers.proofs.UpToLaws.{up_to_range}
+use Rattle.tester.specs.Agreement.{marks_agree}
 use Rattle.tester.proofs.marks_agree.Goals as goal
 
-pub returns-then-not-mark_agrees : goal.returns-then-not-mark_agrees
-returns-then-not-mark_agrees c =
-    all_fails (marks_agree c.args.positive.now c.args.negative.now c.args.m.now) c.args.n c.loop-f.f (search rules) c.if-not-mark_agrees.ensures
-
 pub returns : goal.returns
+unfolding all
 returns c =
-    all_end (marks_agree c.args.positive.now c.args.negative.now c.args.m.now) c.args.n c.loop-f.f c.loop-f.invariant (omega arith)
+    all_from_yields_List (marks_agree c.args.positive.now c.args.negative.now c.args.m.now) c.all.new.self _ _ c.all.ensures.ran (YieldsList-from_range 0 c.args.n c.args.n refl (omega arith)) (λ x b q k. search (rules, tests))
+    ∙ ap (all (marks_agree c.args.positive.now c.args.negative.now c.args.m.now)) (up_to_range c.args.n)

@@ -1,5 +1,5 @@
 -- The row adds its head and the opposite is marked, or a mark more stands in one of the two arrays.
-use Rattle.filling.proofs.MarkLaws.{fact-low, fact-high, head-within, opposite_within}
+use Rattle.filling.proofs.MarkLaws.{atom_low, atom_high, head_within, opposite_within}
 use Rattle.filling.proofs.TryingLaws.{tried_clash, tried_low, tried_high}
 use native.Mathlib.Omega.{arith}
 use Rattle.filling.proofs.Rules.add_head.Goals as goal
@@ -14,11 +14,11 @@ returns-then-name c =
 
 pub bounds-positive-h : goal.bounds-positive-h
 bounds-positive-h c =
-    omega (arith, fact-low _ _ (head-within c.requires.room _ _ c.requires.j_bound c.head-h.ensures.0) c.if-h-lt-MAX_ATOMS.true)
+    omega (arith, atom_low _ c.if-h-lt-MAX_ATOMS.true, head_within c.requires.room _ _ c.requires.j_bound c.head-h.ensures.0)
 
 pub bounds-negative-h : goal.bounds-negative-h
 bounds-negative-h c =
-    omega (arith, c.requires.room.same, fact-high _ _ (head-within c.requires.room _ _ c.requires.j_bound c.head-h.ensures.0) c.if-h-lt-MAX_ATOMS.false)
+    omega (arith, c.requires.room.same, atom_high _ c.if-h-lt-MAX_ATOMS.false, head_within c.requires.room _ _ c.requires.j_bound c.head-h.ensures.0)
 
 pub returns-then-h-lt-MAX_ATOMS : goal.returns-then-h-lt-MAX_ATOMS
 returns-then-h-lt-MAX_ATOMS c =

@@ -1,13 +1,7 @@
 -- What `fill_on` makes of the start's negations and no fact is the filling from the start: they follow from it, and no fact is marked.
 use lib.ListN.{length}
-use Rattle.filling.proofs.MarkLaws.{room-same}
 use Rattle.filling.proofs.FillingLaws.{filled-from-start}
-use borrow.Author.Rules.{rules}
 use Rattle.filling.proofs.Rules.fill.Goals as goal
-
-pub fill_on-requires : goal.fill_on-requires
-fill_on-requires c =
-    room-same c.requires _ _ (search rules) (search rules)
 
 pub returns : goal.returns
 returns c =
