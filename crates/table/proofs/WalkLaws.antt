@@ -1,27 +1,26 @@
 -- The rows are made in one walk over the rules' records by length byte: what the record at an offset gives, what the walk keeps,
 -- and that it ends with the rows of the rules that pass the mask. Used by make_rows. Assumes nothing.
-use mathlib.Core.Path.{◌≡◌, refl, sym, ap, subst, ◌∙◌}
+use mathlib.Core.Path.{◌≡◌, refl, sym, ap, ap₂, subst, ◌∙◌}
 use mathlib.Core.Bool.{Bool, true, false, not, ◌&&◌, false≢true}
 use mathlib.Core.List.Memᴰ
 use mathlib.Core.List.{List, [], ◌∷◌, ◌++◌, map, append_assoc, append-nil}
 use Prim.Native.Nat.{ℕ, zero, suc, ◌+◌, ◌-◌, ◌<◌, ◌≤◌}
 use native.Mathlib.Decide.{dec_lt}
 use native.Mathlib.Omega.{arith}
-use lib.Dec.{eqb}
 use lib.ListN.{length, get_or, set, length-set, take, drop, length-take}
-use lib.Seq.{get_or-set_same, get_or-set_other, get_or-take, get_or-drop, drop-drop, take-nil}
+use lib.Seq.{get_or-take, get_or-drop, drop-drop, take-nil}
 use Rattle.std.proofs.lemmas.List.{take_more_set, map-id}
 use Rattle.base.specs.Bounds.{max_atoms, max_names, max_layers, max_rules}
 use Rattle.base.specs.Lists.{cons_if, filter}
-use Rattle.layers.specs.Masks.{bit_of}
-use Rattle.format.specs.Book.{Literal, Rule, literal_of, literals_of, rule_of, is_falsity, is_constraint, records, meets_end, record_end}
+use Rattle.format.specs.Book.{Literal, Rule, literal_of, literals_of, rule_of, is_constraint, records, meets_end, record_end}
 use Rattle.base.proofs.Members.{◌∈◌}
-use Rattle.base.proofs.MapLaws.{map_snoc}
 use Rattle.format.proofs.Offsets.{records_cut, records_done, meets_fails, meets_more, count-more}
 use Rattle.table.specs.Names.{literal_named}
 use Rattle.table.specs.declared.Row.{Row}
 use Rattle.table.specs.declared.TheConstants.{NO_ROW}
-use Rattle.table.specs.Rows.{SpanFits, row_rule, rows_of, in_mask, takes_rule}
+use Rattle.table.specs.Rows.{row_rule, rows_of, in_mask, takes_rule, RowFits}
+use Rattle.table.specs.Records.{head_at, rule_at, RuleAt, Stand, Gathered, RowOf, BodyOf}
+use Rattle.table.specs.declared.Span.{Span}
 use Rattle.table.specs.Table.{RuleRecord, RuleRecords, RowsMade}
 
 drop-take : (i n : ℕ) (s : List ℕ) → drop i (take n s) ≡ take (n - i) (drop i s)
@@ -30,18 +29,6 @@ drop-take (suc i) zero [] = sym (take-nil (0 - suc i))
 drop-take (suc i) (suc n) [] = sym (take-nil (suc n - suc i))
 drop-take (suc i) zero (x ∷ s) = ap (λ (k : ℕ). take k (drop i s)) {x = 0} {y = 0 - suc i} (omega arith)
 drop-take (suc i) (suc n) (x ∷ s) = drop-take i n s ∙ ap (λ (k : ℕ). take k (drop i s)) {x = n - i} {y = suc n - suc i} (omega arith)
-
--- the rule of the record at an offset
-unfoldable pub rule_at : List ℕ → ℕ → Rule
-rule_at s at = record {
-  layer = get_or s (at + 1) 0;
-  head = literal_of (get_or s (at + 2) 0) (get_or s (at + 3) 0);
-  body = literals_of (take (get_or s at 0 - 3) (drop (at + 4) s));
-}
-
--- its head
-abbrev pub head_at : List ℕ → ℕ → Literal
-head_at s at = literal_of (get_or s (at + 2) 0) (get_or s (at + 3) 0)
 
 rule_here : (s : List ℕ) (at : ℕ) → 3 ≤ get_or s at 0 → rule_of (take (get_or s at 0) (drop (at + 1) s)) ≡ rule_at s at
 unfolding rule_of rule_at
@@ -61,10 +48,7 @@ rule_here s at k =
 
 -- what the record at an offset gives
 pub record RecordAt (s : List ℕ) (at : ℕ) : Type 0 where
-  pub long : 3 ≤ get_or s at 0
-  pub ends : at + 1 + get_or s at 0 ≤ length s
-  pub layer_low : get_or s (at + 1) 0 < max_layers
-  pub atom_low : is_falsity (literal_of (get_or s (at + 2) 0) (get_or s (at + 3) 0)) ≡ false → (literal_of (get_or s (at + 2) 0) (get_or s (at + 3) 0)).atom < max_atoms
+  pub here : RuleAt s at
   pub count : length (records (drop at s)) ≡ 1 + length (records (drop (at + 1 + get_or s at 0) s))
   pub whole : meets_end (drop (at + 1 + get_or s at 0) s) ≡ true
   pub each : (r : List ℕ) → r ∈ records (drop (at + 1 + get_or s at 0) s) → RuleRecord r
@@ -97,10 +81,12 @@ module _ (s : List ℕ) (at : ℕ) (h : at < length s) (w : meets_end (drop at s
   pub record_at_lem : RecordAt s at
   unfolding filter rule_at is_constraint
   record_at_lem = record {
-    long = size;
-    ends = omega (arith, room);
-    layer_low = subst (λ (r : Rule). r.layer < max_layers) (rule_here s at size) first_record.layer_low;
-    atom_low = λ e. subst (λ (r : Rule). r.head.atom < max_atoms) (rule_here s at size) (first_record.atom_low (ap is_constraint (rule_here s at size) ∙ e));
+    here = record {
+      long = size;
+      ends = omega (arith, room);
+      layer_low = subst (λ (r : Rule). r.layer < max_layers) (rule_here s at size) first_record.layer_low;
+      atom_low = λ e. subst (λ (r : Rule). r.head.atom < max_atoms) (rule_here s at size) (first_record.atom_low (ap is_constraint (rule_here s at size) ∙ e));
+    };
     count = count-more s at h;
     whole = sym (meets_more s at h room) ∙ w;
     each = λ r k. every r (subst (λ (rs : List (List ℕ)). r ∈ rs) (sym split) (Memᴰ.tail k));
@@ -117,18 +103,27 @@ rules_end : (p : Rule → Bool) (s : List ℕ) (at : ℕ) → length s ≤ at �
 unfolding filter
 rules_end p s at h = ap (λ (rs : List (List ℕ)). filter p (map rule_of rs)) (records_done s at h)
 
--- A walk that writes an entry for each rule that it takes. What an entry stands for is its `value`, and what it is to stand for is the
--- rule's own (`of_rule`); each entry `fits` the book.
-module _ {E V : Type 0} (value : E → V) (of_rule : Rule → V) (takes : Rule → Bool) (fits : E → Type 0) (book : List ℕ) (first : ℕ) where
-  -- it has come to an offset, with k entries written
+-- ---- the walk
+stand_more : {E : Type 0} (stands : E → Rule → Type 0) (es : List E) (rs : List Rule) (e : E) (r : Rule) → Stand stands es rs → stands e r → Stand stands (es ++ (e ∷ [])) (rs ++ (r ∷ []))
+stand_more stands [] [] e r s x = (x, tt)
+stand_more stands [] (r' ∷ rs) e r s x = absurd s
+stand_more stands (e' ∷ es) [] e r s x = absurd s
+stand_more stands (e' ∷ es) (r' ∷ rs) e r s x = (s.0, stand_more stands es rs e r s.1 x)
+
+module _ {E : Type 0} (takes : Rule → Bool) (stands : List ℕ → E → Rule → Type 0) (book : List ℕ) (first mask : ℕ) where
+  abbrev pub counts : Rule → Bool
+  counts r = in_mask mask r && takes r
+
+  -- it has come to an offset, with k entries written, which stand for the rules passed that count
   pub record WalkedTo (out : List E) (k at : ℕ) : Type 0 where
     pub within : at ≤ length book
     pub whole : meets_end (drop at book) ≡ true
     pub room : k + length (records (drop at book)) ≤ max_rules
     pub each : (r : List ℕ) → r ∈ records (drop at book) → RuleRecord r
     pub size : length out ≡ max_rules
-    pub fit : (d : E) (j : ℕ) → j < k → fits (get_or out j d)
-    pub made : map value (take k out) ++ map of_rule (filter takes (rules_from book at)) ≡ map of_rule (filter takes (rules_from book first))
+    pub done : List Rule
+    pub made : done ++ filter counts (rules_from book at) ≡ filter counts (rules_from book first)
+    pub entries : Stand (stands book) (take k out) done
 
   pub walk_start : (out : List E) → length out ≡ max_rules → RuleRecords (drop first book) → first ≤ length book → WalkedTo out 0 first
   walk_start out e w h = record {
@@ -137,126 +132,97 @@ module _ {E V : Type 0} (value : E → V) (of_rule : Rule → V) (takes : Rule �
     room = omega (arith, w.few);
     each = w.each;
     size = e;
-    fit = λ d j b. absurd (omega arith);
+    done = [];
     made = refl;
+    entries = tt;
   }
 
-module _ {E V : Type 0} {value : E → V} {of_rule : Rule → V} {takes : Rule → Bool} {fits : E → Type 0} {book : List ℕ} {first : ℕ} {out : List E} {k at : ℕ}
-    (w : WalkedTo value of_rule takes fits book first out k at) where
-  module _ (h : at < length book) where
-    pub here : RecordAt book at
-    here = record_at_lem book at h w.whole w.each
+  module _ {out : List E} {k at : ℕ} (w : WalkedTo out k at) where
+    module _ (h : at < length book) where
+      record_at : RecordAt book at
+      record_at = record_at_lem book at h w.whole w.each
 
-    -- there is room for one more
-    pub free : k < max_rules
-    free = omega (arith, w.room, here.count)
+      pub here : RuleAt book at
+      here = record_at.here
 
-    later : List Rule
-    later = filter takes (rules_from book (at + 1 + get_or book at 0))
+      -- there is room for one more
+      pub free : k < max_rules
+      free = omega (arith, w.room, record_at.count)
 
-    pub walk_skip : takes (rule_at book at) ≡ false → WalkedTo value of_rule takes fits book first out k (at + 1 + get_or book at 0)
-    unfolding cons_if later
-    walk_skip n = record {
-      within = here.ends;
-      whole = here.whole;
-      room = omega (arith, w.room, here.count);
-      each = here.each;
+      later : List Rule
+      later = filter counts (rules_from book (at + 1 + get_or book at 0))
+
+      pub walk_skip : counts (rule_at book at) ≡ false → WalkedTo out k (at + 1 + get_or book at 0)
+      unfolding cons_if later
+      walk_skip n = record {
+        within = here.ends;
+        whole = record_at.whole;
+        room = omega (arith, w.room, record_at.count);
+        each = record_at.each;
+        size = w.size;
+        done = w.done;
+        made = ap (λ (x : List Rule). w.done ++ x) (sym (record_at.rules counts ∙ ap (λ (c : Bool). cons_if c (rule_at book at) later) n)) ∙ w.made;
+        entries = w.entries;
+      }
+
+      pub walk_more : (e : E) → stands book e (rule_at book at) → counts (rule_at book at) ≡ true → WalkedTo (set out k e) (k + 1) (at + 1 + get_or book at 0)
+      unfolding cons_if later
+      walk_more e es t = record {
+        within = here.ends;
+        whole = record_at.whole;
+        room = omega (arith, w.room, record_at.count);
+        each = record_at.each;
+        size = length-set out k e ∙ w.size;
+        done = w.done ++ (rule_at book at ∷ []);
+        made =
+            append_assoc w.done (rule_at book at ∷ []) later
+            ∙ ap (λ (x : List Rule). w.done ++ x) (sym (record_at.rules counts ∙ ap (λ (c : Bool). cons_if c (rule_at book at) later) t))
+            ∙ w.made;
+        entries =
+            subst (λ (xs : List E). Stand (stands book) xs (w.done ++ (rule_at book at ∷ []))) (sym (take_more_set out k e (omega (arith, w.size, free))))
+            (stand_more (stands book) (take k out) w.done e (rule_at book at) w.entries es);
+      }
+
+    pub walk_end : length book ≤ at → Gathered takes stands book first mask out k
+    walk_end h = record {
+      room = omega (arith, w.room);
       size = w.size;
-      fit = w.fit;
-      made =
-          ap (λ (x : List Rule). map value (take k out) ++ map of_rule x)
-          (sym (here.rules takes ∙ ap (λ (c : Bool). cons_if c (rule_at book at) later) n))
-          ∙ w.made;
+      entries =
+          subst (Stand (stands book) (take k out))
+          (sym (append-nil w.done) ∙ ap (λ (x : List Rule). w.done ++ x) (sym (rules_end counts book at h)) ∙ w.made) w.entries;
     }
 
-    pub walk_more : (e : E) → value e ≡ of_rule (rule_at book at) → fits e → takes (rule_at book at) ≡ true
-        → WalkedTo value of_rule takes fits book first (set out k e) (k + 1) (at + 1 + get_or book at 0)
-    unfolding cons_if later
-    walk_more e ev ef t = record {
-      within = here.ends;
-      whole = here.whole;
-      room = omega (arith, w.room, here.count);
-      each = here.each;
-      size = length-set out k e ∙ w.size;
-      fit = λ d j b. at_place d j b (dec_lt j k);
-      made =
-          ap (λ (x : List V). x ++ map of_rule later) longer
-          ∙ append_assoc (map value (take k out)) (of_rule (rule_at book at) ∷ []) (map of_rule later)
-          ∙ ap (λ (x : List Rule). map value (take k out) ++ map of_rule x)
-          (sym (here.rules takes ∙ ap (λ (c : Bool). cons_if c (rule_at book at) later) t))
-          ∙ w.made;
-    }
-      where
-        longer : map value (take (k + 1) (set out k e)) ≡ map value (take k out) ++ (of_rule (rule_at book at) ∷ [])
-        longer =
-            ap (map value) (take_more_set out k e (omega (arith, w.size, free)))
-            ∙ map_snoc value (take k out) e
-            ∙ ap (λ (v : V). map value (take k out) ++ (v ∷ [])) ev
+-- ---- what the entries say: their values are those of the rules, and each of them fits
+module _ {E V : Type 0} (value : E → V) (of_rule : Rule → V) (fits : E → Type 0) where
+  abbrev says : E → Rule → Type 0
+  says e r = (value e ≡ of_rule r) × fits e
 
-        at_place : (d : E) (j : ℕ) → j < k + 1 → Dec (j < k) → fits (get_or (set out k e) j d)
-        at_place d j b (yes a) = subst fits (sym (get_or-set_other out k j e d (λ z. omega arith))) (w.fit d j a)
-        at_place d j b (no a) = let z : j ≡ k = omega arith in rw (z, get_or-set_same out k e d (omega (arith, w.size, free))) ef
+  pub stand_values : (es : List E) (rs : List Rule) → Stand says es rs → map value es ≡ map of_rule rs
+  stand_values [] [] s = refl
+  stand_values [] (r ∷ rs) s = absurd s
+  stand_values (e ∷ es) [] s = absurd s
+  stand_values (e ∷ es) (r ∷ rs) s = ap₂ (λ (v : V) (vs : List V). v ∷ vs) s.0.0 (stand_values es rs s.1)
 
-  -- at the end the first k entries are those of the rules taken
-  pub walk_made : length book ≤ at → map value (take k out) ≡ map of_rule (filter takes (rules_from book first))
-  walk_made h =
-      sym (append-nil (map value (take k out)))
-      ∙ ap (λ (x : List Rule). map value (take k out) ++ map of_rule x) (sym (rules_end takes book at h))
-      ∙ w.made
-
-  pub walk_fits : (d : E) (j : ℕ) → j < length (take k out) → fits (get_or (take k out) j d)
-  walk_fits d j h =
-      let b : j < k = omega (arith, length-take k out) in
-      rw (get_or-take k out j d b) (w.fit d j b)
+  pub stand_fits : (es : List E) (rs : List Rule) → Stand says es rs → (d : E) (j : ℕ) → j < length es → fits (get_or es j d)
+  stand_fits [] rs s d j h = absurd (omega arith)
+  stand_fits (e ∷ es) [] s d j h = absurd s
+  stand_fits (e ∷ es) (r ∷ rs) s d zero h = s.0.1
+  stand_fits (e ∷ es) (r ∷ rs) s d (suc j) h = stand_fits es rs s.1 d j (omega arith)
 
 -- ---- rows
--- a row has the name of a literal, a layer, and a body in the book
-abbrev pub RowFits : List ℕ → Row → Type 0
-RowFits book r = (r.head < max_names) × (r.layer < max_layers) × SpanFits book r.body
+pub rows_made : {book : List ℕ} {first mask : ℕ} {rows : List Row} {k : ℕ} → Gathered (λ r. not (is_constraint r)) RowOf book first mask rows k → RowsMade book first mask rows k
+unfolding rows_of takes_rule
+rows_made {book} {first} {mask} {rows} {k} w =
+    let fit = stand_fits (row_rule book) (λ r. r) (RowFits book) (take k rows) _ w.entries NO_ROW in
+    record {
+      room = w.room;
+      size = w.size;
+      fits = record { bounded = record { name = λ j b. (fit j b).0; layer_low = λ j b. (fit j b).1 }; part = λ j b. (fit j b).2 };
+      rules = stand_values (row_rule book) (λ r. r) (RowFits book) (take k rows) _ w.entries ∙ map-id (filter (takes_rule mask) (rules_from book first));
+    }
 
-abbrev pub RowsTo : List ℕ → ℕ → ℕ → List Row → ℕ → ℕ → Type 0
-RowsTo book first mask rows k at = WalkedTo (row_rule book) (λ r. r) (takes_rule mask) (RowFits book) book first rows k at
-
--- what the code tests of a record
-tested : (mask : ℕ) (s : List ℕ) (at : ℕ) → takes_rule mask (rule_at s at) ≡ (eqb (bit_of mask (get_or s (at + 1) 0)) 1 && not (is_falsity (head_at s at)))
-unfolding takes_rule in_mask is_constraint rule_at
-tested mask s at = refl
-
--- the row of a record
-row_is : (s : List ℕ) (at name o : ℕ) → literal_named name ≡ head_at s at
-    → row_rule s (record { body = record { start = at + 4; size = get_or s at 0 - 3 }; head = name; layer = get_or s (at + 1) 0; overridden = o }) ≡ rule_at s at
+-- the row of a record, whose head has a name
+pub row_here : (s : List ℕ) (at : ℕ) → RuleAt s at → (body : Span) → BodyOf s body (rule_at s at) → (name o : ℕ) → literal_named name ≡ head_at s at → name < max_names
+    → RowOf s (record { body = body; head = name; layer = get_or s (at + 1) 0; overridden = o }) (rule_at s at)
 unfolding rule_at
-row_is s at name o e = ap (λ (l : Literal). record { layer = get_or s (at + 1) 0; head = l; body = literals_of (take (get_or s at 0 - 3) (drop (at + 4) s)) }) e
-
-module _ {book : List ℕ} {first : ℕ} (mask : ℕ) {rows : List Row} {k at : ℕ} (w : RowsTo book first mask rows k at) where
-  module _ (h : at < length book) (head : Literal) (eh : head ≡ head_at book at) (t : Bool) (et : t ≡ (eqb (bit_of mask (get_or book (at + 1) 0)) 1 && not (is_falsity head))) where
-    takes : t ≡ takes_rule mask (rule_at book at)
-    takes = et ∙ ap (λ (l : Literal). eqb (bit_of mask (get_or book (at + 1) 0)) 1 && not (is_falsity l)) eh ∙ sym (tested mask book at)
-
-    -- a record that is taken has a head with a name
-    pub head-named : t ≡ true → head.atom < max_atoms
-    head-named e = subst (λ (l : Literal). l.atom < max_atoms) (sym eh) ((here w h).atom_low (second (eqb (bit_of mask (get_or book (at + 1) 0)) 1) (is_falsity (head_at book at)) (sym (tested mask book at) ∙ sym takes ∙ e)))
-      where
-        second : (a b : Bool) → (a && not b) ≡ true → b ≡ false
-        second true true z = sym z
-        second true false z = refl
-        second false b z = absurd (false≢true z)
-
-    pub rows_skip : t ≡ false → RowsTo book first mask rows k (at + 1 + get_or book at 0)
-    rows_skip n = walk_skip w h (sym takes ∙ n)
-
-    pub rows_more : (name : ℕ) → literal_named name ≡ head → name < max_names → t ≡ true
-        → RowsTo book first mask (set rows k (record { body = record { start = at + 4; size = get_or book at 0 - 3 }; head = name; layer = get_or book (at + 1) 0; overridden = 0 })) (k + 1) (at + 1 + get_or book at 0)
-    rows_more name en bn e = walk_more w h _ (row_is book at name 0 (en ∙ eh)) (bn, (here w h).layer_low, omega (arith, (here w h).ends, (here w h).long)) (sym takes ∙ e)
-
-  pub rows_end : length book ≤ at → RowsMade book first mask rows k
-  unfolding rows_of
-  rows_end h = record {
-    room = omega (arith, w.room);
-    size = w.size;
-    fits = record {
-      bounded = record { name = λ j b. (walk_fits w NO_ROW j b).0; layer_low = λ j b. (walk_fits w NO_ROW j b).1 };
-      part = λ j b. (walk_fits w NO_ROW j b).2;
-    };
-    rules = walk_made w h ∙ map-id (filter (takes_rule mask) (rules_from book first));
-  }
+row_here s at w body b name o e h = (ap₂ (λ (l : Literal) (ls : List Literal). record { layer = get_or s (at + 1) 0; head = l; body = ls }) e b.0, (h, w.layer_low, b.1))

@@ -1,5 +1,6 @@
 pub mod Names
 pub mod Rows
+pub mod Records
 pub mod Overriding
 pub mod Table
 pub mod Tabled

@@ -51,6 +51,10 @@ row_at book rows j = row_rule book (nth rows j)
 unfoldable pub rows_of : List ℕ → List Row → List Rule
 rows_of book rows = map (row_rule book) rows
 
+-- a row has the name of a literal, a layer, and a body in the book
+abbrev pub RowFits : List ℕ → Row → Type 0
+RowFits book r = (r.head < max_names) × (r.layer < max_layers) × SpanFits book r.body
+
 -- every row has the name of a literal and a layer
 pub record RowsBounded (rows : List Row) : Type 0 where
   pub name : (j : ℕ) → j < row_count rows → head_name rows j < max_names

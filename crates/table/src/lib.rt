@@ -2,14 +2,15 @@
 // overrides rules. Made once a call; bodies stay where they are in the book.
 #![tactic(auto)]
 
-ghost use Rattle.std.specs.Prelude.{◌≡◌, ◌*◌, ◌<◌, ◌≤◌, length, drop, not, ◌&&◌, eqb};
+ghost use Rattle.std.specs.Prelude.{List, ℕ, Bool, ◌≡◌, ◌*◌, ◌<◌, ◌≤◌, length, drop, not, ◌&&◌, eqb};
 ghost use Rattle.base.specs.Bounds.{max_atoms, max_names, max_layers, max_rules};
 ghost use Rattle.base.specs.Lists.{all, any};
 ghost use Rattle.layers.specs.Masks.{bit_of};
-ghost use Rattle.format.specs.Book.{literals_of, is_falsity};
+ghost use Rattle.format.specs.Book.{Rule, literals_of, is_falsity, is_constraint};
 ghost use Rattle.models.specs.StableModels.{atom_holds, complement, same_literal, holds, body_holds, leans_on_itself};
 ghost use Rattle.table.specs.Names.{literal_named};
-ghost use Rattle.table.specs.Rows.{SpanFits, span_bytes, row_rule, row_count, head_name, row_layer, overridden, with_mask, row_body, row_at, alive, RowsBounded, RowsFit, SameRules};
+ghost use Rattle.table.specs.Records.{rule_at, RuleAt, Gives, Gathered, RowOf, BodyOf};
+ghost use Rattle.table.specs.Rows.{in_mask, SpanFits, span_bytes, row_rule, row_count, head_name, row_layer, overridden, with_mask, row_body, row_at, alive, RowsBounded, RowsFit, SameRules};
 ghost use Rattle.table.specs.Overriding.{HeadLayers, unless_leaning, Overridden};
 ghost use Rattle.table.specs.Table.{program_of, RuleRecords, Prepared, RelevantLayers, RowsMade, TableMade};
 
@@ -179,16 +180,91 @@ pub fn has_layer(mask: u32, layer: usize) -> bool
     (mask >> (layer as u32)) & 1 == 1
 }
 
-// Whether a record with that layer and head gives a row: the mask has its layer, and it is no constraint, whose head has no name.
-fn takes_rule(mask: u32, layer: usize, head: Literal) -> bool
-    requires { layer < max_layers }
-    ensures { result ≡ (eqb (bit_of mask layer) 1 && not (is_falsity head)) }
-{
-    has_layer(mask, layer) && !head.is_falsity()
+// What one walk over the rules' records gathers: the row of each rule, or where the body of each constraint stands.
+pub trait FromRecord: Copy {
+    // which rules give something
+    ghost takes: { Rule → Bool };
+
+    // what is gathered stands for a rule of the book
+    ghost stands: { List ℕ → Self → Rule → Type 0 };
+
+    fn from_record(book: &[u8], at: usize) -> Option<Self>
+        requires whole { RuleAt book.now at }
+        requires book_len_bound { length book.now < 65536 }
+        ensures { Gives (takes (rule_at book.now at)) (λ e. stands book.now e (rule_at book.now at)) result };
 }
 
-// Writes the rows of the rules whose layer is in the mask, in their order, and says how many there are: one walk over the records by
+// Where the body of the record at an offset stands.
+fn body_span(book: &[u8], at: usize) -> Span
+    requires whole { RuleAt book.now at }
+    requires book_len_bound { length book.now < 65536 }
+    ensures { BodyOf book.now result (rule_at book.now at) }
+{
+    Span { start: (at + 4) as u16, size: book[at] - 3 }
+}
+
+impl FromRecord for Row {
+    ghost takes = { λ r. not (is_constraint r) };
+
+    ghost stands = { RowOf };
+
+    // A constraint has no row: its head has no name.
+    fn from_record(book: &[u8], at: usize) -> Option<Row> {
+        let head = Literal::from_bytes(book[at + 2], book[at + 3]);
+        if head.is_falsity() {
+            return None;
+        }
+        Some(Row { body: body_span(book, at), head: name_of(head) as u16, layer: book[at + 1], overridden: 0 })
+    }
+}
+
+impl FromRecord for Span {
+    ghost takes = { is_constraint };
+
+    ghost stands = { BodyOf };
+
+    fn from_record(book: &[u8], at: usize) -> Option<Span> {
+        if !Literal::from_bytes(book[at + 2], book[at + 3]).is_falsity() {
+            return None;
+        }
+        Some(body_span(book, at))
+    }
+}
+
+// What the record at an offset gives, if the mask has its layer.
+fn entry_at<E: FromRecord>(book: &[u8], at: usize, mask: u32) -> Option<E>
+    requires whole { RuleAt book.now at }
+    requires book_len_bound { length book.now < 65536 }
+    ensures { Gives (in_mask mask (rule_at book.now at) && E.takes (rule_at book.now at)) (λ e. E.stands book.now e (rule_at book.now at)) result }
+{
+    if !has_layer(mask, book[at + 1] as usize) {
+        return None;
+    }
+    E::from_record(book, at)
+}
+
+// Writes what the rules give whose layer is in the mask, in their order, and says how many there are: one walk over the records by
 // length byte.
+pub fn gather<E: FromRecord>(book: &[u8], first: usize, mask: u32, out: &mut [E]) -> usize
+    requires rule_records { RuleRecords (drop first book.now) }
+    requires first_in_bounds { first ≤ length book.now }
+    requires book_len_bound { length book.now < 65536 }
+    requires out_len { length out.old ≡ max_rules }
+    ensures { Gathered E.takes E.stands book.now first mask out.new result }
+{
+    let mut count = 0;
+    let mut at = first;
+    while at < book.len() {
+        if let Some(entry) = entry_at::<E>(book, at, mask) {
+            out[count] = entry;
+            count += 1;
+        }
+        at = at + 1 + book[at] as usize;
+    }
+    count
+}
+
+// Writes the rows of the rules whose layer is in the mask, in their order, and says how many there are.
 pub fn make_rows(book: &[u8], first: usize, mask: u32, rows: &mut [Row]) -> usize
     requires rule_records { RuleRecords (drop first book.now) }
     requires first_in_bounds { first ≤ length book.now }
@@ -196,28 +272,7 @@ pub fn make_rows(book: &[u8], first: usize, mask: u32, rows: &mut [Row]) -> usiz
     requires rows_len { length rows.old ≡ max_rules }
     ensures { RowsMade book.now first mask rows.new result }
 {
-    let mut count = 0;
-    let mut at = first;
-    while at < book.len() {
-        let len = book[at];
-        let layer = book[at + 1];
-        let head = Literal::from_bytes(book[at + 2], book[at + 3]);
-        if takes_rule(mask, layer as usize, head) {
-            let body = Span {
-                start: (at + 4) as u16,
-                size: len - 3,
-            };
-            rows[count] = Row {
-                body,
-                head: name_of(head) as u16,
-                layer,
-                overridden: 0,
-            };
-            count += 1;
-        }
-        at = at + 1 + len as usize;
-    }
-    count
+    gather(book, first, mask, rows)
 }
 
 // Bit i at name h: a row has this head, in layer i.
