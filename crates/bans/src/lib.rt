@@ -10,49 +10,25 @@ ghost use Rattle.format.specs.Book.{literal_of, rule_of, records, is_falsity};
 ghost use Rattle.models.specs.StableModels.{holds};
 ghost use Rattle.table.specs.Rows.{span_bytes, takes_constraint};
 ghost use Rattle.table.specs.Table.{program_of, RuleRecords, Prepared};
-ghost use Rattle.bans.specs.Bans.{nth_ban, bodies_of, BansFit, BansMade};
+ghost use Rattle.bans.specs.Bans.{bodies_of, BansFit, BansMade};
 
 use base::MAX_LAYERS;
-use format::is_falsity;
-use table::{Span, body_holds, has_layer, relevant_layers, span_bytes};
-
-// A constraint's body, as a part of the book that starts in its middle.
-pub fn ban_body<'a>(book: &'a [u8], bans: &[Span], k: usize) -> &'a [u8]
-    requires bans_fit { BansFit book.now bans.now }
-    requires k_in_bounds { k < length bans.now }
-    ensures { result.now ≡ span_bytes book.now (nth_ban bans.now k) }
-{
-    span_bytes(book, bans[k])
-}
+use table::{Span, body_holds, gather, relevant_layers, span_bytes};
 
 // Whether the body of some constraint holds in a state.
 pub fn banned(book: &[u8], bans: &[Span], m: &[bool]) -> bool
     requires { BansFit book.now bans.now }
     ensures { result ≡ any (all (holds m.now)) (bodies_of book.now bans.now) }
 {
-    let mut k: usize = 0;
-    while k < bans.len() {
-        if body_holds(m, ban_body(book, bans, k)) {
+    for ban in bans {
+        if body_holds(m, span_bytes(book, *ban)) {
             return true;
         }
-        k += 1;
     }
     false
 }
 
-// Whether a record with that layer and head is a constraint that counts: the mask has its layer.
-fn takes_constraint(mask: u32, layer: usize, a: u8, b: u8) -> bool
-    requires { layer < max_layers }
-    ensures { result ≡ (eqb (bit_of mask layer) 1 && is_falsity (literal_of a b)) }
-{
-    if has_layer(mask, layer) {
-        return is_falsity(a, b);
-    }
-    false
-}
-
-// Writes where the bodies of the constraints stand whose layer is in the mask, in their order, and says how many there are: one walk over the records
-// by length byte.
+// Writes where the bodies of the constraints stand whose layer is in the mask, in their order, and says how many there are.
 pub fn make_bans(book: &[u8], first: usize, mask: u32, bans: &mut [Span]) -> usize
     requires rule_records { RuleRecords (drop first book.now) }
     requires first_in_bounds { first ≤ length book.now }
@@ -60,20 +36,7 @@ pub fn make_bans(book: &[u8], first: usize, mask: u32, bans: &mut [Span]) -> usi
     requires bans_len { length bans.old ≡ max_rules }
     ensures { BansMade (map (λ x. x.body) (filter (takes_constraint mask) (map rule_of (records (drop first book.now))))) book.now bans.new result }
 {
-    let mut count = 0;
-    let mut at = first;
-    while at < book.len() {
-        let len = book[at];
-        if takes_constraint(mask, book[at + 1] as usize, book[at + 2], book[at + 3]) {
-            bans[count] = Span {
-                start: (at + 4) as u16,
-                size: len - 3,
-            };
-            count += 1;
-        }
-        at = at + 1 + len as usize;
-    }
-    count
+    gather(book, first, mask, bans)
 }
 
 // Writes where the bodies of the constraints stand that count at a layer, of that layer and of those below it that are not switched off, and says how

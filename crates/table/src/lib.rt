@@ -200,7 +200,10 @@ fn body_span(book: &[u8], at: usize) -> Span
     requires book_len_bound { length book.now < 65536 }
     ensures { BodyOf book.now result (rule_at book.now at) }
 {
-    Span { start: (at + 4) as u16, size: book[at] - 3 }
+    Span {
+        start: (at + 4) as u16,
+        size: book[at] - 3,
+    }
 }
 
 impl FromRecord for Row {
@@ -214,7 +217,12 @@ impl FromRecord for Row {
         if head.is_falsity() {
             return None;
         }
-        Some(Row { body: body_span(book, at), head: name_of(head) as u16, layer: book[at + 1], overridden: 0 })
+        Some(Row {
+            body: body_span(book, at),
+            head: name_of(head) as u16,
+            layer: book[at + 1],
+            overridden: 0,
+        })
     }
 }
 

@@ -13,8 +13,7 @@ returns-then-is_falsity c =
 
 pub returns : goal.returns
 unfolding is_constraint rule_at
-returns c =
-    (
-      ap (λ l. not (is_falsity l)) (sym c.from_bytes-head.ensures) ∙ ap not (sym c.if-is_falsity.ensures),
-      row_here c.args.book.now c.args.at c.requires.whole _ c.body_span.ensures c.name_of.result 0 (c.name_of.ensures.0 ∙ c.from_bytes-head.ensures) c.name_of.ensures.1,
-    )
+returns c = (
+  ap (λ l. not (is_falsity l)) (sym c.from_bytes-head.ensures) ∙ ap not (sym c.if-is_falsity.ensures),
+  row_here c.args.book.now c.args.at c.requires.whole _ c.body_span.ensures c.name_of.result 0 (c.name_of.ensures.0 ∙ c.from_bytes-head.ensures) c.name_of.ensures.1,
+)
