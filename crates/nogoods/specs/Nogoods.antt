@@ -60,7 +60,11 @@ pub record Nogoods (book : List ℕ) (rows : List Row) (bans : List Span) (atoms
   pub bits_of : AtomBits atoms bits (length atoms)
   pub each : NogoodsTo book rows bans rejectable bits nogoods
 
--- a nogood is violated: all that it has is decided so
+-- all that a nogood has is decided so: what is to stand stands, and what is to be denied is denied
+abbrev pub IsDecided : Nogood → ℕ → ℕ → Type 0
+IsDecided n standing denied = (bit_and n.standing standing ≡ n.standing) × (bit_and n.denied denied ≡ n.denied)
+
+-- one of the nogoods is violated
 pub record Violated (nogoods : List Nogood) (standing denied : ℕ) : Type 0 where
   pub nogood : Nogood
   pub listed : Memᴰ nogood nogoods

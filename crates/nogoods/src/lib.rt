@@ -2,15 +2,15 @@
 // with a body that holds. Where all atoms branch, two masks say it, and the search leaves out every group of settings that has them decided so.
 #![tactic(auto)]
 
-ghost use Rattle.std.specs.Prelude.{◌≡◌, true, ◌<◌, length, IfSome};
+ghost use Rattle.std.specs.Prelude.{◌≡◌, ◌↔◌, true, ◌<◌, length, IfSome, IsTrue};
 ghost use Rattle.base.specs.Bounds.{max_names};
 ghost use Rattle.table.specs.Rows.{SpanFits, row_count, row_at, RowsBounded};
 ghost use Rattle.bans.specs.Bans.{body_of};
 ghost use Rattle.setting.specs.RuleMasks.{BodyMasked};
-ghost use Rattle.nogoods.specs.Nogoods.{Rejectable, AllWithin, NogoodOf, Violated};
+ghost use Rattle.nogoods.specs.Nogoods.{Rejectable, AllWithin, NogoodOf, IsDecided, Violated};
 
 use base::{MAX_ATOMS, MAX_NAMES};
-use setting::{BodyMasks, bits_of, body_masks};
+use setting::{BodyMasks, body_masks, branching_bit};
 use table::{Row, Span, Table, opposite, span_bytes};
 
 // Nogoods that a plan has room for: one that is left out costs time and nothing else.
@@ -21,6 +21,15 @@ pub const MAX_NOGOODS: usize = 512;
 pub struct Nogood {
     pub standing: u32,
     pub denied: u32,
+}
+
+impl Nogood {
+    // Whether all that it has is decided so.
+    fn is_decided(&self, standing: u32, denied: u32) -> bool
+        ensures { IsTrue result ↔ IsDecided self.now standing denied }
+    {
+        self.standing & standing == self.standing && self.denied & denied == self.denied
+    }
 }
 
 // Bit i at name h: a row can reject the rules of layer i with that head.
@@ -53,19 +62,13 @@ pub fn row_nogood(
     }
     let h = table.head(j);
     if h < MAX_ATOMS {
-        let bit = bits_of(bits, h);
-        if bit == 0 {
-            return None;
-        }
+        let bit = branching_bit(bits, h)?;
         return Some(Nogood {
             standing: body.plain,
             denied: body.negated | bit,
         });
     }
-    let bit = bits_of(bits, h - MAX_ATOMS);
-    if bit == 0 {
-        return None;
-    }
+    let bit = branching_bit(bits, h - MAX_ATOMS)?;
     Some(Nogood {
         standing: body.plain | bit,
         denied: body.negated,
@@ -93,9 +96,7 @@ pub fn has_nogood(nogoods: &[Nogood], standing: u32, denied: u32) -> bool
     ensures { result ≡ true → Violated nogoods.now standing denied }
 {
     for nogood in nogoods {
-        if nogood.standing & standing == nogood.standing
-            && nogood.denied & denied == nogood.denied
-        {
+        if nogood.is_decided(standing, denied) {
             return true;
         }
     }

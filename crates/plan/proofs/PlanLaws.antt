@@ -4,13 +4,11 @@ use mathlib.Core.Path.{◌≡◌, refl, sym, ap, subst, ◌∙◌}
 use mathlib.Core.Bool.{Bool, true, false, cond}
 use mathlib.Core.List.Memᴰ
 use mathlib.Core.List.{List, [], ◌++◌}
-use Prim.Native.Nat.{ℕ, ◌+◌, ◌<◌, ◌≤◌}
-use native.Mathlib.Omega.{arith}
+use Prim.Native.Nat.{ℕ, ◌+◌, ◌<◌}
 use borrow.Author.Tests.{lt-ltb}
 use lib.Dec.{ltb}
-use lib.ListN.{length, get_or, take, length-take}
-use lib.Seq.{get_or-take, take-append_seam}
-use Rattle.setting.proofs.EntryLaws.{entry_in}
+use lib.ListN.{length, take}
+use lib.Seq.{take-append_seam}
 use Rattle.std.specs.Prelude.{Option, Some, None, IfSome, nat_lt}
 use Rattle.std.specs.Option.{option_to_list}
 use Rattle.base.proofs.Members.{◌∈◌}
@@ -26,7 +24,7 @@ use Rattle.nogoods.proofs.NogoodLaws.{nogoods_more}
 use Rattle.rejecting.specs.Rejecting.{RejectingMade}
 use Rattle.rejecting.proofs.RejectingLaws.{made-start}
 use Rattle.plan.specs.declared.entries.Plan.{Plan}
-use Rattle.plan.specs.Plan.{plan_atoms, plan_heads, plan_nogoods, plan_rejecting, plan_bans, put_behind, SameFacts, PlanTo, PlanStep, BansPlanned, Planned}
+use Rattle.plan.specs.Plan.{plan_atoms, plan_heads, plan_nogoods, plan_rejecting, plan_bans, put_behind, SameFacts, PlanTo, PlanStep, NogoodsPut, Planned}
 
 -- ---- one entry
 -- where there is room, what there is goes behind the others
@@ -80,44 +78,21 @@ plan_step w q s a b c = record {
 }
 
 -- ---- the constraints' nogoods
-pub bans_start : (book bits : List ℕ) (p : Plan) → BansPlanned book bits p p
-bans_start book bits p = record { same = same_refl p; heads_same = refl; rejecting_same = refl; made = λ rows rejectable w. w }
+pub bans_more : {book : List ℕ} {bans : List Span} {bits : List ℕ} {before after : List Nogood} → NogoodsPut book bans bits before after → (ban : Span) → ban ∈ bans → (entry : Option Nogood)
+    → IfSome entry (λ n. AllWithin bits n (body_of book ban)) → (room : ℕ) (later : List Nogood) → later ≡ put_behind after room entry → NogoodsPut book bans bits before later
+bans_more w ban b entry f room later e rows rejectable v = rw e (nogood_put (w rows rejectable v) room entry (if_some entry (λ n x. of_ban ban b x) f))
 
-pub bans_more : {book bits : List ℕ} {p q : Plan} → BansPlanned book bits p q → (ban : Span) → ban ∈ plan_bans q → (entry : Option Nogood)
-    → IfSome entry (λ n. AllWithin bits n (body_of book ban)) → (room : ℕ) (r : Plan) → SameFacts q r → plan_heads r ≡ plan_heads q → plan_rejecting r ≡ plan_rejecting q
-    → plan_nogoods r ≡ put_behind (plan_nogoods q) room entry → BansPlanned book bits p r
-bans_more {book} {bits} {p} {q} w ban b entry f room r s eh er en = record {
-  same = record {
-    facts_same = s.facts_same ∙ w.same.facts_same;
-    branching_same = s.branching_same ∙ w.same.branching_same;
-    atoms_same = s.atoms_same ∙ w.same.atoms_same;
-    bans_count = s.bans_count ∙ w.same.bans_count;
-    bans_same = s.bans_same ∙ w.same.bans_same;
-  };
-  heads_same = eh ∙ w.heads_same;
-  rejecting_same = er ∙ w.rejecting_same;
-  made = λ rows rejectable v.
-      rw en (nogood_put (w.made rows rejectable v) room entry
-      (if_some entry (λ n x. of_ban ban (subst (λ (l : List Span). ban ∈ l) there b) x) f));
+-- ---- the whole plan: that of the rows, with the constraints' nogoods, which stand behind theirs
+pub plan_end : {book : List ℕ} {rows : List Row} {bits rejectable : List ℕ} {p : Plan} {j : ℕ} → PlanTo book rows bits rejectable p j → j ≡ row_count rows → {atoms : List ℕ} → plan_atoms p ≡ atoms
+    → AtomBits atoms bits (length atoms) → Rejectable rows rejectable (row_count rows) → BansFit book (plan_bans p) → (q : Plan) → SameFacts p q → plan_heads q ≡ plan_heads p
+    → plan_rejecting q ≡ plan_rejecting p → NogoodsPut book (plan_bans p) bits (plan_nogoods p) (plan_nogoods q) → Planned book rows atoms q
+plan_end {book} {rows} {bits} {rejectable} {p} {j} w ej {atoms} ea ab r bf q s eh er put = record {
+  atoms_are = atoms_still s ∙ ea;
+  rule_masks = rw eh (record { each = (subst (λ (fs : List ℕ). MasksMade book rows fs (plan_heads p) (row_count rows)) ea (subst (MasksMade book rows (plan_atoms p) (plan_heads p)) ej w.masks_made)).each });
+  nogood_masks = rw (bans_still s) (record { rejectable = rejectable; rejects_all = r; bits = bits; bits_of = ab; each = put rows rejectable w.nogoods_made });
+  rejecting_masks = rw er (subst (λ (fs : List ℕ). RejectingMade book rows fs (plan_rejecting p) (row_count rows)) ea (subst (RejectingMade book rows (plan_atoms p) (plan_rejecting p)) ej w.rejecting_made)).entries;
+  bans_fit = rw (bans_still s) bf;
 }
-  where
-    there : plan_bans q ≡ plan_bans p
-    there = bans_still w.same
-
-pub plan_end : {book : List ℕ} {rows : List Row} {bits rejectable : List ℕ} {p q : Plan} {j : ℕ} → PlanTo book rows bits rejectable p j → j ≡ row_count rows → BansPlanned book bits p q → {atoms : List ℕ} → plan_atoms p ≡ atoms
-    → AtomBits atoms bits (length atoms) → Rejectable rows rejectable (row_count rows) → BansFit book (plan_bans p) → Planned book rows atoms q
-plan_end {book} {rows} {bits} {rejectable} {p} {q} {j} w ej b {atoms} ea ab r bf = record {
-  atoms_are = atoms_still b.same ∙ ea;
-  rule_masks = rw b.heads_same (record { each = (subst (λ (fs : List ℕ). MasksMade book rows fs (plan_heads p) (row_count rows)) ea (subst (MasksMade book rows (plan_atoms p) (plan_heads p)) ej w.masks_made)).each });
-  nogood_masks = rw (bans_still b.same) (record { rejectable = rejectable; rejects_all = r; bits = bits; bits_of = ab; each = b.made rows rejectable w.nogoods_made });
-  rejecting_masks = rw b.rejecting_same (subst (λ (fs : List ℕ). RejectingMade book rows fs (plan_rejecting p) (row_count rows)) ea (subst (RejectingMade book rows (plan_atoms p) (plan_rejecting p)) ej w.rejecting_made)).entries;
-  bans_fit = rw (bans_still b.same) bf;
-}
-
--- the constraint at a place is one of those that count
-pub ban_at : (p : Plan) (k : ℕ) → k < p.ban_count → p.ban_count ≤ length p.bans → (d : Span) → get_or p.bans k d ∈ plan_bans p
-ban_at p k h b d =
-    subst (λ (x : Span). x ∈ plan_bans p) (get_or-take p.ban_count p.bans k d h) (entry_in (plan_bans p) k d (simp length-take (omega arith)))
 
 -- the facts are copied to the front
 pub facts_front : (facts copied rest : List ℕ) → copied ≡ facts → take (length facts) (copied ++ rest) ≡ facts

@@ -1,6 +1,6 @@
 -- The plan of a search: the branching facts, three kinds of entries and the places of the constraints' bodies, as many of each as are lent.
 -- It is made once a call; the search is lent it. Assumes nothing.
-use Rattle.std.specs.Prelude.{◌≡◌, List, ℕ, ◌+◌, ◌++◌, Option, cond, nat_lt, length, take, option_to_list}
+use Rattle.std.specs.Prelude.{◌≡◌, List, [], ℕ, ◌+◌, ◌++◌, Option, cond, nat_lt, length, take, option_to_list}
 use Rattle.models.specs.Program.{Program}
 use Rattle.table.specs.declared.Row.{Row}
 use Rattle.table.specs.declared.Span.{Span}
@@ -31,6 +31,15 @@ plan_rejecting p = take p.rejecting_count p.rejecting
 abbrev pub plan_bans : Plan → List Span
 plan_bans p = take p.ban_count p.bans
 
+-- there is no entry of any kind
+pub record IsEmptyPlan (p : Plan) : Type 0 where
+  pub no_fact : p.n ≡ 0
+  pub no_atom : plan_atoms p ≡ []
+  pub no_head : plan_heads p ≡ []
+  pub no_nogood : plan_nogoods p ≡ []
+  pub no_rejecting : plan_rejecting p ≡ []
+  pub no_ban : plan_bans p ≡ []
+
 -- the program that a table and a plan stand for
 abbrev pub planned_program : List ℕ → List Row → Plan → Program
 planned_program book rows p = barred book rows (plan_bans p) p.n
@@ -58,12 +67,9 @@ pub record PlanStep (book : List ℕ) (rows : List Row) (bits rejectable : List 
   pub made : PlanTo book rows bits rejectable q (j + 1)
   pub same : SameFacts p q
 
--- the nogoods of the constraints stand behind those of the rows; the rest of the plan is as it was
-pub record BansPlanned (book bits : List ℕ) (p q : Plan) : Type 0 where
-  pub same : SameFacts p q
-  pub heads_same : plan_heads q ≡ plan_heads p
-  pub rejecting_same : plan_rejecting q ≡ plan_rejecting p
-  pub made : (rows : List Row) (rejectable : List ℕ) → NogoodsTo book rows (plan_bans p) rejectable bits (plan_nogoods p) → NogoodsTo book rows (plan_bans p) rejectable bits (plan_nogoods q)
+-- the nogoods of these constraints are among the entries, beside those that there were
+abbrev pub NogoodsPut : List ℕ → List Span → List ℕ → List Nogood → List Nogood → Type 0
+NogoodsPut book bans bits before after = (rows : List Row) (rejectable : List ℕ) → NogoodsTo book rows bans rejectable bits before → NogoodsTo book rows bans rejectable bits after
 
 -- The plan of a table's rows over these branching facts, as a search is lent it.
 pub record Planned (book : List ℕ) (rows : List Row) (atoms : List ℕ) (p : Plan) : Type 0 where

@@ -1,4 +1,4 @@
-// The plan: each kind of entry in an array of its own, as many of them as the number beside it says.
+// The plan of a search as a value: each kind of entry in an array of its own, of which as many are lent as its number says.
 
 ghost use Rattle.std.specs.Prelude.{◌≤◌};
 ghost use Rattle.base.specs.Bounds.{max_rules, max_branching};
@@ -38,10 +38,12 @@ pub struct Plan {
 
 impl Plan {
     ghost use Rattle.std.specs.Prelude.{◌≡◌};
-    ghost use Rattle.plan.specs.Plan.{plan_atoms, plan_heads, plan_nogoods, plan_rejecting, plan_bans};
+    ghost use Rattle.plan.specs.Plan.{plan_atoms, plan_heads, plan_nogoods, plan_rejecting, plan_bans, IsEmptyPlan};
 
     // A plan with no entry.
-    pub fn new() -> Plan {
+    pub fn new() -> Plan
+        ensures { IsEmptyPlan result }
+    {
         Plan {
             n: 0,
             atoms: [0; MAX_BRANCHING],
@@ -69,30 +71,35 @@ impl Plan {
         }
     }
 
+    // The branching facts, rising.
     pub fn atoms(&self) -> &[u32]
         ensures { result.now ≡ plan_atoms self.now }
     {
         &self.atoms[..self.branching]
     }
 
+    // The masks of the rules with such a head.
     pub fn heads(&self) -> &[HeadMasks]
         ensures { result.now ≡ plan_heads self.now }
     {
         &self.heads[..self.head_count]
     }
 
+    // What no stable model has together.
     pub fn nogoods(&self) -> &[Nogood]
         ensures { result.now ≡ plan_nogoods self.now }
     {
         &self.nogoods[..self.nogood_count]
     }
 
+    // The masks of the rows that can reject rules.
     pub fn rejecting(&self) -> &[RejectingMasks]
         ensures { result.now ≡ plan_rejecting self.now }
     {
         &self.rejecting[..self.rejecting_count]
     }
 
+    // Where the bodies of the constraints stand in the book.
     pub fn bans(&self) -> &[Span]
         ensures { result.now ≡ plan_bans self.now }
     {

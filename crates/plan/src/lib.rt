@@ -7,13 +7,13 @@ ghost use Rattle.base.specs.Bounds.{max_names, max_rules, max_branching};
 ghost use Rattle.table.specs.Rows.{row_count};
 ghost use Rattle.bans.specs.Bans.{BansFit};
 ghost use Rattle.setting.specs.RuleMasks.{Low, AtomBits};
-ghost use Rattle.plan.specs.Plan.{put_behind, plan_atoms, plan_bans, PlanTo, PlanStep, BansPlanned, Planned};
+ghost use Rattle.plan.specs.Plan.{put_behind, plan_atoms, plan_bans, PlanTo, PlanStep, NogoodsPut, Planned};
 
 use base::MAX_BRANCHING;
-use nogoods::{ban_nogood, rejectable_masks, row_nogood};
+use nogoods::{Nogood, ban_nogood, rejectable_masks, row_nogood};
 use rejecting::rejecting_masks;
-use setting::{atom_bits, bits_of, head_masks, row_masks};
-use table::{Table, opposite};
+use setting::{atom_bits, branching_bit, head_masks, row_masks};
+use table::{Span, Table, opposite};
 
 mod entries;
 
@@ -44,7 +44,7 @@ fn plan_row(table: Table, bits: &[u32], rejectable: &[u32], plan: &mut Plan, j: 
 {
     let body = row_masks(table, bits, j);
     let h = table.head(j);
-    let head = head_masks(body, bits_of(bits, h));
+    let head = head_masks(body, branching_bit(bits, h));
     plan.head_count = put(&mut plan.heads, plan.head_count, head);
     let nogood = row_nogood(table, rejectable, bits, body, j);
     plan.nogood_count = put(&mut plan.nogoods, plan.nogood_count, nogood);
@@ -52,15 +52,18 @@ fn plan_row(table: Table, bits: &[u32], rejectable: &[u32], plan: &mut Plan, j: 
     plan.rejecting_count = put(&mut plan.rejecting, plan.rejecting_count, rejecting);
 }
 
-// Writes the nogoods of the constraints behind those of the rows.
-fn plan_bans(book: &[u8], bits: &[u32], plan: &mut Plan)
-    requires { BansFit book.now (plan_bans plan.old) }
-    ensures { BansPlanned book.now bits.now plan.old plan.new }
+// Writes the nogoods of constraints behind the others, `made` of them, and says how many there are then.
+fn put_bans(book: &[u8], bans: &[Span], bits: &[u32], nogoods: &mut [Nogood], made: usize) -> usize
+    requires bans_fit { BansFit book.now bans.now }
+    requires room { made ≤ length nogoods.old }
+    ensures nogoods { NogoodsPut book.now bans.now bits.now (take made nogoods.old) (take result nogoods.new) }
+    ensures room { result ≤ length nogoods.new }
 {
-    for k in 0..plan.ban_count {
-        let nogood = ban_nogood(book, plan.bans[k], bits);
-        plan.nogood_count = put(&mut plan.nogoods, plan.nogood_count, nogood);
+    let mut count = made;
+    for ban in bans {
+        count = put(nogoods, count, ban_nogood(book, *ban, bits));
     }
+    count
 }
 
 // Makes the plan of a table, of n facts of which these branch. The constraints are in it already, and stay.
@@ -86,5 +89,11 @@ pub fn make_plan(table: Table, n: usize, facts: &[u32], plan: &mut Plan)
     for j in 0..table.len() {
         plan_row(table, &bits, &rejectable, plan, j);
     }
-    plan_bans(table.book, &bits, plan);
+    plan.nogood_count = put_bans(
+        table.book,
+        &plan.bans[..plan.ban_count],
+        &bits,
+        &mut plan.nogoods,
+        plan.nogood_count,
+    );
 }

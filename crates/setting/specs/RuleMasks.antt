@@ -1,6 +1,6 @@
 -- Rules as masks over the branching atoms, bit i for the i-th of them: what these atoms alone can say against a rule.
 -- Assumes nothing.
-use Rattle.std.specs.Prelude.{◌≡◌, ◌==◌, if◌then◌else◌, Bool, true, cond, ℕ, ◌<◌, ◌≤◌, length, get_or, Option, None, Some}
+use Rattle.std.specs.Prelude.{◌≡◌, ◌==◌, if◌then◌else◌, Bool, true, cond, ℕ, ◌<◌, ◌≤◌, length, get_or, Option, None, Some, option_map}
 use mathlib.Core.List.{List, Memᴰ}
 use Rattle.std.specs.Int.Bits.{bit_and, bit_or}
 use Rattle.base.specs.Bounds.{max_atoms}
@@ -22,6 +22,10 @@ pub record AtomBits (atoms bits : List ℕ) (n : ℕ) : Type 0 where
   pub sound : (f i : ℕ) → bit_of (get_or bits f 0) i ≡ 1 → (i < n) × (get_or atoms i 0 ≡ f)
   pub full : (i : ℕ) → i < n → bit_of (get_or bits (get_or atoms i 0) 0) i ≡ 1
 
+-- the bit of an atom that branches
+abbrev pub branching_bit : List ℕ → ℕ → Option ℕ
+branching_bit bits f = if get_or bits f 0 == 0 then None else Some (get_or bits f 0)
+
 -- A body's masks, plain and negated: a bit is set in one of them exactly where a literal of that sign has it. Where they are whole,
 -- each literal has one.
 pub record BodyMasked (bits : List ℕ) (body : List Literal) (m : BodyMasks) : Type 0 where
@@ -36,9 +40,9 @@ pub record RuleMask (atoms : List ℕ) (r : Rule) (m : HeadMasks) : Type 0 where
   pub negated_in : (i : ℕ) → bit_of m.negated i ≡ 1 → Memᴰ (negative (get_or atoms i 0)) r.body
   pub head_in : (i : ℕ) → i < length atoms → r.head ≡ positive (get_or atoms i 0) → bit_of m.head i ≡ 1
 
--- the masks of a rule with this body and these bits of its head, if there are any
-abbrev pub rule_of_masks : BodyMasks → ℕ → Option HeadMasks
-rule_of_masks body head = if head == 0 then None else Some (record { plain = body.plain; negated = body.negated; head = head })
+-- the masks of a rule with this body and its head's bit, if it has one
+abbrev pub head_masks : BodyMasks → Option ℕ → Option HeadMasks
+head_masks body head = option_map (λ x. record { plain = body.plain; negated = body.negated; head = x }) head
 
 -- one of the entries has the masks of row j
 pub record MaskOf (book : List ℕ) (rows : List Row) (atoms : List ℕ) (rules : List HeadMasks) (j : ℕ) : Type 0 where

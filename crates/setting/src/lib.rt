@@ -7,7 +7,7 @@ ghost use Rattle.std.specs.Prelude.{◌≡◌, true, ◌+◌, ◌*◌, ◌/◌, 
 ghost use Rattle.base.specs.Bounds.{max_atoms, max_branching};
 ghost use Rattle.format.specs.Book.{literals_of};
 ghost use Rattle.table.specs.Rows.{row_count, row_at};
-ghost use Rattle.setting.specs.RuleMasks.{Low, AtomBits, BodyMasked, rule_of_masks, Headed};
+ghost use Rattle.setting.specs.RuleMasks.{Low, AtomBits, branching_bit, BodyMasked, head_masks, Headed};
 
 use base::MAX_ATOMS;
 use format::Literals;
@@ -34,11 +34,11 @@ pub fn atom_bits(atoms: &[u32]) -> [u32; MAX_ATOMS]
     bits
 }
 
-// An atom's bits: none past the end.
-pub fn bits_of(bits: &[u32], f: usize) -> u32
-    ensures { result ≡ get_or bits.now f 0 }
+// A fact's bit, where it branches.
+pub fn branching_bit(bits: &[u32], f: usize) -> Option<u32>
+    ensures { result ≡ branching_bit bits.now f }
 {
-    bits.get(f).copied().unwrap_or(0)
+    bits.get(f).copied().filter(|bit| *bit != 0)
 }
 
 // The masks of a body: its plain atoms and its negated ones; whole where all of them branch.
@@ -59,13 +59,10 @@ pub fn body_masks(bits: &[u32], body: &[u8]) -> BodyMasks
         whole: true,
     };
     for literal in Literals(body) {
-        let bit = bits_of(bits, literal.atom);
-        if bit == 0 {
-            masks.whole = false;
-        } else if literal.negated {
-            masks.negated |= bit;
-        } else {
-            masks.plain |= bit;
+        match branching_bit(bits, literal.atom) {
+            None => masks.whole = false,
+            Some(bit) if literal.negated => masks.negated |= bit,
+            Some(bit) => masks.plain |= bit,
         }
     }
     masks
@@ -88,13 +85,10 @@ pub struct HeadMasks {
 }
 
 // The masks of a rule with this body, where its head has a bit: rules of other heads are never asked for.
-pub fn head_masks(body: BodyMasks, head: u32) -> Option<HeadMasks>
-    ensures { result ≡ rule_of_masks body head }
+pub fn head_masks(body: BodyMasks, head: Option<u32>) -> Option<HeadMasks>
+    ensures { result ≡ head_masks body head }
 {
-    if head == 0 {
-        return None;
-    }
-    Some(HeadMasks {
+    head.map(|head| HeadMasks {
         plain: body.plain,
         negated: body.negated,
         head,

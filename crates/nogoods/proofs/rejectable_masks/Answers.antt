@@ -1,5 +1,5 @@
 -- The masks have what the rows passed can reject.
-use Rattle.nogoods.proofs.NogoodLaws.{rejectable-start, rejectable-more}
+use Rattle.nogoods.proofs.NogoodLaws.{rejectable-more}
 use Rattle.nogoods.proofs.rejectable_masks.Goals as goal
 
 pub loop-row-preserved : goal.loop-row-preserved

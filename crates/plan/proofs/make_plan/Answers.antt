@@ -11,6 +11,6 @@ loop-j-init c =
 
 pub returns-clause-planned : goal.returns-clause-planned
 returns-clause-planned c =
-    plan_end c.loop-j.invariant.0 (omega (arith, c.loop-j-test.false, c.loop-j.auto.j-end, c.len-j-end.ensures)) c.plan_bans.ensures (atoms_still c.loop-j.invariant.1 ∙ facts_front c.args.facts.now _ _ c.copy_from_slice.ensures.after)
-    c.atom_bits-bits.ensures c.rejectable_masks-rejectable.ensures
-    (subst (BansFit c.args.table.book.now) (sym (bans_still c.loop-j.invariant.1)) c.requires.bans_fit)
+    plan_end c.loop-j.invariant.0 (omega (arith, c.loop-j-test.false, c.loop-j.auto.j-end, c.len-j-end.ensures)) (atoms_still c.loop-j.invariant.1 ∙ facts_front c.args.facts.now _ _ c.copy_from_slice.ensures.after)
+    c.atom_bits-bits.ensures c.rejectable_masks-rejectable.ensures (subst (BansFit c.args.table.book.now) (sym (bans_still c.loop-j.invariant.1)) c.requires.bans_fit) _
+    (record { facts_same = refl; branching_same = refl; atoms_same = refl; bans_count = refl; bans_same = refl }) refl refl c.put_bans-plan.ensures.nogoods
