@@ -31,7 +31,7 @@ pub enum Code {
 }
 
 impl Code {
-    // Whether a code is an operator or a fact below n.
+    // Whether it is an operator or a fact below n.
     fn is_below(self, n: usize) -> bool
         ensures { result ≡ code_below n self }
     {
@@ -72,6 +72,7 @@ impl Postfix {
         }
     }
 
+    // The codes, in the order in which they run.
     pub fn as_slice(&self) -> &[Code]
         ensures { result.now ≡ self.now }
     {
@@ -95,6 +96,7 @@ enum Operator {
 }
 
 impl Operator {
+    // How it stands in a text.
     fn byte(self) -> u8
         ensures { result ≡ byte_of self }
     {
@@ -104,6 +106,7 @@ impl Operator {
         }
     }
 
+    // What it is in postfix code.
     fn code(self) -> Code
         ensures { result ≡ code_of self }
     {
