@@ -14,11 +14,9 @@ use Rattle.base.specs.Lists.{filter}
 use Rattle.base.proofs.Members.{◌∈◌, filter-from, filter_into}
 use Rattle.base.proofs.ClosureLaws.{filter-length}
 use Rattle.base.proofs.Rising.{Rising, filter-rising}
-use Rattle.book.specs.Causes.{Test, first_of}
+use Rattle.book.specs.Causes.{Test, first_of, Verdict}
 use Rattle.book.specs.declared.Cause.{Cause}
 use Rattle.book.specs.declared.Cause.TheVariants.{TooManyBranching}
-use Rattle.book.specs.declared.Verdict.{Verdict}
-use Rattle.book.specs.declared.Verdict.TheVariants.{Accepted, Refused}
 use Rattle.format.specs.Book.{atom_count}
 use Rattle.models.specs.Program.{Program, program_at}
 use Rattle.models.specs.StableModels.{Interpretation, stable}
@@ -32,6 +30,7 @@ use Rattle.accepted.specs.Accepted.{IsAccepted}
 use Rattle.accepted.specs.Driven.{layer_tests}
 use Rattle.accepted.proofs.DrivenLaws.{driven}
 use Rattle.accepted.proofs.FirstLaws.{accepted-none, first_append, first_refused}
+use Rattle.accepted.proofs.GrantedLaws.{granted}
 use Rattle.accepted.proofs.RangeFacts.{atoms_are}
 use Rattle.accepted.proofs.RecordFacts.{accepted-formed}
 use Rattle.grammar.specs.Conditions.{Condition, Reads, or-level, fits}
@@ -55,11 +54,11 @@ use Rattle.count_call.specs.Reply.{search_tests, fit_tests, count_tests, reply_o
 
 -- ---- the order of the causes: the condition's own, and only then 12
 module _ (P : Program) (condition : List ℕ) where
-  pub condition_first : (c : Cause) → first_of (condition_tests P.atoms condition) ≡ Refused c → first_of (fit_tests P condition) ≡ Refused c
+  pub condition_first : (c : Cause) → first_of (condition_tests P.atoms condition) ≡ Err c → first_of (fit_tests P condition) ≡ Err c
   unfolding fit_tests
   condition_first c h = first_refused (condition_tests P.atoms condition) (search_tests P) c h
 
-  pub search_last : first_of (condition_tests P.atoms condition) ≡ Accepted → first_of (fit_tests P condition) ≡ first_of (search_tests P)
+  pub search_last : first_of (condition_tests P.atoms condition) ≡ Ok tt → first_of (fit_tests P condition) ≡ first_of (search_tests P)
   unfolding fit_tests
   search_last h = first_append (condition_tests P.atoms condition) (search_tests P) h
 
@@ -90,7 +89,7 @@ module _ {book rows plan : List ℕ} {sizes : Sizes} (ready : Ready book rows pl
       t.weight_is ∙ fitted_weight code t.seen ∙ ap (λ (l : List Interpretation). length (filter (code_holds code) l)) all_seen
       ∙ searched_passing (code_holds code) P (barred-formed ready.table bans) few
 
-  pub counted : Ok (record { states = count; branching = sizes.branching; fitting = weight }) ≡ reply_of Accepted P (code_holds code)
+  pub counted : Ok (record { states = count; branching = sizes.branching; fitting = weight }) ≡ reply_of (Ok tt) P (code_holds code)
   unfolding reply_of
   counted = λ i. Ok (record { states = k_is i; branching = g_is i; fitting = count_is i })
 
@@ -101,8 +100,8 @@ asks_fit code h = h
 -- ---- the program that the table stands for, and the driven layer's
 pub reply_over : {P Q : Program} → Alike P Q → (v : Verdict) (p : Interpretation → Bool) → reply_of v P p ≡ reply_of v Q p
 unfolding reply_of
-reply_over a (Refused c) p = refl
-reply_over a Accepted p = λ i. Ok (record { states = length (alike_models a i); branching = alike-count a i; fitting = length (filter p (alike_models a i)) })
+reply_over a (Err c) p = refl
+reply_over a (Ok tt) p = λ i. Ok (record { states = length (alike_models a i); branching = alike-count a i; fitting = length (filter p (alike_models a i)) })
 
 -- ---- the answer, by the stable models of the inductive definition
 rising-once : (ms : List Interpretation) → Rising ◌⊏◌ ms → Once ms
@@ -132,13 +131,13 @@ module _ (book : List ℕ) (layer off : ℕ) (condition : List ℕ) where
   counts_exactly n a h = (
     filter (λ m. fits m a) (stable_models Q),
     fitting a,
-    ap (λ (v : Verdict). reply_of v Q (fits_text condition)) ((accepted-none (count_tests book layer off condition)).1 n) ∙ ap (reply_of Accepted Q) (read_fits a h),
+    ap (λ (v : Verdict). reply_of v Q (fits_text condition)) ((accepted-none (count_tests book layer off condition)).1 n) ∙ ap (reply_of (Ok tt) Q) (read_fits a h),
   )
 
   -- ---- a granted answer carries numbers that keep to their bits
-  module _ (granted : first_of (count_tests book layer off condition) ≡ Accepted) where
+  module _ (g : first_of (count_tests book layer off condition) ≡ Ok tt) where
     passed : (t : Test) → t ∈ count_tests book layer off condition → t.applies ≡ false
-    passed = (accepted-none (count_tests book layer off condition)).0 granted
+    passed = (accepted-none (count_tests book layer off condition)).0 g
 
     few-branching : branching_count Q ≤ max_branching
     unfolding count_tests fit_tests search_tests has_too_many_branching
@@ -160,14 +159,9 @@ module _ (book : List ℕ) (layer off : ℕ) (condition : List ℕ) where
   -- g is at most 20, k at most 2 to its power, and the count at most k
   pub granted-small : (k g c : ℕ) → count_reply book layer off condition ≡ Ok (record { states = k; branching = g; fitting = c }) → (k ≤ 2 ^ max_branching) × (g ≤ max_branching) × (c ≤ k)
   unfolding count_reply reply_of
-  granted-small k g c e = go (first_of (count_tests book layer off condition)) refl e
-    where
-      go : (v : Verdict) → first_of (count_tests book layer off condition) ≡ v → reply_of v Q (fits_text condition) ≡ Ok (record { states = k; branching = g; fitting = c })
-          → (k ≤ 2 ^ max_branching) × (g ≤ max_branching) × (c ≤ k)
-      go (Refused d) q f = let z : ◌≡◌ {A = ℕ} 0 1 = cc in absurd (omega arith)
-      go Accepted q f =
-          let l : ◌≡◌ {A = Counted} (record { states = length (stable_models Q); branching = branching_count Q; fitting = length (filter (fits_text condition) (stable_models Q)) }) (record { states = k; branching = g; fitting = c }) = cc in
-          let x : length (stable_models Q) ≡ k = ap (λ (r : Counted). r.states) l in
-          let b : branching_count Q ≡ g = ap (λ (r : Counted). r.branching) l in
-          let y : length (filter (fits_text condition) (stable_models Q)) ≡ c = ap (λ (r : Counted). r.fitting) l in
-          (omega (arith, x, k_small q), omega (arith, b, few-branching q), omega (arith, x, y, filter-length (fits_text condition) (stable_models Q)))
+  granted-small k g c e =
+      let w = granted (first_of (count_tests book layer off condition)) e in
+      let x : length (stable_models Q) ≡ k = ap (λ (r : Counted). r.states) w.1 in
+      let b : branching_count Q ≡ g = ap (λ (r : Counted). r.branching) w.1 in
+      let y : length (filter (fits_text condition) (stable_models Q)) ≡ c = ap (λ (r : Counted). r.fitting) w.1 in
+      (omega (arith, x, k_small w.0), omega (arith, b, few-branching w.0), omega (arith, x, y, filter-length (fits_text condition) (stable_models Q)))

@@ -1,5 +1,6 @@
 -- Document 02, (e): counting states that fit a condition. The causes in order of test, and the answer. Assumes nothing.
 use Rattle.std.specs.Prelude.{◌≡◌, ◌↔◌, Bool, false, ℕ, T, length, Result, Ok, Err}
+use Rattle.std.specs.Result.{result_and}
 use mathlib.Core.List.{List, [], ◌∷◌, ◌++◌, Memᴰ}
 use Rattle.base.specs.Lists.{filter}
 use Rattle.models.specs.Program.{Program}
@@ -7,11 +8,9 @@ use Rattle.models.specs.StableModels.{Interpretation, StableModel}
 use Rattle.models.specs.Branching.{branching_count}
 use Rattle.models.specs.Listing.{stable_models}
 use Rattle.table.specs.Table.{program_of}
-use Rattle.book.specs.Causes.{Test, first_of}
+use Rattle.book.specs.Causes.{Test, first_of, Verdict}
 use Rattle.book.specs.declared.Cause.{Cause}
 use Rattle.book.specs.declared.Cause.TheVariants.{TooManyBranching}
-use Rattle.book.specs.declared.Verdict.{Verdict}
-use Rattle.book.specs.declared.Verdict.TheVariants.{Accepted, Refused}
 use Rattle.accepted.specs.Driven.{layer_tests}
 use Rattle.grammar.specs.Conditions.{Condition, Reads, or-level, fits}
 use Rattle.condition.specs.Causes.{condition_tests, fits_text}
@@ -32,8 +31,7 @@ count_tests book layer off condition = layer_tests book layer off ++ fit_tests (
 
 -- a refusal, or k, g and how many of the stable states pass a test
 unfoldable pub reply_of : Verdict → Program → (Interpretation → Bool) → Result Counted Cause
-reply_of (Refused c) P p = Err c
-reply_of Accepted P p = Ok (record { states = length (stable_models P); branching = branching_count P; fitting = length (filter p (stable_models P)) })
+reply_of v P p = result_and v (Ok (record { states = length (stable_models P); branching = branching_count P; fitting = length (filter p (stable_models P)) }))
 
 -- the first cause that applies; where none does, k, g and the number of the stable states in which the condition holds
 unfoldable pub count_reply : List ℕ → ℕ → ℕ → List ℕ → Result Counted Cause

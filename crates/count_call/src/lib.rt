@@ -2,14 +2,12 @@
 // many stable states of the driven layer the condition holds.
 #![tactic(auto)]
 
-ghost use Rattle.std.specs.Prelude.{◌≡◌};
+ghost use Rattle.std.specs.Prelude.{◌≡◌, Ok};
 ghost use Rattle.plan.specs.Plan.{planned_program};
-ghost use Rattle.book.specs.declared.Verdict.TheVariants.{Accepted};
 ghost use Rattle.condition.specs.Code.{code_holds, StackFits};
 ghost use Rattle.passes.specs.SetUp.{Ready};
 ghost use Rattle.count_call.specs.Reply.{reply_of};
 
-use book::Cause;
 use passes::tally;
 use plan::Sizes;
 use search::Goal;
@@ -29,15 +27,15 @@ pub fn count_found(
     plan: &[u32],
     sizes: Sizes,
     code: &[u8],
-) -> Result<Counted, Cause>
+) -> Counted
     requires ready { Ready book.now rows.now plan.now sizes }
     requires stack_fits { StackFits code.now }
-    ensures { result ≡ reply_of Accepted (planned_program book.now rows.now plan.now sizes) (code_holds code.now) }
+    ensures { Ok result ≡ reply_of (Ok tt) (planned_program book.now rows.now plan.now sizes) (code_holds code.now) }
 {
     let counts = tally(book, rows, plan, sizes, Goal::Fit, code);
-    Ok(Counted {
+    Counted {
         states: counts.count,
         branching: sizes.branching,
         fitting: counts.weight,
-    })
+    }
 }

@@ -33,21 +33,20 @@ use Rattle.models.proofs.ListingLaws.{stable_models-length, listings_decide}
 use Rattle.records.proofs.OrderLaws.{record_rises}
 use Rattle.records.proofs.SumLaws.{field_read}
 use Rattle.records.proofs.WrittenLaws.{records_fit}
-use Rattle.book.specs.Causes.{Test, first_of}
+use Rattle.book.specs.Causes.{Test, first_of, Verdict}
 use Rattle.book.specs.declared.Cause.TheVariants.{TooManyBranching, BufferTooShort}
-use Rattle.book.specs.declared.Verdict.{Verdict}
-use Rattle.book.specs.declared.Verdict.TheVariants.{Accepted, Refused}
 use Rattle.table.specs.Table.{program_of}
 use Rattle.accepted.specs.Accepted.{IsAccepted}
 use Rattle.accepted.specs.Driven.{layer_tests}
 use Rattle.accepted.proofs.DrivenLaws.{driven}
 use Rattle.accepted.proofs.FirstLaws.{accepted-none}
+use Rattle.accepted.proofs.GrantedLaws.{granted}
 use Rattle.accepted.proofs.RangeFacts.{atoms_are}
 use Rattle.accepted.proofs.RecordFacts.{accepted-formed}
 use Rattle.passes.specs.Limit.{has_too_many_branching}
 use Rattle.passes.proofs.PassLaws.{models_le}
 use Rattle.list_call.specs.declared.Listed.{Listed}
-use Rattle.std.proofs.Common.{Ok}
+use Rattle.std.proofs.Common.{Ok, Err}
 use Rattle.list_call.specs.Reply.{room_tests, search_tests, list_tests, reply_of, buffer_of, list_reply, list_buffer}
 use Rattle.list_call.specs.Condition3.{Call, Granted, after, facts, listed, record_at, Model, EqualExactly, Lists, ListsExactly}
 
@@ -61,23 +60,23 @@ record Told (c : Call) (k g : ℕ) : Type 0 where
   bytes : after c ≡ listing (program_of c.book c.layer c.off) ++ drop (length (listing (program_of c.book c.layer c.off))) c.buffer
 
 -- none of the tests of a granted call applies
-passed : (c : Call) → first_of (list_tests c.book c.layer c.off (length c.buffer)) ≡ Accepted → (t : Test)
+passed : (c : Call) → first_of (list_tests c.book c.layer c.off (length c.buffer)) ≡ Ok tt → (t : Test)
     → t ∈ (layer_tests c.book c.layer c.off ++ search_tests (program_of c.book c.layer c.off) (length c.buffer)) → t.applies ≡ false
 unfolding list_tests
 passed c q = (accepted-none (layer_tests c.book c.layer c.off ++ search_tests (program_of c.book c.layer c.off) (length c.buffer))).0 q
 
-passed_layer : (c : Call) → first_of (list_tests c.book c.layer c.off (length c.buffer)) ≡ Accepted → IsAccepted c.book
+passed_layer : (c : Call) → first_of (list_tests c.book c.layer c.off (length c.buffer)) ≡ Ok tt → IsAccepted c.book
 passed_layer c q =
     (driven c.book c.layer c.off
     ((accepted-none (layer_tests c.book c.layer c.off)).1 (λ t k. passed c q t (Memᴰ.append_left (search_tests (program_of c.book c.layer c.off) (length c.buffer)) k)))).0
 
-passed_branching : (c : Call) → first_of (list_tests c.book c.layer c.off (length c.buffer)) ≡ Accepted → branching_count (program_of c.book c.layer c.off) ≤ max_branching
+passed_branching : (c : Call) → first_of (list_tests c.book c.layer c.off (length c.buffer)) ≡ Ok tt → branching_count (program_of c.book c.layer c.off) ≤ max_branching
 unfolding search_tests has_too_many_branching
 passed_branching c q =
     ltb-false max_branching (branching_count (program_of c.book c.layer c.off))
     (passed c q (record { cause = TooManyBranching; applies = has_too_many_branching (program_of c.book c.layer c.off) }) (Memᴰ.append_right (layer_tests c.book c.layer c.off) (Memᴰ.head refl)))
 
-passed_room : (c : Call) → first_of (list_tests c.book c.layer c.off (length c.buffer)) ≡ Accepted → length (listing (program_of c.book c.layer c.off)) ≤ length c.buffer
+passed_room : (c : Call) → first_of (list_tests c.book c.layer c.off (length c.buffer)) ≡ Ok tt → length (listing (program_of c.book c.layer c.off)) ≤ length c.buffer
 unfolding search_tests room_tests
 passed_room c q =
     ltb-false (length c.buffer) (length (listing (program_of c.book c.layer c.off)))
@@ -86,24 +85,17 @@ passed_room c q =
 
 told : (c : Call) (k g : ℕ) → Granted c k g → Told c k g
 unfolding list_reply list_buffer reply_of buffer_of
-told c k g e = go (first_of (list_tests c.book c.layer c.off (length c.buffer))) refl e
-  where
-    P : Program
-    P = program_of c.book c.layer c.off
-
-    go : (v : Verdict) → first_of (list_tests c.book c.layer c.off (length c.buffer)) ≡ v → reply_of v (program_of c.book c.layer c.off) ≡ Ok (record { states = k; branching = g }) → Told c k g
-    go (Refused x) q f = absurd (let z : ◌≡◌ {A = ℕ} 0 1 = cc in omega arith)
-    go Accepted q f =
-        let l : ◌≡◌ {A = Listed} (record { states = length (stable_models P); branching = branching_count P }) (record { states = k; branching = g }) = cc in
-        let b : g ≡ branching_count (program_of c.book c.layer c.off) = ap (λ (x : Listed). x.branching) (sym l) in
-        record {
-          accepted = passed_layer c q;
-          count = ap (λ (x : Listed). x.states) (sym l);
-          branch = b;
-          few = subst (λ (x : ℕ). x ≤ max_branching) (sym b) (passed_branching c q);
-          room = passed_room c q;
-          bytes = ap (λ (v : Verdict). buffer_of v (program_of c.book c.layer c.off) c.buffer) q;
-        }
+told c k g e =
+    let w = granted (first_of (list_tests c.book c.layer c.off (length c.buffer))) e in
+    let b : g ≡ branching_count (program_of c.book c.layer c.off) = ap (λ (x : Listed). x.branching) (sym w.1) in
+    record {
+      accepted = passed_layer c w.0;
+      count = ap (λ (x : Listed). x.states) (sym w.1);
+      branch = b;
+      few = subst (λ (x : ℕ). x ≤ max_branching) (sym b) (passed_branching c w.0);
+      room = passed_room c w.0;
+      bytes = ap (λ (v : Verdict). buffer_of v (program_of c.book c.layer c.off) c.buffer) w.0;
+    }
 
 -- ---- records by their place
 index_of : (l : List Interpretation) (m : Interpretation) → m ∈ l → (i : ℕ) × (i < length l) × (get_or l i [] ≡ m)

@@ -22,21 +22,19 @@ use Rattle.models.specs.Listing.{stable_models, listing}
 use Rattle.models.specs.Examples.{Example, framed, section, bytes_of, p, not_p, q, not_q, never, rule_in, arrow, book_b, table, seen}
 use Rattle.models.proofs.ExampleLaws.{examples_say}
 use Rattle.table.specs.Table.{program_of}
-use Rattle.book.specs.Causes.{within, arrow_ok, rule_length, atom_below, head_ok, rule_ok, is_too_short, has_wrong_version, has_wrong_length, is_out_of_range, has_bad_record, repeats_arrow, has_cycle, tests, verdict_if, first_of}
-use Rattle.book.specs.declared.Verdict.{Verdict}
-use Rattle.book.specs.declared.Verdict.TheVariants.{Accepted, Refused}
+use Rattle.book.specs.Causes.{within, arrow_ok, rule_length, atom_below, head_ok, rule_ok, is_too_short, has_wrong_version, has_wrong_length, is_out_of_range, has_bad_record, repeats_arrow, has_cycle, tests, verdict_if, first_of, Verdict}
 use Rattle.accepted.specs.Driven.{is_no_such_layer, has_absent_layer, driven_tests, layer_tests}
 use Rattle.accepted.proofs.DrivenLaws.{driven}
 use Rattle.accepted.proofs.FirstLaws.{first_append}
 use Rattle.passes.specs.Limit.{has_too_many_branching}
-use Rattle.std.proofs.Common.{Ok}
+use Rattle.std.proofs.Common.{Ok, Err}
 use Rattle.list_call.specs.Reply.{room_tests, search_tests, list_tests, reply_of, buffer_of, list_reply, list_buffer}
 use Rattle.list_call.specs.Examples.{state_count, ExampleAnswered, ExamplesAnswered}
 use Rattle.list_call.proofs.Condition3Laws.{lists-exactly}
 
 accepts : Verdict → Bool
-accepts Accepted = true
-accepts (Refused c) = false
+accepts (Ok tt) = true
+accepts (Err c) = false
 
 -- none of causes 1 to 9 and 19 applies, and g is at most 20
 lawful : Example → Bool
@@ -46,10 +44,10 @@ all_lawful : T (all lawful table)
 unfolding accepts lawful cons_if all any filter flat up_to member fires extend saturate closure same_arrow repeats backwards layers_below below u16_at u32_at records_in records meets_end_in meets_end section_bytes section_count section_end section_records literal_of literals_of arrow_of rule_of is_falsity version length_field atom_count layer_count rule_section arrow_records rule_records arrows_of whole_section has_broken_section framed section bytes_of p not_p q not_q never rule_in arrow book_b table within arrow_ok rule_length atom_below head_ok rule_ok is_too_short has_wrong_version has_wrong_length is_out_of_range has_bad_record repeats_arrow has_cycle tests verdict_if first_of is_no_such_layer has_absent_layer driven_tests layer_tests in_set
 all_lawful = tt
 
-accepts_says : (v : Verdict) → T (accepts v) → v ≡ Accepted
+accepts_says : (v : Verdict) → T (accepts v) → v ≡ Ok tt
 unfolding accepts
-accepts_says Accepted t = refl
-accepts_says (Refused c) t = absurd t
+accepts_says (Ok x) t = refl
+accepts_says (Err c) t = absurd t
 
 module _ (e : Example) (i : e ∈ table) where
   abbrev P : Program
@@ -63,7 +61,7 @@ module _ (e : Example) (i : e ∈ table) where
   unfolding seen
   branches_are = (examples_say e i).1
 
-  layer-accepted : first_of (layer_tests e.book e.layer 0) ≡ Accepted
+  layer-accepted : first_of (layer_tests e.book e.layer 0) ≡ Ok tt
   unfolding lawful
   layer-accepted = accepts_says (first_of (layer_tests e.book e.layer 0)) (and_left (accepts (first_of (layer_tests e.book e.layer 0))) (leb e.branches max_branching) (all_at lawful all_lawful i))
 
@@ -72,7 +70,7 @@ module _ (e : Example) (i : e ∈ table) where
   few = subst (λ (g : ℕ). g ≤ max_branching) (sym branches_are) (leb→le e.branches max_branching (and_right (accepts (first_of (layer_tests e.book e.layer 0))) (leb e.branches max_branching) (all_at lawful all_lawful i)))
 
   module _ (buffer : List ℕ) (room : length e.written ≤ length buffer) where
-    granted : first_of (list_tests e.book e.layer 0 (length buffer)) ≡ Accepted
+    granted : first_of (list_tests e.book e.layer 0 (length buffer)) ≡ Ok tt
     unfolding list_tests search_tests room_tests first_of verdict_if has_too_many_branching
     granted =
         first_append (layer_tests e.book e.layer 0) (search_tests P (length buffer)) layer-accepted

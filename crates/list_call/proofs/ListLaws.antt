@@ -11,11 +11,9 @@ use lib.ListN.{length, take, drop, length-drop}
 use lib.Seq.{length-take-le}
 use Rattle.base.specs.Bounds.{max_atoms, max_record, max_branching}
 use Rattle.base.specs.Lists.{flat}
-use Rattle.book.specs.Causes.{verdict_if, first_of}
+use Rattle.book.specs.Causes.{verdict_if, first_of, Verdict}
 use Rattle.book.specs.declared.Cause.{Cause}
 use Rattle.book.specs.declared.Cause.TheVariants.{BufferTooShort}
-use Rattle.book.specs.declared.Verdict.{Verdict}
-use Rattle.book.specs.declared.Verdict.TheVariants.{Accepted, Refused}
 use Rattle.models.specs.Program.{Program}
 use Rattle.models.specs.Branching.{branching_count}
 use Rattle.models.specs.Listing.{stable_models, record_size, record_of, be16, be32, listing_of, listing}
@@ -67,7 +65,7 @@ module _ {book rows plan : List ℕ} {sizes : Sizes} (ready : Ready book rows pl
     refused : length old < 11 + all * record_size n → Answers (first_of (room_tests P (length old))) P old (Err BufferTooShort) old
     unfolding first_of verdict_if room_tests reply_of buffer_of
     refused h =
-        let e : first_of (room_tests P (length old)) ≡ Refused BufferTooShort = rw (lt-ltb (length old) (length (listing P)) (omega (arith, size_is))) refl in
+        let e : first_of (room_tests P (length old)) ≡ Err BufferTooShort = rw (lt-ltb (length old) (length (listing P)) (omega (arith, size_is))) refl in
         record { reply_is = rw e refl; buffer_is = rw e refl }
 
     -- no room for the head
@@ -119,7 +117,7 @@ module _ {book rows plan : List ℕ} {sizes : Sizes} (ready : Ready book rows pl
                 → Answers (first_of (room_tests P (length old))) P old (Ok (record { states = k; branching = sizes.branching })) buf
             unfolding first_of verdict_if room_tests reply_of buffer_of listing
             room-listed part buf f q =
-                let v : first_of (room_tests P (length old)) ≡ Accepted = rw (le-ltb (length old) (length (listing P)) (omega (arith, size_is, all_fit, part-fits))) refl in
+                let v : first_of (room_tests P (length old)) ≡ Ok tt = rw (le-ltb (length old) (length (listing P)) (omega (arith, size_is, all_fit, part-fits))) refl in
                 record {
                   reply_is = rw v (λ i. Ok (record { states = k_is i; branching = g_is i }));
                   buffer_is =
@@ -135,13 +133,13 @@ module _ {P Q : Program} (a : Alike P Q) where
 
   pub reply_same : (v : Verdict) → reply_of v P ≡ reply_of v Q
   unfolding reply_of
-  reply_same (Refused c) = refl
-  reply_same Accepted = λ i. Ok (record { states = length (alike_models a i); branching = alike-count a i })
+  reply_same (Err c) = refl
+  reply_same (Ok tt) = λ i. Ok (record { states = length (alike_models a i); branching = alike-count a i })
 
   pub buffer-same : (v : Verdict) (old : List ℕ) → buffer_of v P old ≡ buffer_of v Q old
   unfolding buffer_of
-  buffer-same (Refused c) old = refl
-  buffer-same Accepted old = ap (λ (s : List ℕ). s ++ drop (length s) old) (alike-listing a)
+  buffer-same (Err c) old = refl
+  buffer-same (Ok tt) old = ap (λ (s : List ℕ). s ++ drop (length s) old) (alike-listing a)
 
   pub answers_over : {old new : List ℕ} {r : Result Listed Cause} → Answers (first_of (room_tests Q (length old))) Q old r new → Answers (first_of (room_tests P (length old))) P old r new
   answers_over {old} x =

@@ -6,7 +6,6 @@ use mathlib.Core.List.{List, ◌++◌, Memᴰ}
 use Rattle.format.specs.Book.{u32_at}
 use Rattle.models.specs.Examples.{Example, table}
 use Rattle.book.specs.Causes.{verdict}
-use Rattle.book.specs.declared.Verdict.TheVariants.{Accepted}
 use Rattle.list_call.specs.Reply.{list_reply, list_buffer}
 
 -- the k of an example, as the head of its listing has it
@@ -16,7 +15,7 @@ state_count e = u32_at e.written 7
 -- The book is accepted, and a call with a buffer that holds the listing is granted: its answer carries the example's k and g, the
 -- example's bytes stand in front, and the bytes past them are as they were.
 pub record ExampleAnswered (e : Example) : Type 0 where
-  pub accepted : verdict e.book ≡ Accepted
+  pub accepted : verdict e.book ≡ Ok tt
   pub answer : (buffer : List ℕ) → length e.written ≤ length buffer → list_reply e.book e.layer 0 buffer ≡ Ok (record { states = state_count e; branching = e.branches })
   pub bytes : (buffer : List ℕ) → length e.written ≤ length buffer → list_buffer e.book e.layer 0 buffer ≡ e.written ++ drop (length e.written) buffer
 

@@ -1,14 +1,13 @@
 -- Document 01: the listing call. Its causes in order of test, its answer, and the buffer afterwards. Assumes nothing.
 use Rattle.std.specs.Prelude.{◌≡◌, List, [], ◌∷◌, ◌++◌, ℕ, ltb, length, drop, Result, Ok, Err}
+use Rattle.std.specs.Result.{result_and}
 use Rattle.models.specs.Program.{Program}
 use Rattle.models.specs.Branching.{branching_count}
 use Rattle.models.specs.Listing.{stable_models, listing}
 use Rattle.table.specs.Table.{program_of}
-use Rattle.book.specs.Causes.{Test, first_of}
+use Rattle.book.specs.Causes.{Test, first_of, Verdict}
 use Rattle.book.specs.declared.Cause.{Cause}
 use Rattle.book.specs.declared.Cause.TheVariants.{TooManyBranching, BufferTooShort}
-use Rattle.book.specs.declared.Verdict.{Verdict}
-use Rattle.book.specs.declared.Verdict.TheVariants.{Accepted, Refused}
 use Rattle.accepted.specs.Driven.{layer_tests}
 use Rattle.passes.specs.Limit.{has_too_many_branching}
 use Rattle.list_call.specs.declared.Listed.{Listed}
@@ -27,13 +26,12 @@ list_tests book layer off room = layer_tests book layer off ++ search_tests (pro
 
 -- a refusal, or k and g
 unfoldable pub reply_of : Verdict → Program → Result Listed Cause
-reply_of (Refused c) P = Err c
-reply_of Accepted P = Ok (record { states = length (stable_models P); branching = branching_count P })
+reply_of v P = result_and v (Ok (record { states = length (stable_models P); branching = branching_count P }))
 
 -- a refusal leaves every byte; else the listing stands in front, and the bytes past it are untouched
 unfoldable pub buffer_of : Verdict → Program → List ℕ → List ℕ
-buffer_of (Refused c) P old = old
-buffer_of Accepted P old = listing P ++ drop (length (listing P)) old
+buffer_of (Err c) P old = old
+buffer_of (Ok tt) P old = listing P ++ drop (length (listing P)) old
 
 unfoldable pub list_reply : List ℕ → ℕ → ℕ → List ℕ → Result Listed Cause
 list_reply book layer off old = reply_of (first_of (list_tests book layer off (length old))) (program_of book layer off)

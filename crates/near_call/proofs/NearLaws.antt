@@ -13,11 +13,9 @@ use lib.Seq.{length-take-le}
 use Rattle.base.specs.Bounds.{max_atoms, max_branching}
 use Rattle.base.specs.Lists.{flat}
 use Rattle.base.proofs.Members.{◌∈◌}
-use Rattle.book.specs.Causes.{Test, tests, verdict_if, first_of, verdict}
+use Rattle.book.specs.Causes.{Test, tests, verdict_if, first_of, verdict, Verdict}
 use Rattle.book.specs.declared.Cause.{Cause}
 use Rattle.book.specs.declared.Cause.TheVariants.{BadCandidate, TooManyBranching, BufferTooShort, NoStableState}
-use Rattle.book.specs.declared.Verdict.{Verdict}
-use Rattle.book.specs.declared.Verdict.TheVariants.{Accepted, Refused}
 use Rattle.insertion.proofs.SortedLaws.{get_d_member}
 use Rattle.format.specs.Book.{atom_count, layer_count, book_of}
 use Rattle.models.specs.Program.{Program, program_at}
@@ -31,6 +29,7 @@ use Rattle.accepted.specs.Accepted.{IsAccepted}
 use Rattle.accepted.specs.Driven.{driven_tests, layer_tests}
 use Rattle.accepted.proofs.RangeFacts.{atoms_are}
 use Rattle.accepted.proofs.FirstLaws.{accepted-none}
+use Rattle.accepted.proofs.GrantedLaws.{granted}
 use Rattle.candidate.specs.Candidate.{is_bad_candidate}
 use Rattle.candidate.proofs.CandidateLaws.{read_length}
 use Rattle.leaf.specs.Searchable.{Searchable}
@@ -106,7 +105,7 @@ module _ {book rows plan : List ℕ} {sizes : Sizes} (ready : Ready book rows pl
   pub room_refused : length old < size → Answers (first_of (room_tests P (length old))) P c old (Err BufferTooShort) old
   unfolding first_of verdict_if room_tests reply_of buffer_of
   room_refused h =
-      let q : first_of (room_tests P (length old)) ≡ Refused BufferTooShort = rw (lt-ltb (length old) (record_size P.atoms) (omega (arith, size_is))) refl in
+      let q : first_of (room_tests P (length old)) ≡ Err BufferTooShort = rw (lt-ltb (length old) (record_size P.atoms) (omega (arith, size_is))) refl in
       rw q (record { reply_is = refl; buffer_is = refl })
 
   module _ (h : size ≤ length old) where
@@ -130,7 +129,7 @@ module _ {book rows plan : List ℕ} {sizes : Sizes} (ready : Ready book rows pl
       pub state_refused : found ≡ false → Answers (first_of (room_tests P (length old))) P c old (Err NoStableState) (put_mid 0 (size - 0) old part)
       unfolding first_of verdict_if room_tests reply_of buffer_of
       state_refused b =
-          let q : first_of (room_tests P (length old)) ≡ Refused NoStableState = rw (le-ltb (length old) (record_size P.atoms) (omega (arith, size_is)), none_is b) refl in
+          let q : first_of (room_tests P (length old)) ≡ Err NoStableState = rw (le-ltb (length old) (record_size P.atoms) (omega (arith, size_is)), none_is b) refl in
           let z : size - 0 ≡ size = omega arith in
           let r : part ≡ take size old = near.written ∙ held_none n (chosen P c) (take (size - 0) old) (chosen-some P c ∙ ap not (none_is b)) ∙ ap (λ (x : ℕ). take x old) z in
           rw q (record { reply_is = refl; buffer_is = back part ∙ ap (λ (x : List ℕ). x ++ drop size old) r ∙ take-append-drop size old })
@@ -155,7 +154,7 @@ module _ {book rows plan : List ℕ} {sizes : Sizes} (ready : Ready book rows pl
         pub state_written_lem : Answers (first_of (room_tests P (length old))) P c old (Ok (record { distance = d; branching = sizes.branching })) (put_mid 0 (size - 0) old part)
         unfolding first_of verdict_if room_tests reply_of buffer_of
         state_written_lem =
-            let q : first_of (room_tests P (length old)) ≡ Accepted = rw (le-ltb (length old) (record_size P.atoms) (omega (arith, size_is)), some_is b) refl in
+            let q : first_of (room_tests P (length old)) ≡ Ok tt = rw (le-ltb (length old) (record_size P.atoms) (omega (arith, size_is)), some_is b) refl in
             rw q (record { reply_is = λ i. Ok (record { distance = distance_told i; branching = g_is i }); buffer_is = back part ∙ ap₂ (λ (x : List ℕ) (k : ℕ). x ++ drop k old) bytes_told size_is })
 
 -- ---- the program that the table stands for, and the driven layer's
@@ -166,13 +165,13 @@ module _ {P Q : Program} (a : Alike P Q) where
 
   pub reply_same : (v : Verdict) (c : Interpretation) → reply_of v P c ≡ reply_of v Q c
   unfolding reply_of least_distance
-  reply_same (Refused cause) c = refl
-  reply_same Accepted c = λ i. Ok (record { distance = distance (a.atoms_same i) c (get_or (nearest-same c i) 0 []); branching = alike-count a i })
+  reply_same (Err cause) c = refl
+  reply_same (Ok tt) c = λ i. Ok (record { distance = distance (a.atoms_same i) c (get_or (nearest-same c i) 0 []); branching = alike-count a i })
 
   pub buffer-same : (v : Verdict) (c : Interpretation) (old : List ℕ) → buffer_of v P c old ≡ buffer_of v Q c old
   unfolding buffer_of
-  buffer-same (Refused cause) c old = refl
-  buffer-same Accepted c old = ap₂ (λ (n : ℕ) (ms : List Interpretation). flat (map (record_of n) ms) ++ drop (record_size n) old) a.atoms_same (nearest-same c)
+  buffer-same (Err cause) c old = refl
+  buffer-same (Ok tt) c old = ap₂ (λ (n : ℕ) (ms : List Interpretation). flat (map (record_of n) ms) ++ drop (record_size n) old) a.atoms_same (nearest-same c)
 
   pub answers_over : (c : Interpretation) {old new : List ℕ} {r : Result reply.Nearest Cause} → Answers (first_of (room_tests Q (length old))) Q c old r new → Answers (first_of (room_tests P (length old))) P c old r new
   answers_over c {old} x =
@@ -191,16 +190,12 @@ module _ (book : List ℕ) (layer off : ℕ) (candidate old : List ℕ) (d g : �
   given = interpretation_of (book_of book).atoms candidate
 
   -- it met none of its tests
-  pub granted-verdict : first_of (near_tests book layer off candidate (length old)) ≡ Accepted
+  answer : (first_of (near_tests book layer off candidate (length old)) ≡ Ok tt) × ◌≡◌ {A = reply.Nearest} (record { distance = least_distance Q given; branching = branching_count Q }) (record { distance = d; branching = g })
   unfolding near_reply reply_of
-  granted-verdict = go (first_of (near_tests book layer off candidate (length old))) refl e
-    where
-      go : (v : Verdict) → first_of (near_tests book layer off candidate (length old)) ≡ v → reply_of v Q given ≡ Ok (record { distance = d; branching = g }) → first_of (near_tests book layer off candidate (length old)) ≡ Accepted
-      go (Refused cause) q f = let z : ◌≡◌ {A = ℕ} 0 1 = cc in absurd (omega arith)
-      go Accepted q f = q
+  answer = granted (first_of (near_tests book layer off candidate (length old))) e
 
   passed : (t : Test) → t ∈ near_tests book layer off candidate (length old) → t.applies ≡ false
-  passed = (accepted-none (near_tests book layer off candidate (length old))).0 granted-verdict
+  passed = (accepted-none (near_tests book layer off candidate (length old))).0 answer.0
 
   pub granted-candidate : is_bad_candidate (book_of book).atoms candidate ≡ false
   unfolding near_tests candidate_tests program_at
@@ -210,19 +205,15 @@ module _ (book : List ℕ) (layer off : ℕ) (candidate old : List ℕ) (d g : �
   unfolding near_tests candidate_tests search_tests room_tests
   granted-some = passed (record { cause = NoStableState; applies = has_no_stable_state Q }) (Memᴰ.append_right (layer_tests book layer off) (Memᴰ.tail (Memᴰ.tail (Memᴰ.tail (Memᴰ.head refl)))))
 
-  told : ◌≡◌ {A = reply.Nearest} (record { distance = d; branching = g }) (record { distance = least_distance Q given; branching = branching_count Q })
-  unfolding near_reply reply_of
-  told = let t = sym e ∙ ap (λ (v : Verdict). reply_of v Q given) granted-verdict in cc
-
   pub granted-distance : d ≡ least_distance Q given
-  granted-distance = ap (λ (x : reply.Nearest). x.distance) told
+  granted-distance = ap (λ (x : reply.Nearest). x.distance) (sym answer.1)
 
   granted-branching : g ≡ branching_count Q
-  granted-branching = ap (λ (x : reply.Nearest). x.branching) told
+  granted-branching = ap (λ (x : reply.Nearest). x.branching) (sym answer.1)
 
   pub granted_bytes : near_buffer book layer off candidate old ≡ flat (map (record_of (book_of book).atoms) (nearest Q given)) ++ drop (record_size (book_of book).atoms) old
   unfolding near_buffer buffer_of program_at
-  granted_bytes = ap (λ (v : Verdict). buffer_of v Q given old) granted-verdict
+  granted_bytes = ap (λ (v : Verdict). buffer_of v Q given old) answer.0
 
   book-accepted : IsAccepted book
   unfolding verdict layer_tests near_tests

@@ -1,6 +1,7 @@
 -- Document 02, (j): the stable state closest to a candidate. Its causes in order of test, its answer, and the buffer afterwards. Assumes
 -- nothing.
 use Rattle.std.specs.Prelude.{◌≡◌, List, [], ◌∷◌, ◌++◌, map, ℕ, length, get_or, take, drop, Result, Ok, Err}
+use Rattle.std.specs.Result.{result_and}
 use Rattle.base.specs.Lists.{flat}
 use Rattle.format.specs.Book.{book_of}
 use Rattle.models.specs.Program.{Program}
@@ -8,11 +9,9 @@ use Rattle.models.specs.StableModels.{Interpretation}
 use Rattle.models.specs.Branching.{branching_count}
 use Rattle.models.specs.Listing.{stable_models, record_size, record_of, interpretation_of}
 use Rattle.table.specs.Table.{program_of}
-use Rattle.book.specs.Causes.{Test, first_of}
+use Rattle.book.specs.Causes.{Test, first_of, Verdict}
 use Rattle.book.specs.declared.Cause.{Cause}
 use Rattle.book.specs.declared.Cause.TheVariants.{BadCandidate}
-use Rattle.book.specs.declared.Verdict.{Verdict}
-use Rattle.book.specs.declared.Verdict.TheVariants.{Accepted, Refused}
 use Rattle.accepted.specs.Driven.{layer_tests}
 use Rattle.candidate.specs.Candidate.{is_bad_candidate}
 use Rattle.first.specs.Nearest.{distance, closest}
@@ -38,13 +37,12 @@ least_distance P c = distance P.atoms c (get_or (nearest P c) 0 [])
 
 -- a refusal, or how many facts differ, and g
 unfoldable pub reply_of : Verdict → Program → Interpretation → Result Nearest Cause
-reply_of (Refused cause) P c = Err cause
-reply_of Accepted P c = Ok (record { distance = least_distance P c; branching = branching_count P })
+reply_of v P c = result_and v (Ok (record { distance = least_distance P c; branching = branching_count P }))
 
 -- a refusal leaves every byte; else the closest state's record stands in front, and the bytes past it are untouched
 unfoldable pub buffer_of : Verdict → Program → Interpretation → List ℕ → List ℕ
-buffer_of (Refused cause) P c old = old
-buffer_of Accepted P c old = flat (map (record_of P.atoms) (nearest P c)) ++ drop (record_size P.atoms) old
+buffer_of (Err cause) P c old = old
+buffer_of (Ok tt) P c old = flat (map (record_of P.atoms) (nearest P c)) ++ drop (record_size P.atoms) old
 
 unfoldable pub near_reply : List ℕ → ℕ → ℕ → List ℕ → List ℕ → Result Nearest Cause
 near_reply book layer off candidate old =

@@ -12,11 +12,9 @@ use lib.ListN.{length, get_or, take, drop, take-append-drop}
 use lib.Seq.{length-take-le}
 use Rattle.base.specs.Bounds.{max_branching}
 use Rattle.base.specs.Lists.{flat}
-use Rattle.book.specs.Causes.{verdict_if, first_of}
+use Rattle.book.specs.Causes.{Test, verdict_if, first_of, Verdict}
 use Rattle.book.specs.declared.Cause.{Cause}
 use Rattle.book.specs.declared.Cause.TheVariants.{TooManyBranching, BufferTooShort, NoStableState}
-use Rattle.book.specs.declared.Verdict.{Verdict}
-use Rattle.book.specs.declared.Verdict.TheVariants.{Accepted, Refused}
 use Rattle.format.specs.Book.{book_of}
 use Rattle.models.specs.Program.{Program, program_at}
 use Rattle.models.specs.StableModels.{Interpretation}
@@ -27,6 +25,8 @@ use Rattle.models.proofs.AlikeLaws.{alike_models, alike-count}
 use Rattle.table.specs.Table.{program_of}
 use Rattle.accepted.specs.Driven.{layer_tests}
 use Rattle.accepted.proofs.FirstLaws.{accepted-none}
+use Rattle.accepted.proofs.GrantedLaws.{granted}
+use Rattle.base.proofs.Members.{◌∈◌}
 use Rattle.leaf.specs.Searchable.{Searchable}
 use Rattle.plan.specs.Plan.{plan_atoms, plan_bans, planned_program}
 use Rattle.plan.specs.declared.Sizes.{Sizes}
@@ -75,7 +75,7 @@ module _ {book rows plan : List ℕ} {sizes : Sizes} (ready : Ready book rows pl
   pub room_refused : length old < size → Answers (first_of (room_tests P (length old))) P old (Err BufferTooShort) old
   unfolding first_of verdict_if room_tests reply_of buffer_of
   room_refused h =
-      let q : first_of (room_tests P (length old)) ≡ Refused BufferTooShort = rw (lt-ltb (length old) (record_size P.atoms) (omega (arith, size_is))) refl in
+      let q : first_of (room_tests P (length old)) ≡ Err BufferTooShort = rw (lt-ltb (length old) (record_size P.atoms) (omega (arith, size_is))) refl in
       rw q (record { reply_is = refl; buffer_is = refl })
 
   module _ (h : size ≤ length old) where
@@ -96,7 +96,7 @@ module _ {book rows plan : List ℕ} {sizes : Sizes} (ready : Ready book rows pl
       pub state_refused : found ≡ false → Answers (first_of (room_tests P (length old))) P old (Err NoStableState) (put_mid 0 (size - 0) old part)
       unfolding first_of verdict_if room_tests reply_of buffer_of has_no_stable_state
       state_refused b =
-          let q : first_of (room_tests P (length old)) ≡ Refused NoStableState = rw (le-ltb (length old) (record_size P.atoms) (omega (arith, size_is)), none_is b) refl in
+          let q : first_of (room_tests P (length old)) ≡ Err NoStableState = rw (le-ltb (length old) (record_size P.atoms) (omega (arith, size_is)), none_is b) refl in
           let z : size - 0 ≡ size = omega arith in
           let e : part ≡ take size old = f.1 ∙ untouched n (stable_models P) (take (size - 0) old) (none_is b) ∙ ap (λ (x : ℕ). take x old) z in
           rw q (record { reply_is = refl; buffer_is = back part ∙ ap (λ (x : List ℕ). x ++ drop size old) e ∙ take-append-drop size old })
@@ -104,7 +104,7 @@ module _ {book rows plan : List ℕ} {sizes : Sizes} (ready : Ready book rows pl
       pub state_written_lem : found ≡ true → Answers (first_of (room_tests P (length old))) P old (Ok sizes.branching) (put_mid 0 (size - 0) old part)
       unfolding first_of verdict_if room_tests reply_of buffer_of has_no_stable_state
       state_written_lem b =
-          let q : first_of (room_tests P (length old)) ≡ Accepted = rw (le-ltb (length old) (record_size P.atoms) (omega (arith, size_is)), some_is b) refl in
+          let q : first_of (room_tests P (length old)) ≡ Ok tt = rw (le-ltb (length old) (record_size P.atoms) (omega (arith, size_is)), some_is b) refl in
           let r : part ≡ flat (map (record_of P.atoms) (take 1 (stable_models P))) =
           f.1 ∙ as_listed n (stable_models P) (take (size - 0) old) (some_is b) ∙ ap (λ (k : ℕ). flat (map (record_of k) (take 1 (stable_models P)))) (barred-size w (plan_bans plan sizes.bans)) in
           rw q (record { reply_is = ap Ok g_is; buffer_is = back part ∙ ap₂ (λ (x : List ℕ) (k : ℕ). x ++ drop k old) r size_is })
@@ -122,13 +122,13 @@ module _ {P Q : Program} (a : Alike P Q) where
 
   pub reply_same : (v : Verdict) → reply_of v P ≡ reply_of v Q
   unfolding reply_of
-  reply_same (Refused c) = refl
-  reply_same Accepted = ap Ok (alike-count a)
+  reply_same (Err c) = refl
+  reply_same (Ok tt) = ap Ok (alike-count a)
 
   pub buffer-same : (v : Verdict) (old : List ℕ) → buffer_of v P old ≡ buffer_of v Q old
   unfolding buffer_of
-  buffer-same (Refused c) old = refl
-  buffer-same Accepted old = ap₂ (λ (n : ℕ) (ms : List Interpretation). flat (map (record_of n) (take 1 ms)) ++ drop (record_size n) old) a.atoms_same (alike_models a)
+  buffer-same (Err c) old = refl
+  buffer-same (Ok tt) old = ap₂ (λ (n : ℕ) (ms : List Interpretation). flat (map (record_of n) (take 1 ms)) ++ drop (record_size n) old) a.atoms_same (alike_models a)
 
   pub answers_over : {old new : List ℕ} {r : Result ℕ Cause} → Answers (first_of (room_tests Q (length old))) Q old r new → Answers (first_of (room_tests P (length old))) P old r new
   answers_over {old} x =
@@ -138,24 +138,22 @@ module _ {P Q : Program} (a : Alike P Q) where
         buffer_is = x.buffer_is ∙ ap (λ (v : Verdict). buffer_of v Q old) e ∙ sym (buffer-same (first_of (room_tests P (length old))) old);
       }
 
--- a granted call met none of its tests
-granted-verdict : (book : List ℕ) (layer off : ℕ) (old : List ℕ) (g : ℕ) → one_reply book layer off old ≡ Ok g → first_of (one_tests book layer off (length old)) ≡ Accepted
-unfolding one_reply reply_of
-granted-verdict book layer off old g e = go (first_of (one_tests book layer off (length old))) refl e
-  where
-    go : (v : Verdict) → first_of (one_tests book layer off (length old)) ≡ v → reply_of v (program_of book layer off) ≡ Ok g → first_of (one_tests book layer off (length old)) ≡ Accepted
-    go (Refused c) q f = let z : ◌≡◌ {A = ℕ} 0 1 = cc in absurd (omega arith)
-    go Accepted q f = q
-
 -- there is a state, and the first one's record stands in front
 module _ (book : List ℕ) (layer off : ℕ) (old : List ℕ) (g : ℕ) (e : one_reply book layer off old ≡ Ok g) where
   abbrev Q : Program
   Q = program_of book layer off
 
+  -- it met none of its tests
+  answer : (first_of (one_tests book layer off (length old)) ≡ Ok tt) × (branching_count Q ≡ g)
+  unfolding one_reply reply_of
+  answer = granted (first_of (one_tests book layer off (length old))) e
+
+  passed : (t : Test) → t ∈ one_tests book layer off (length old) → t.applies ≡ false
+  passed = (accepted-none (one_tests book layer off (length old))).0 answer.0
+
   pub granted-some : 0 < length (stable_models Q)
   unfolding one_tests search_tests room_tests has_no_stable_state
-  granted-some = go (stable_models Q) ((accepted-none (one_tests book layer off (length old))).0 (granted-verdict book layer off old g e)
-      (record { cause = NoStableState; applies = has_no_stable_state Q }) (Memᴰ.append_right (layer_tests book layer off) (Memᴰ.tail (Memᴰ.tail (Memᴰ.head refl)))))
+  granted-some = go (stable_models Q) (passed (record { cause = NoStableState; applies = has_no_stable_state Q }) (Memᴰ.append_right (layer_tests book layer off) (Memᴰ.tail (Memᴰ.tail (Memᴰ.head refl)))))
     where
       go : (ms : List Interpretation) → eqb (length ms) 0 ≡ false → 0 < length ms
       go [] q = absurd (false≢true (sym q))
@@ -164,21 +162,11 @@ module _ (book : List ℕ) (layer off : ℕ) (old : List ℕ) (g : ℕ) (e : one
   pub granted_bytes : one_buffer book layer off old ≡ record_of (book_of book).atoms (get_or (stable_models Q) 0 []) ++ drop (record_size (book_of book).atoms) old
   unfolding one_buffer buffer_of program_at
   granted_bytes =
-      ap (λ (v : Verdict). buffer_of v Q old) (granted-verdict book layer off old g e)
+      ap (λ (v : Verdict). buffer_of v Q old) answer.0
       ∙ ap (λ (r : List ℕ). r ++ drop (record_size (book_of book).atoms) old) (first_record (book_of book).atoms (stable_models Q) granted-some)
 
--- a granted answer carries a g of at most 20
-pub granted-small : (book : List ℕ) (layer off : ℕ) (old : List ℕ) (g : ℕ) → one_reply book layer off old ≡ Ok g → g ≤ max_branching
-unfolding one_reply reply_of one_tests search_tests has_too_many_branching
-granted-small book layer off old g e = go (first_of (one_tests book layer off (length old))) refl e
-  where
-    go : (v : Verdict) → first_of (one_tests book layer off (length old)) ≡ v → reply_of v (program_of book layer off) ≡ Ok g → g ≤ max_branching
-    go (Refused c) q f = let z : ◌≡◌ {A = ℕ} 0 1 = cc in absurd (omega arith)
-    go Accepted q f =
-        let b : g ≡ branching_count (program_of book layer off) = cc in
-        omega (
-          arith,
-          b,
-          ltb-false max_branching (branching_count (program_of book layer off))
-              ((accepted-none (one_tests book layer off (length old))).0 q (record { cause = TooManyBranching; applies = has_too_many_branching (program_of book layer off) }) (Memᴰ.append_right (layer_tests book layer off) (Memᴰ.head refl))),
-        )
+  -- g is at most 20
+  pub granted-small : g ≤ max_branching
+  unfolding one_tests search_tests has_too_many_branching
+  granted-small =
+      omega (arith, answer.1, ltb-false max_branching (branching_count Q) (passed (record { cause = TooManyBranching; applies = has_too_many_branching Q }) (Memᴰ.append_right (layer_tests book layer off) (Memᴰ.head refl))))

@@ -1,16 +1,15 @@
 -- Document 01: one state, which is the first of the listing (document 02, (f)). Its causes in order of test, its answer, and the buffer
 -- afterwards. Assumes nothing.
 use Rattle.std.specs.Prelude.{◌≡◌, List, [], ◌∷◌, ◌++◌, map, ℕ, ltb, length, take, drop, Result, Ok, Err}
+use Rattle.std.specs.Result.{result_and}
 use Rattle.base.specs.Lists.{flat}
 use Rattle.models.specs.Program.{Program}
 use Rattle.models.specs.Branching.{branching_count}
 use Rattle.models.specs.Listing.{stable_models, record_size, record_of}
 use Rattle.table.specs.Table.{program_of}
-use Rattle.book.specs.Causes.{Test, first_of}
+use Rattle.book.specs.Causes.{Test, first_of, Verdict}
 use Rattle.book.specs.declared.Cause.{Cause}
 use Rattle.book.specs.declared.Cause.TheVariants.{TooManyBranching, BufferTooShort, NoStableState}
-use Rattle.book.specs.declared.Verdict.{Verdict}
-use Rattle.book.specs.declared.Verdict.TheVariants.{Accepted, Refused}
 use Rattle.accepted.specs.Driven.{layer_tests}
 use Rattle.passes.specs.Limit.{has_too_many_branching, has_no_stable_state}
 
@@ -29,13 +28,12 @@ one_tests book layer off room = layer_tests book layer off ++ search_tests (prog
 
 -- a refusal, or g
 unfoldable pub reply_of : Verdict → Program → Result ℕ Cause
-reply_of (Refused c) P = Err c
-reply_of Accepted P = Ok (branching_count P)
+reply_of v P = result_and v (Ok (branching_count P))
 
 -- a refusal leaves every byte; else the first record of the listing stands in front, and the bytes past it are untouched
 unfoldable pub buffer_of : Verdict → Program → List ℕ → List ℕ
-buffer_of (Refused c) P old = old
-buffer_of Accepted P old = flat (map (record_of P.atoms) (take 1 (stable_models P))) ++ drop (record_size P.atoms) old
+buffer_of (Err c) P old = old
+buffer_of (Ok tt) P old = flat (map (record_of P.atoms) (take 1 (stable_models P))) ++ drop (record_size P.atoms) old
 
 unfoldable pub one_reply : List ℕ → ℕ → ℕ → List ℕ → Result ℕ Cause
 one_reply book layer off old = reply_of (first_of (one_tests book layer off (length old))) (program_of book layer off)

@@ -16,11 +16,9 @@ use Rattle.base.specs.Lists.{cons_if, all, any, filter}
 use Rattle.base.proofs.Members.{◌∈◌, test, filter-from, filter_into, all_at, all_of, any_of, any_at}
 use Rattle.base.proofs.ClosureLaws.{filter_lt, filter-length}
 use Rattle.base.proofs.UpTo.{passed, failed}
-use Rattle.book.specs.Causes.{Test, verdict_if, first_of}
+use Rattle.book.specs.Causes.{Test, verdict_if, first_of, Verdict}
 use Rattle.book.specs.declared.Cause.{Cause}
 use Rattle.book.specs.declared.Cause.TheVariants.{TooManyBranching, NoStableState}
-use Rattle.book.specs.declared.Verdict.{Verdict}
-use Rattle.book.specs.declared.Verdict.TheVariants.{Accepted, Refused}
 use Rattle.format.specs.Book.{u16_at}
 use Rattle.models.specs.Program.{Program}
 use Rattle.models.specs.StableModels.{Interpretation, atom_holds, StableModel}
@@ -31,6 +29,7 @@ use Rattle.models.proofs.AlikeLaws.{alike_models, alike-count}
 use Rattle.table.specs.Table.{program_of}
 use Rattle.accepted.specs.Driven.{layer_tests}
 use Rattle.accepted.proofs.FirstLaws.{accepted-none}
+use Rattle.accepted.proofs.GrantedLaws.{granted}
 use Rattle.search.specs.declared.Goal.TheVariants.{Settle}
 use Rattle.leaf.specs.Searchable.{Searchable}
 use Rattle.search.specs.Visits.{reaches}
@@ -182,8 +181,8 @@ module _ {P Q : Program} (a : Alike P Q) (fact : ℕ) where
 
   pub reply_same : (v : Verdict) → reply_of v P fact ≡ reply_of v Q fact
   unfolding reply_of
-  reply_same (Refused c) = refl
-  reply_same Accepted = λ i. Ok (record { place = place_same i; branching = alike-count a i })
+  reply_same (Err c) = refl
+  reply_same (Ok tt) = λ i. Ok (record { place = place_same i; branching = alike-count a i })
 
   pub reply_over : (r : Result Placed Cause) → r ≡ reply_of (first_of (state_tests Q)) Q fact → r ≡ reply_of (first_of (state_tests P)) P fact
   reply_over r e = e ∙ sym (reply_same (first_of (state_tests Q))) ∙ sym (ap (λ (ts : List Test). reply_of (first_of ts) P fact) state_same)
@@ -221,13 +220,9 @@ module _ (book : List ℕ) (layer off fact : ℕ) where
 
   told : (p : Place) → Answers book layer off fact p → NoCause book layer off fact × (place_in Q fact ≡ p)
   unfolding place_reply reply_of
-  told p e = go (first_of (place_tests book layer off fact)) refl e
-    where
-      go : (v : Verdict) → first_of (place_tests book layer off fact) ≡ v → reply_of v Q fact ≡ Ok (record { place = p; branching = branching_count Q }) → NoCause book layer off fact × (place_in Q fact ≡ p)
-      go (Refused c) q f = let z : ◌≡◌ {A = ℕ} 0 1 = cc in absurd (omega arith)
-      go Accepted q f =
-          let l : ◌≡◌ {A = Placed} (record { place = place_in Q fact; branching = branching_count Q }) (record { place = p; branching = branching_count Q }) = cc in
-          ((accepted-none (place_tests book layer off fact)).0 q, ap (λ (x : Placed). x.place) l)
+  told p e =
+      let w = granted (first_of (place_tests book layer off fact)) e in
+      ((accepted-none (place_tests book layer off fact)).0 w.0, ap (λ (x : Placed). x.place) w.1)
 
   tells : (p : Place) → NoCause book layer off fact → place_in Q fact ≡ p → Answers book layer off fact p
   unfolding place_reply reply_of
@@ -278,16 +273,12 @@ module _ (book : List ℕ) (layer off fact : ℕ) where
   -- a granted answer carries a g of at most 20
   pub granted-small : (p : Place) (g : ℕ) → place_reply book layer off fact ≡ Ok (record { place = p; branching = g }) → g ≤ max_branching
   unfolding place_reply reply_of place_tests fact_tests search_tests has_too_many_branching
-  granted-small p g e = go (first_of (place_tests book layer off fact)) refl e
-    where
-      go : (v : Verdict) → first_of (place_tests book layer off fact) ≡ v → reply_of v Q fact ≡ Ok (record { place = p; branching = g }) → g ≤ max_branching
-      go (Refused c) q f = let z : ◌≡◌ {A = ℕ} 0 1 = cc in absurd (omega arith)
-      go Accepted q f =
-          let l : ◌≡◌ {A = Placed} (record { place = p; branching = g }) (record { place = place_in Q fact; branching = branching_count Q }) = cc in
-          let b : g ≡ branching_count Q = ap (λ (x : Placed). x.branching) l in
-          omega (
-            arith,
-            b,
-            ltb-false max_branching (branching_count Q)
-                ((accepted-none (place_tests book layer off fact)).0 q (record { cause = TooManyBranching; applies = has_too_many_branching Q }) (Memᴰ.append_right (layer_tests book layer off) (Memᴰ.tail (Memᴰ.head refl)))),
-          )
+  granted-small p g e =
+      let w = granted (first_of (place_tests book layer off fact)) e in
+      let b : branching_count Q ≡ g = ap (λ (x : Placed). x.branching) w.1 in
+      omega (
+        arith,
+        b,
+        ltb-false max_branching (branching_count Q)
+            ((accepted-none (place_tests book layer off fact)).0 w.0 (record { cause = TooManyBranching; applies = has_too_many_branching Q }) (Memᴰ.append_right (layer_tests book layer off) (Memᴰ.tail (Memᴰ.head refl)))),
+      )

@@ -1,5 +1,6 @@
 -- Document 01: a fact's place. The causes in order of test, and the answer. Assumes nothing.
 use Rattle.std.specs.Prelude.{◌≡◌, ◌↔◌, Bool, true, false, not, ℕ, T, ltb, Result, Ok, Err}
+use Rattle.std.specs.Result.{result_and}
 use mathlib.Core.List.{List, [], ◌∷◌, ◌++◌, Memᴰ}
 use Rattle.base.specs.Lists.{all, any}
 use Rattle.models.specs.Program.{Program}
@@ -7,11 +8,9 @@ use Rattle.models.specs.StableModels.{Interpretation, atom_holds, StableModel}
 use Rattle.models.specs.Branching.{branching_count}
 use Rattle.models.specs.Listing.{stable_models}
 use Rattle.table.specs.Table.{program_of}
-use Rattle.book.specs.Causes.{Test, first_of}
+use Rattle.book.specs.Causes.{Test, first_of, Verdict}
 use Rattle.book.specs.declared.Cause.{Cause}
 use Rattle.book.specs.declared.Cause.TheVariants.{NoSuchFact, TooManyBranching, NoStableState}
-use Rattle.book.specs.declared.Verdict.{Verdict}
-use Rattle.book.specs.declared.Verdict.TheVariants.{Accepted, Refused}
 use Rattle.accepted.specs.Driven.{layer_tests}
 use Rattle.passes.specs.Limit.{has_too_many_branching, has_no_stable_state}
 use Rattle.place_call.specs.declared.Place.{Place}
@@ -50,8 +49,7 @@ place_in P fact = place_by (all (λ m. atom_holds m fact) (stable_models P)) (an
 
 -- a refusal, or the place and g
 unfoldable pub reply_of : Verdict → Program → ℕ → Result Placed Cause
-reply_of (Refused c) P fact = Err c
-reply_of Accepted P fact = Ok (record { place = place_in P fact; branching = branching_count P })
+reply_of v P fact = result_and v (Ok (record { place = place_in P fact; branching = branching_count P }))
 
 -- the first cause that applies; where none does, the fact's place with g
 unfoldable pub place_reply : List ℕ → ℕ → ℕ → ℕ → Result Placed Cause

@@ -21,13 +21,12 @@ use Rattle.table.specs.Table.{program_of, TableMade}
 use Rattle.table.specs.Tabled.{tabled}
 use Rattle.table.proofs.TabledLaws.{tabled-free, lent_alike}
 use Rattle.bans.specs.Bans.{bodies_of, BansFit, BansMade}
-use Rattle.book.specs.Causes.{verdict_if, first_of}
+use Rattle.book.specs.Causes.{verdict_if, first_of, Verdict}
 use Rattle.book.specs.declared.Cause.{Cause}
 use Rattle.book.specs.declared.Cause.TheVariants.{BadCandidate}
-use Rattle.book.specs.declared.Verdict.{Verdict}
-use Rattle.book.specs.declared.Verdict.TheVariants.{Accepted, Refused}
 use Rattle.accepted.specs.Driven.{layer_tests}
 use Rattle.accepted.proofs.FirstLaws.{first_append, first_refused, accepted-none}
+use Rattle.accepted.proofs.GrantedLaws.{granted}
 use Rattle.accepted.proofs.RecordFacts.{program_atoms}
 use Rattle.candidate.specs.Candidate.{is_bad_candidate}
 use Rattle.candidate.proofs.CandidateLaws.{read_length}
@@ -88,20 +87,20 @@ stable_over {P} {book} {rows} {count} made {n} e s m q f ef z r t =
 module _ (book : List ℕ) (layer off : ℕ) (candidate : List ℕ) where
   -- the verdict on the book and the layer, as the code holds it
   module _ (v : Verdict) (e : v ≡ first_of (layer_tests book layer off)) where
-    pub layer_refused : (c : Cause) → v ≡ Refused c → Err c ≡ test_reply book layer off candidate
+    pub layer_refused : (c : Cause) → v ≡ Err c → Err c ≡ test_reply book layer off candidate
     unfolding test_reply test_tests reply_of
     layer_refused c q =
         sym (ap (λ (w : Verdict). reply_of w (stable (program_of book layer off) (interpretation_of (book_of book).atoms candidate)))
         (first_refused (layer_tests book layer off) (record { cause = BadCandidate; applies = is_bad_candidate (book_of book).atoms candidate } ∷ []) c (sym e ∙ q)))
 
-    module _ (q : v ≡ Accepted) (n : ℕ) (en : n ≡ (book_of book).atoms) (t : Bool) (et : t ≡ is_bad_candidate n candidate) where
-      ten : first_of (test_tests book layer off candidate) ≡ verdict_if t (Refused BadCandidate) Accepted
+    module _ (q : v ≡ Ok tt) (n : ℕ) (en : n ≡ (book_of book).atoms) (t : Bool) (et : t ≡ is_bad_candidate n candidate) where
+      ten : first_of (test_tests book layer off candidate) ≡ verdict_if t (Err BadCandidate) (Ok tt)
       unfolding test_tests first_of
       ten =
           first_append (layer_tests book layer off) (record { cause = BadCandidate; applies = is_bad_candidate (book_of book).atoms candidate } ∷ []) (sym e ∙ q)
-          ∙ ap (λ (b : Bool). verdict_if b (Refused BadCandidate) Accepted) (ap (λ (k : ℕ). is_bad_candidate k candidate) (sym en) ∙ sym et)
+          ∙ ap (λ (b : Bool). verdict_if b (Err BadCandidate) (Ok tt)) (ap (λ (k : ℕ). is_bad_candidate k candidate) (sym en) ∙ sym et)
 
-      answer : (r : Bool) → r ≡ stable (program_of book layer off) (interpretation_of n candidate) → test_reply book layer off candidate ≡ reply_of (verdict_if t (Refused BadCandidate) Accepted) r
+      answer : (r : Bool) → r ≡ stable (program_of book layer off) (interpretation_of n candidate) → test_reply book layer off candidate ≡ reply_of (verdict_if t (Err BadCandidate) (Ok tt)) r
       unfolding test_reply
       answer r er = ap₂ reply_of ten (ap (λ (k : ℕ). stable (program_of book layer off) (interpretation_of k candidate)) (sym en) ∙ sym er)
 
@@ -126,11 +125,7 @@ module _ (book : List ℕ) (layer off : ℕ) (candidate : List ℕ) where
   -- "yes" or "no" with no cause, and the test's answer
   told : (b : Bool) → test_reply book layer off candidate ≡ Ok b → NoCause book layer off candidate × (stable (program_of book layer off) state ≡ b)
   unfolding test_reply reply_of
-  told b e = go (first_of (test_tests book layer off candidate)) refl e
-    where
-      go : (v : Verdict) → first_of (test_tests book layer off candidate) ≡ v → reply_of v (stable (program_of book layer off) state) ≡ Ok b → NoCause book layer off candidate × (stable (program_of book layer off) state ≡ b)
-      go (Refused c) q f = let z : ◌≡◌ {A = ℕ} 0 1 = cc in absurd (omega arith)
-      go Accepted q f = ((accepted-none (test_tests book layer off candidate)).0 q, cc)
+  told b e = let w = granted (first_of (test_tests book layer off candidate)) e in ((accepted-none (test_tests book layer off candidate)).0 w.0, w.1)
 
   tells : (b : Bool) → NoCause book layer off candidate → stable (program_of book layer off) state ≡ b → test_reply book layer off candidate ≡ Ok b
   unfolding test_reply reply_of

@@ -1,15 +1,14 @@
 -- Document 01: testing a candidate. Its causes in order of test, and its answer. Assumes nothing.
 use Rattle.std.specs.Prelude.{◌≡◌, ◌↔◌, Bool, true, false, ℕ, Result, Ok, Err}
+use Rattle.std.specs.Result.{result_and}
 use mathlib.Core.List.{List, [], ◌∷◌, ◌++◌, Memᴰ}
 use Rattle.format.specs.Book.{book_of}
 use Rattle.models.specs.StableModels.{stable, StableModel}
 use Rattle.models.specs.Listing.{interpretation_of}
 use Rattle.table.specs.Table.{program_of}
-use Rattle.book.specs.Causes.{Test, first_of}
+use Rattle.book.specs.Causes.{Test, first_of, Verdict}
 use Rattle.book.specs.declared.Cause.{Cause}
 use Rattle.book.specs.declared.Cause.TheVariants.{BadCandidate}
-use Rattle.book.specs.declared.Verdict.{Verdict}
-use Rattle.book.specs.declared.Verdict.TheVariants.{Accepted, Refused}
 use Rattle.accepted.specs.Driven.{layer_tests}
 use Rattle.candidate.specs.Candidate.{is_bad_candidate}
 
@@ -20,8 +19,7 @@ test_tests book layer off candidate =
 
 -- a refusal, or yes or no
 unfoldable pub reply_of : Verdict → Bool → Result Bool Cause
-reply_of (Refused c) isStable = Err c
-reply_of Accepted isStable = Ok isStable
+reply_of v isStable = result_and v (Ok isStable)
 
 -- the first cause that applies; where none does, whether the state that the candidate gives is stable at the layer
 unfoldable pub test_reply : List ℕ → ℕ → ℕ → List ℕ → Result Bool Cause
