@@ -25,6 +25,8 @@ use Rattle.book.specs.Causes.{verdict_if, first_of, Verdict}
 use Rattle.book.specs.declared.Cause.{Cause}
 use Rattle.book.specs.declared.Cause.TheVariants.{BadCandidate}
 use Rattle.accepted.specs.Driven.{layer_tests}
+use Rattle.accepted.specs.Driving.{driven_program}
+use Rattle.accepted.specs.declared.Driving.{Driving}
 use Rattle.accepted.proofs.FirstLaws.{first_append, first_refused, accepted-none}
 use Rattle.accepted.proofs.GrantedLaws.{granted}
 use Rattle.accepted.proofs.RecordFacts.{program_atoms}
@@ -85,32 +87,36 @@ stable_over {P} {book} {rows} {count} made {n} e s m q f ef z r t =
     and_true false = refl
 
 module _ (book : List ℕ) (layer off : ℕ) (candidate : List ℕ) where
-  -- the verdict on the book and the layer, as the code holds it
-  module _ (v : Verdict) (e : v ≡ first_of (layer_tests book layer off)) where
-    pub layer_refused : (c : Cause) → v ≡ Err c → Err c ≡ test_reply book layer off candidate
-    unfolding test_reply test_tests reply_of
-    layer_refused c q =
-        sym (ap (λ (w : Verdict). reply_of w (stable (program_of book layer off) (interpretation_of (book_of book).atoms candidate)))
-        (first_refused (layer_tests book layer off) (record { cause = BadCandidate; applies = is_bad_candidate (book_of book).atoms candidate } ∷ []) c (sym e ∙ q)))
+  -- a cause of the book or the layer
+  pub layer_refused : (c : Cause) → Err c ≡ first_of (layer_tests book layer off) → Err c ≡ test_reply book layer off candidate
+  unfolding test_reply test_tests reply_of
+  layer_refused c e =
+      sym (ap (λ (w : Verdict). reply_of w (stable (program_of book layer off) (interpretation_of (book_of book).atoms candidate)))
+      (first_refused (layer_tests book layer off) (record { cause = BadCandidate; applies = is_bad_candidate (book_of book).atoms candidate } ∷ []) c (sym e)))
 
-    module _ (q : v ≡ Ok tt) (n : ℕ) (en : n ≡ (book_of book).atoms) (t : Bool) (et : t ≡ is_bad_candidate n candidate) where
-      ten : first_of (test_tests book layer off candidate) ≡ verdict_if t (Err BadCandidate) (Ok tt)
-      unfolding test_tests first_of
-      ten =
-          first_append (layer_tests book layer off) (record { cause = BadCandidate; applies = is_bad_candidate (book_of book).atoms candidate } ∷ []) (sym e ∙ q)
-          ∙ ap (λ (b : Bool). verdict_if b (Err BadCandidate) (Ok tt)) (ap (λ (k : ℕ). is_bad_candidate k candidate) (sym en) ∙ sym et)
+  -- none of them, and cause 10 by its test
+  module _ (e : Ok tt ≡ first_of (layer_tests book layer off)) (d : Driving) (is : (d.book.now ≡ book) × (d.layer ≡ layer) × (d.off ≡ off)) (n : ℕ) (en : n ≡ (book_of d.book.now).atoms) (t : Bool) (et : t ≡ is_bad_candidate n candidate) where
+    bad_is : t ≡ is_bad_candidate (book_of book).atoms candidate
+    bad_is = et ∙ ap (λ (k : ℕ). is_bad_candidate k candidate) (en ∙ ap (λ (s : List ℕ). (book_of s).atoms) is.0)
 
-      answer : (r : Bool) → r ≡ stable (program_of book layer off) (interpretation_of n candidate) → test_reply book layer off candidate ≡ reply_of (verdict_if t (Err BadCandidate) (Ok tt)) r
-      unfolding test_reply
-      answer r er = ap₂ reply_of ten (ap (λ (k : ℕ). stable (program_of book layer off) (interpretation_of k candidate)) (sym en) ∙ sym er)
+    ten : first_of (test_tests book layer off candidate) ≡ verdict_if t (Err BadCandidate) (Ok tt)
+    unfolding test_tests first_of
+    ten =
+        first_append (layer_tests book layer off) (record { cause = BadCandidate; applies = is_bad_candidate (book_of book).atoms candidate } ∷ []) (sym e)
+        ∙ ap (λ (b : Bool). verdict_if b (Err BadCandidate) (Ok tt)) (sym bad_is)
 
-      pub candidate_refused : t ≡ true → Err BadCandidate ≡ test_reply book layer off candidate
-      unfolding reply_of verdict_if
-      candidate_refused f = sym (answer (stable (program_of book layer off) (interpretation_of n candidate)) refl ∙ rw f refl)
+    pub candidate_refused : t ≡ true → Err BadCandidate ≡ test_reply book layer off candidate
+    unfolding test_reply reply_of verdict_if
+    candidate_refused f = sym (rw (ten, f) refl)
 
-      pub answered : t ≡ false → (r : Bool) → r ≡ stable (program_of book layer off) (interpretation_of n candidate) → Ok r ≡ test_reply book layer off candidate
-      unfolding reply_of verdict_if
-      answered f r er = sym (answer r er ∙ rw f refl)
+    pub not_bad : t ≡ false → is_bad_candidate (book_of d.book.now).atoms candidate ≡ false
+    not_bad f = ap (λ (k : ℕ). is_bad_candidate k candidate) (sym en) ∙ sym et ∙ f
+
+    pub answered : t ≡ false → (r : Bool) → r ≡ stable (driven_program d) (interpretation_of (book_of d.book.now).atoms candidate) → Ok r ≡ test_reply book layer off candidate
+    unfolding test_reply reply_of verdict_if
+    answered f r er =
+        let s : r ≡ stable (program_of book layer off) (interpretation_of (book_of book).atoms candidate) = er ∙ (λ i. stable (program_of (is.0 i) (is.1 i) (is.2 i)) (interpretation_of (book_of (is.0 i)).atoms candidate)) in
+        sym (rw (ten, f) (ap Ok (sym s)))
 
   -- the state that the candidate gives
   abbrev state : Interpretation

@@ -1,11 +1,6 @@
 -- The numbers made are those of the layer's constraints.
 use Rattle.test_call.proofs.ReplyLaws.{lent_fit, lent_bodies}
-use borrow.Author.Rules.{rules}
 use Rattle.test_call.proofs.forbids.Goals as goal
-
-pub prepare_bans-count-requires : goal.prepare_bans-count-requires
-prepare_bans-count-requires c =
-    record { accepted = c.requires.accepted; layer_bound = c.requires.layer_bound; lower_masks = c.requires.lower_masks; bans_len = search rules }
 
 pub banned-requires : goal.banned-requires
 banned-requires c =
