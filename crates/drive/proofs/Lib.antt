@@ -1,1 +1,1 @@
-pub mod AskLaws
+pub mod DriveLaws
