@@ -9,37 +9,28 @@ use borrow.Author.Tests.{ne_eqb}
 use lib.Dec.{T, eqb, ltb, ltb→lt}
 use lib.ListN.{get_or}
 use Rattle.base.specs.Bounds.{max_atoms, max_branching}
+use Rattle.std.proofs.Common.{Result, Ok, Err}
 use Rattle.book.specs.Causes.{verdict}
 use Rattle.book.specs.Numbers.{number_of}
 use Rattle.book.specs.declared.Cause.{Cause}
 use Rattle.book.specs.declared.Cause.TheVariants.{TooShort, WrongVersion, WrongLength, BrokenSection, OutOfRange, BadRecord, RepeatedArrow, Cycle, NoSuchLayer, NoSuchLayerOff, BadCandidate, BadCondition, TooDeep, NoSuchFact, TooManyBranching, BufferTooShort, NoStableState}
-use Rattle.book.specs.declared.Verdict.{Verdict}
-use Rattle.book.specs.declared.Verdict.TheVariants.{Accepted, Refused}
 use Rattle.list_call.specs.Condition3.{Call, Granted}
 use Rattle.list_call.specs.Reply.{list_reply}
-use Rattle.list_call.specs.declared.ListReply.{ListReply}
-use Rattle.list_call.specs.declared.ListReply.TheVariants as list
+use Rattle.list_call.specs.declared.Listed.{Listed}
 use Rattle.list_call.proofs.Condition3Laws.{lists-exactly, equal-exactly}
 use Rattle.one_call.specs.Reply.{one_reply}
-use Rattle.one_call.specs.declared.OneReply.{OneReply}
-use Rattle.one_call.specs.declared.OneReply.TheVariants as one
 use Rattle.near_call.specs.Reply.{near_reply}
-use Rattle.near_call.specs.declared.NearReply.{NearReply}
-use Rattle.near_call.specs.declared.NearReply.TheVariants as near
+use Rattle.near_call.specs.declared.Nearest.{Nearest}
 use Rattle.place_call.specs.Reply.{place_reply}
 use Rattle.place_call.specs.declared.Place.{Place}
 use Rattle.place_call.specs.declared.Place.TheVariants.{Every, InSome, Nowhere}
-use Rattle.place_call.specs.declared.PlaceReply.{PlaceReply}
-use Rattle.place_call.specs.declared.PlaceReply.TheVariants as place
+use Rattle.place_call.specs.declared.Placed.{Placed}
 use Rattle.count_call.specs.Reply.{count_reply}
-use Rattle.count_call.specs.declared.CountReply.{CountReply}
-use Rattle.count_call.specs.declared.CountReply.TheVariants as count
+use Rattle.count_call.specs.declared.Counted.{Counted}
 use Rattle.test_call.specs.Reply.{test_reply}
-use Rattle.test_call.specs.declared.TestReply.{TestReply}
-use Rattle.test_call.specs.declared.TestReply.TheVariants as reply
-use Rattle.lesson.specs.Answers.{check_answer, test_answer, list_answer, one_answer, place_answer, near_answer, count_answer}
-use Rattle.lesson.specs.Host.{lesson_granted, lesson_is_stable, lesson_branching_count, lesson_state_count, lesson_distance, lesson_place_of, place_number, Reading, read_by, granted_with, refused_for, check_told, test_told, list_told, one_told, place_told, near_told, Given, HostReads, AnswersRead, NumbersDiffer, list_number, states_read, branching_read, Condition3Read, Counts, lesson_counts, count_told}
-use Rattle.lesson.proofs.AnswerLaws.{list_small, one_small, place-small, near_small, count_small}
+use Rattle.lesson.specs.Answers.{answer_by, yes_bits, place_bits, list_answer, ListFits, OneFits, PlaceFits, NearFits, CountFits}
+use Rattle.lesson.specs.Host.{lesson_granted, lesson_is_stable, lesson_branching_count, lesson_state_count, lesson_distance, lesson_place_of, place_number, Reading, read_by, granted_with, refused_for, told_by, list_told, Given, HostReads, AnswersRead, NumbersDiffer, list_number, states_read, branching_read, Condition3Read, Counts, lesson_counts}
+use Rattle.lesson.proofs.AnswerLaws.{list_fits, one_fits, place-fits, near_fits, count_fits}
 
 -- ---- the numbers of the causes
 -- those of 1 to 17; there is no 15
@@ -101,83 +92,41 @@ module _ {A : Type 0} (own : ℕ → A) where
   refused_read : (c : Cause) (v : A) → own (number_of c) ≡ v → read_by own (number_of c) ≡ refused_for c v
   refused_read c v o = carried false (number_of c) 0 0 (number_of c) v (omega arith) (ne_eqb (number_of c) 0 (λ z. omega (arith, number_low c))) (number_high c) (omega arith) o
 
-states_refused : (c : Cause) → read_by lesson_state_count (number_of c) ≡ refused_for c 0
-states_refused c = refused_read lesson_state_count c 0 (omega (arith, number_high c))
-
--- ---- the reply that a reading stands for
+-- ---- one law for every call: where a granted reply is read from its number, and can be made from what is read, so is every reply
 pick : {Reply : Type 0} → Bool → Reply → Reply → Reply
 pick true a b = a
 pick false a b = b
 
-module _ {A Reply : Type 0} (grant : ℕ → A → Reply) (refuse : Cause → Reply) where
-  meant : Reading A → Reply
-  meant r = pick r.granted (grant r.branching r.own) (refuse (cause_numbered r.cause))
+module _ {A B : Type 0} (grant : ℕ → A → B) where
+  -- the reply that a reading stands for
+  meant : Reading A → Result B Cause
+  meant r = pick r.granted (Ok (grant r.branching r.own)) (Err (cause_numbered r.cause))
 
-  meant_granted : (g : ℕ) (v : A) → meant (granted_with g v) ≡ grant g v
-  unfolding meant pick
-  meant_granted g v = refl
+  module _ (reply : Given → Result B Cause) (bits : B → ℕ) (own : ℕ → A) (g : B → ℕ) (v : B → A) (none : A) where
+    abbrev told : Result B Cause → Reading A
+    told r = told_by (λ b. granted_with (g b) (v b)) none r
 
-  meant_refused : (c : Cause) (v : A) → meant (refused_for c v) ≡ refuse c
-  unfolding meant pick
-  meant_refused c v = ap refuse (numbered c).0
+    host_reads : ((x : Given) (b : B) → reply x ≡ Ok b → read_by own (bits b) ≡ granted_with (g b) (v b)) → ((c : Cause) → own (number_of c) ≡ none) → ((b : B) → grant (g b) (v b) ≡ b)
+        → HostReads reply (λ r. answer_by bits r) own told
+    unfolding meant pick
+    host_reads granted refused made = record {
+      reads = λ x. reads x (reply x) refl;
+      differ = λ x y e. sym (back (reply x)) ∙ ap meant (sym (reads x (reply x) refl) ∙ ap (read_by own) e ∙ reads y (reply y) refl) ∙ back (reply y);
+    }
+      where
+        reads : (x : Given) (r : Result B Cause) → reply x ≡ r → read_by own (answer_by bits r) ≡ told r
+        reads x (Ok b) e = granted x b e
+        reads x (Err c) e = refused_read own c none (refused c)
 
-  -- a call whose readings stand for its replies
-  host_reads : (reply : Given → Reply) (answer : Reply → ℕ) (own : ℕ → A) (told : Reply → Reading A)
-      → ((x : Given) → read_by own (answer (reply x)) ≡ told (reply x)) → ((r : Reply) → meant (told r) ≡ r) → HostReads reply answer own told
-  host_reads reply answer own told reads back = record {
-    reads = reads;
-    differ = λ x y e. sym (back (reply x)) ∙ ap meant (sym (reads x) ∙ ap (read_by own) e ∙ reads y) ∙ back (reply y);
-  }
+        back : (r : Result B Cause) → meant (told r) ≡ r
+        back (Ok b) = ap Ok (made b)
+        back (Err c) = ap Err (numbered c).0
 
--- ---- lesson_check
-check_read : (v : Verdict) → read_by lesson_state_count (check_answer v) ≡ check_told v
-check_read Accepted = refl
-check_read (Refused c) = states_refused c
+-- ---- what each granted reply tells
+stable_read : (yes : Bool) → read_by lesson_is_stable (yes_bits yes) ≡ granted_with 0 yes
+stable_read true = refl
+stable_read false = refl
 
-check_meant : (v : Verdict) → meant (λ (g more : ℕ). Accepted) Refused (check_told v) ≡ v
-check_meant Accepted = meant_granted (λ (g more : ℕ). Accepted) Refused 0 0
-check_meant (Refused c) = meant_refused (λ (g more : ℕ). Accepted) Refused c 0
-
--- ---- lesson_test
-test_read : (r : TestReply) → read_by lesson_is_stable (test_answer r) ≡ test_told r
-test_read reply.Stable = refl
-test_read reply.NotStable = refl
-test_read (reply.Refused c) =
-    let none : number_of c / 65536 % 2 ≡ 0 = omega (arith, number_high c) in refused_read lesson_is_stable c false (ap (λ (x : ℕ). not (eqb x 0)) none)
-
-tested : ℕ → Bool → TestReply
-tested g stable = pick stable reply.Stable reply.NotStable
-
-test_meant : (r : TestReply) → meant tested reply.Refused (test_told r) ≡ r
-unfolding tested pick
-test_meant reply.Stable = meant_granted tested reply.Refused 0 true
-test_meant reply.NotStable = meant_granted tested reply.Refused 0 false
-test_meant (reply.Refused c) = meant_refused tested reply.Refused c false
-
--- ---- lesson_list
-list_read : (r : ListReply) → ((k g : ℕ) → r ≡ list.Listed k g → (k ≤ 2 ^ max_branching) × (g ≤ max_branching)) → read_by lesson_state_count (list_answer r) ≡ list_told r
-list_read (list.Listed k g) small =
-    let s : (k ≤ 2 ^ max_branching) × (g ≤ max_branching) = small k g refl in granted_read lesson_state_count g k (list_answer (list.Listed k g)) k (omega arith) s.1 (omega (arith, s.0, s.1))
-list_read (list.Refused c) small = states_refused c
-
-listed_with : ℕ → ℕ → ListReply
-listed_with g k = list.Listed k g
-
-list_meant : (r : ListReply) → meant listed_with list.Refused (list_told r) ≡ r
-unfolding listed_with
-list_meant (list.Listed k g) = meant_granted listed_with list.Refused g k
-list_meant (list.Refused c) = meant_refused listed_with list.Refused c 0
-
--- ---- lesson_one
-one_read : (r : OneReply) → ((g : ℕ) → r ≡ one.Written g → g ≤ max_branching) → read_by lesson_state_count (one_answer r) ≡ one_told r
-one_read (one.Written g) small = granted_read lesson_state_count g 0 (one_answer (one.Written g)) 0 (omega arith) (small g refl) (omega (arith, small g refl))
-one_read (one.Refused c) small = states_refused c
-
-one_meant : (r : OneReply) → meant (λ (g more : ℕ). one.Written g) one.Refused (one_told r) ≡ r
-one_meant (one.Written g) = meant_granted (λ (g more : ℕ). one.Written g) one.Refused g 0
-one_meant (one.Refused c) = meant_refused (λ (g more : ℕ). one.Written g) one.Refused c 0
-
--- ---- lesson_place
 places : List Place
 places = Nowhere ∷ InSome ∷ Every ∷ []
 
@@ -187,82 +136,59 @@ place_back Nowhere = refl
 place_back InSome = refl
 place_back Every = refl
 
-place_read : (r : PlaceReply) → ((p : Place) (g : ℕ) → r ≡ place.Placed p g → g ≤ max_branching) → read_by lesson_place_of (place_answer r) ≡ place_told r
-place_read (place.Placed Nowhere g) small = let s : g ≤ max_branching = small Nowhere g refl in granted_read lesson_place_of g 0 (place_answer (place.Placed Nowhere g)) 0 (omega arith) s (omega arith)
-place_read (place.Placed InSome g) small = let s : g ≤ max_branching = small InSome g refl in granted_read lesson_place_of g 1 (place_answer (place.Placed InSome g)) 1 (omega arith) s (omega arith)
-place_read (place.Placed Every g) small = let s : g ≤ max_branching = small Every g refl in granted_read lesson_place_of g 2 (place_answer (place.Placed Every g)) 2 (omega arith) s (omega arith)
-place_read (place.Refused c) small = refused_read lesson_place_of c 0 (omega (arith, number_high c))
+place_read : (p : Place) (g : ℕ) → g ≤ max_branching → read_by lesson_place_of (place_bits p + g * 256) ≡ granted_with g (place_number p)
+place_read Nowhere g s = granted_read lesson_place_of g 0 (0 + g * 256) 0 (omega arith) s (omega arith)
+place_read InSome g s = granted_read lesson_place_of g 1 (65536 + g * 256) 1 (omega arith) s (omega arith)
+place_read Every g s = granted_read lesson_place_of g 2 (131072 + g * 256) 2 (omega arith) s (omega arith)
 
-placed_with : ℕ → ℕ → PlaceReply
-placed_with g n = place.Placed (get_or places n Nowhere) g
-
-place_meant : (r : PlaceReply) → meant placed_with place.Refused (place_told r) ≡ r
-unfolding placed_with
-place_meant (place.Placed p g) = meant_granted placed_with place.Refused g (place_number p) ∙ ap (λ (x : Place). place.Placed x g) (place_back p)
-place_meant (place.Refused c) = meant_refused placed_with place.Refused c 0
-
--- ---- lesson_nearest
-near_read : (r : NearReply) → ((d g : ℕ) → r ≡ near.Written d g → (d ≤ max_atoms) × (g ≤ max_branching)) → read_by lesson_distance (near_answer r) ≡ near_told r
-near_read (near.Written d g) small =
-    let s : (d ≤ max_atoms) × (g ≤ max_branching) = small d g refl in granted_read lesson_distance g d (near_answer (near.Written d g)) d (omega arith) s.1 (omega (arith, s.0, s.1))
-near_read (near.Refused c) small = refused_read lesson_distance c 0 (omega (arith, number_high c))
-
-written_with : ℕ → ℕ → NearReply
-written_with g d = near.Written d g
-
-near_meant : (r : NearReply) → meant written_with near.Refused (near_told r) ≡ r
-unfolding written_with
-near_meant (near.Written d g) = meant_granted written_with near.Refused g d
-near_meant (near.Refused c) = meant_refused written_with near.Refused c 0
-
--- ---- lesson_count
 same_counts : {x y : Counts} → x.states ≡ y.states → x.fitting ≡ y.fitting → x ≡ y
 same_counts a b = λ i. record { states = a i; fitting = b i }
 
-count_read : (r : CountReply) → ((k g c : ℕ) → r ≡ count.Counted k g c → (k ≤ 2 ^ max_branching) × (g ≤ max_branching) × (c ≤ k)) → read_by lesson_counts (count_answer r) ≡ count_told r
-count_read (count.Counted k g c) small =
-    let s : (k ≤ 2 ^ max_branching) × (g ≤ max_branching) × (c ≤ k) = small k g c refl in
-    granted_read lesson_counts g (c * 16777216 + k) (count_answer (count.Counted k g c)) (record { states = k; fitting = c }) (omega arith) s.1
+count_read : (k g c : ℕ) → (k ≤ 2 ^ max_branching) × (g ≤ max_branching) × (c ≤ k) → read_by lesson_counts (c * 1099511627776 + k * 65536 + g * 256) ≡ granted_with g (record { states = k; fitting = c })
+count_read k g c s =
+    granted_read lesson_counts g (c * 16777216 + k) (c * 1099511627776 + k * 65536 + g * 256) (record { states = k; fitting = c }) (omega arith) s.1
     (same_counts (omega (arith, s.0, s.1, s.2)) (omega (arith, s.0, s.1, s.2)))
-count_read (count.Refused c) small =
-    refused_read lesson_counts c (record { states = 0; fitting = 0 }) (same_counts (omega (arith, number_high c)) (omega (arith, number_high c)))
 
-counted_with : ℕ → Counts → CountReply
-counted_with g x = count.Counted x.states g x.fitting
+-- ---- every number behind a cause's reads as nothing
+none_stable : (c : Cause) → lesson_is_stable (number_of c) ≡ false
+none_stable c = let none : number_of c / 65536 % 2 ≡ 0 = omega (arith, number_high c) in ap (λ (x : ℕ). not (eqb x 0)) none
 
-count_meant : (r : CountReply) → meant counted_with count.Refused (count_told r) ≡ r
-unfolding counted_with
-count_meant (count.Counted k g c) = meant_granted counted_with count.Refused g (record { states = k; fitting = c })
-count_meant (count.Refused c) = meant_refused counted_with count.Refused c (record { states = 0; fitting = 0 })
+none_counted : (c : Cause) → lesson_counts (number_of c) ≡ record { states = 0; fitting = 0 }
+none_counted c = same_counts (omega (arith, number_high c)) (omega (arith, number_high c))
 
 -- What a host reads from the number of each call is what the reply has to tell, and no two replies share a number.
 pub answers_read : AnswersRead
 answers_read = record {
-  lesson_check = host_reads (λ (g more : ℕ). Accepted) Refused _ check_answer lesson_state_count check_told (λ x. check_read (verdict x.book)) check_meant;
-  lesson_test = host_reads tested reply.Refused _ test_answer lesson_is_stable test_told (λ x. test_read (test_reply x.book x.layer x.off x.candidate)) test_meant;
+  lesson_check = host_reads (λ g own. tt) (λ x. verdict x.book) (λ accepted. 0) lesson_state_count (λ accepted. 0) (λ accepted. 0) 0 (λ x b e. refl) (λ c. omega (arith, number_high c)) (λ accepted. refl);
+  lesson_test = host_reads (λ g own. own) (λ x. test_reply x.book x.layer x.off x.candidate) yes_bits lesson_is_stable (λ yes. 0) (λ yes. yes) false (λ x yes e. stable_read yes) none_stable (λ yes. refl);
   lesson_list =
-      host_reads listed_with list.Refused _ list_answer lesson_state_count list_told
-      (λ x. list_read (list_reply x.book x.layer x.off x.buffer) (λ k g e. list_small x.book x.layer x.off x.buffer (list_reply x.book x.layer x.off x.buffer) k g refl e)) list_meant;
+      host_reads (λ g own. record { states = own; branching = g }) (λ x. list_reply x.book x.layer x.off x.buffer) (λ l. l.states * 65536 + l.branching * 256) lesson_state_count (λ l. l.branching) (λ l. l.states) 0
+      (λ x l e.
+      let s = list_fits x.book x.layer x.off x.buffer l e in
+      granted_read lesson_state_count l.branching l.states (l.states * 65536 + l.branching * 256) l.states (omega arith) s.1 (omega (arith, s.0, s.1))) (λ c. omega (arith, number_high c)) (λ l. refl);
   lesson_one =
-      host_reads (λ (g more : ℕ). one.Written g) one.Refused _ one_answer lesson_state_count one_told
-      (λ x. one_read (one_reply x.book x.layer x.off x.buffer) (λ g e. one_small x.book x.layer x.off x.buffer (one_reply x.book x.layer x.off x.buffer) g refl e)) one_meant;
+      host_reads (λ g own. g) (λ x. one_reply x.book x.layer x.off x.buffer) (λ g. g * 256) lesson_state_count (λ g. g) (λ g. 0) 0
+      (λ x g e. let s = one_fits x.book x.layer x.off x.buffer g e in granted_read lesson_state_count g 0 (g * 256) 0 (omega arith) s (omega (arith, s))) (λ c. omega (arith, number_high c)) (λ g. refl);
   lesson_place =
-      host_reads placed_with place.Refused _ place_answer lesson_place_of place_told
-      (λ x. place_read (place_reply x.book x.layer x.off x.fact) (λ p g e. place-small x.book x.layer x.off x.fact (place_reply x.book x.layer x.off x.fact) p g refl e)) place_meant;
+      host_reads (λ g own. record { place = get_or places own Nowhere; branching = g }) (λ x. place_reply x.book x.layer x.off x.fact) (λ p. place_bits p.place + p.branching * 256) lesson_place_of (λ p. p.branching) (λ p. place_number p.place) 0
+      (λ x p e. place_read p.place p.branching (place-fits x.book x.layer x.off x.fact p e)) (λ c. omega (arith, number_high c)) (λ p i. record { place = place_back p.place i; branching = p.branching });
   lesson_nearest =
-      host_reads written_with near.Refused _ near_answer lesson_distance near_told
-      (λ x. near_read (near_reply x.book x.layer x.off x.candidate x.buffer) (λ d g e. near_small x.book x.layer x.off x.candidate x.buffer (near_reply x.book x.layer x.off x.candidate x.buffer) d g refl e)) near_meant;
+      host_reads (λ g own. record { distance = own; branching = g }) (λ x. near_reply x.book x.layer x.off x.candidate x.buffer) (λ n. n.distance * 65536 + n.branching * 256) lesson_distance (λ n. n.branching) (λ n. n.distance) 0
+      (λ x n e.
+      let s = near_fits x.book x.layer x.off x.candidate x.buffer n e in
+      granted_read lesson_distance n.branching n.distance (n.distance * 65536 + n.branching * 256) n.distance (omega arith) s.1 (omega (arith, s.0, s.1))) (λ c. omega (arith, number_high c)) (λ n. refl);
   lesson_count =
-      host_reads counted_with count.Refused _ count_answer lesson_counts count_told
-      (λ x. count_read (count_reply x.book x.layer x.off x.condition) (λ k g c e. count_small x.book x.layer x.off x.condition (count_reply x.book x.layer x.off x.condition) k g c refl e)) count_meant;
+      host_reads (λ g own. record { states = own.states; branching = g; fitting = own.fitting }) (λ x. count_reply x.book x.layer x.off x.condition) (λ k. k.fitting * 1099511627776 + k.states * 65536 + k.branching * 256) lesson_counts
+      (λ k. k.branching) (λ k. record { states = k.states; fitting = k.fitting }) (record { states = 0; fitting = 0 })
+      (λ x k e. count_read k.states k.branching k.fitting (count_fits x.book x.layer x.off x.condition k e)) none_counted (λ k. refl);
 }
 
 -- ---- condition 3, of the number
 -- a number that says granted is that of a reply with the k and the g that it carries
-granted_reply : (r : ListReply) → read_by lesson_state_count (list_answer r) ≡ list_told r → lesson_granted (list_answer r) ≡ true
-    → r ≡ list.Listed (lesson_state_count (list_answer r)) (lesson_branching_count (list_answer r))
-granted_reply (list.Listed k g) e t = sym (ap₂ list.Listed (ap (λ (x : Reading ℕ). x.own) e) (ap (λ (x : Reading ℕ). x.branching) e))
-granted_reply (list.Refused c) e t = absurd (false≢true (sym (ap (λ (x : Reading ℕ). x.granted) e) ∙ t))
+granted_reply : (r : Result Listed Cause) → read_by lesson_state_count (list_answer r) ≡ list_told r → lesson_granted (list_answer r) ≡ true
+    → r ≡ Ok (record { states = lesson_state_count (list_answer r); branching = lesson_branching_count (list_answer r) })
+granted_reply (Ok l) e t = λ i. Ok (record { states = (sym e i).own; branching = (sym e i).branching })
+granted_reply (Err c) e t = absurd (false≢true (sym (ap (λ (x : Reading ℕ). x.granted) e) ∙ t))
 
 pub granted_call : (c : Call) → lesson_granted (list_number c) ≡ true → Granted c (states_read c) (branching_read c)
 granted_call c t =

@@ -13,8 +13,8 @@ use Rattle.models.proofs.RecordLaws.{record_length}
 use Rattle.list_call.specs.Condition3.{Call, after}
 use Rattle.list_call.proofs.Condition3Laws.{record_listed}
 use Rattle.one_call.specs.Reply.{one_reply, one_buffer}
-use Rattle.one_call.specs.declared.OneReply.{OneReply}
-use Rattle.one_call.specs.declared.OneReply.TheVariants as one
+use Rattle.std.proofs.Common.{Result, Ok, Err}
+use Rattle.book.specs.declared.Cause.{Cause}
 use Rattle.one_call.proofs.OneLaws.{granted-some, granted_bytes}
 use Rattle.lesson.specs.Answers.{one_answer}
 use Rattle.lesson.specs.Host.{lesson_granted, lesson_state_count, Reading, read_by, one_told, states_read, branching_read}
@@ -22,9 +22,9 @@ use Rattle.lesson.specs.SameStart.{OneGranted, ListGranted, state_written, first
 use Rattle.lesson.proofs.HostLaws.{answers_read, granted_call}
 
 -- a number that says granted is that of a state that was written
-granted_one : (r : OneReply) → read_by lesson_state_count (one_answer r) ≡ one_told r → lesson_granted (one_answer r) ≡ true → (g : ℕ) × (r ≡ one.Written g)
-granted_one (one.Written g) e t = (g, λ i. one.Written g)
-granted_one (one.Refused c) e t = absurd (false≢true (sym (ap (λ (x : Reading ℕ). x.granted) e) ∙ t))
+granted_one : (r : Result ℕ Cause) → read_by lesson_state_count (one_answer r) ≡ one_told r → lesson_granted (one_answer r) ≡ true → (g : ℕ) × (r ≡ Ok g)
+granted_one (Ok g) e t = (g, λ i. Ok g)
+granted_one (Err c) e t = absurd (false≢true (sym (ap (λ (x : Reading ℕ). x.granted) e) ∙ t))
 
 module _ (book : List ℕ) (layer off : ℕ) where
   abbrev P : Program
@@ -38,7 +38,7 @@ module _ (book : List ℕ) (layer off : ℕ) where
   first = record_of n (get_or (stable_models P) 0 [])
 
   module _ (buffer : List ℕ) (t : OneGranted book layer off buffer) where
-    granted : (g : ℕ) × (one_reply book layer off buffer ≡ one.Written g)
+    granted : (g : ℕ) × (one_reply book layer off buffer ≡ Ok g)
     granted = granted_one (one_reply book layer off buffer) (answers_read.lesson_one.reads (record { book = book; layer = layer; off = off; candidate = []; buffer = buffer; fact = 0; condition = [] })) t
 
     written : state_written book layer off buffer ≡ first

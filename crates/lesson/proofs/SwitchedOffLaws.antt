@@ -10,18 +10,18 @@ use Rattle.book.specs.declared.Cause.TheVariants.{BadCandidate}
 use Rattle.accepted.proofs.SwitchedOffLaws.{answers_none}
 use Rattle.candidate.specs.Candidate.{is_bad_candidate}
 use Rattle.test_call.specs.Reply as test
-use Rattle.test_call.specs.declared.TestReply.{TestReply}
+use Rattle.std.proofs.Common.{Bool, Result}
+use Rattle.book.specs.declared.Cause.{Cause}
 use Rattle.list_call.specs.Reply as list
-use Rattle.list_call.specs.declared.ListReply.{ListReply}
+use Rattle.list_call.specs.declared.Listed.{Listed}
 use Rattle.one_call.specs.Reply as one
-use Rattle.one_call.specs.declared.OneReply.{OneReply}
 use Rattle.near_call.specs.Reply as near
-use Rattle.near_call.specs.declared.NearReply.{NearReply}
+use Rattle.near_call.specs.declared.Nearest.{Nearest}
 use Rattle.place_call.specs.Reply as place
 use Rattle.count_call.specs.Reply as count
-use Rattle.count_call.specs.declared.CountReply.{CountReply}
+use Rattle.count_call.specs.declared.Counted.{Counted}
 use Rattle.condition.specs.Causes.{fits_text}
-use Rattle.place_call.specs.declared.PlaceReply.{PlaceReply}
+use Rattle.place_call.specs.declared.Placed.{Placed}
 use Rattle.lesson.specs.SwitchedOff.{NothingOff}
 
 module _ (book : List ℕ) (layer : ℕ) where
@@ -29,16 +29,16 @@ module _ (book : List ℕ) (layer : ℕ) where
   unfolding test.test_reply test.test_tests list.list_reply list.list_buffer list.list_tests one.one_reply one.one_buffer one.one_tests place.place_reply place.place_tests near.near_reply near.near_buffer near.near_tests count.count_reply count.count_tests
   nothing-off = record {
     test_reply_lem = λ candidate.
-        answers_none TestReply (λ P. record { cause = BadCandidate; applies = is_bad_candidate (book_of book).atoms candidate } ∷ [])
+        answers_none (Result Bool Cause) (λ P. record { cause = BadCandidate; applies = is_bad_candidate (book_of book).atoms candidate } ∷ [])
         (λ v P. test.reply_of v (stable P (interpretation_of (book_of book).atoms candidate))) book layer;
-    list_reply_lem = λ old. answers_none ListReply (λ P. list.search_tests P (length old)) list.reply_of book layer;
+    list_reply_lem = λ old. answers_none (Result Listed Cause) (λ P. list.search_tests P (length old)) list.reply_of book layer;
     list_bytes = λ old. answers_none (List ℕ) (λ P. list.search_tests P (length old)) (λ v P. list.buffer_of v P old) book layer;
-    one_reply_lem = λ old. answers_none OneReply (λ P. one.search_tests P (length old)) one.reply_of book layer;
+    one_reply_lem = λ old. answers_none (Result ℕ Cause) (λ P. one.search_tests P (length old)) one.reply_of book layer;
     one_bytes = λ old. answers_none (List ℕ) (λ P. one.search_tests P (length old)) (λ v P. one.buffer_of v P old) book layer;
-    place_reply_lem = λ fact. answers_none PlaceReply (λ P. place.fact_tests P fact) (λ v P. place.reply_of v P fact) book layer;
+    place_reply_lem = λ fact. answers_none (Result Placed Cause) (λ P. place.fact_tests P fact) (λ v P. place.reply_of v P fact) book layer;
     near_reply_lem = λ candidate old.
-        answers_none NearReply (λ P. near.candidate_tests P candidate (length old)) (λ v P. near.reply_of v P (interpretation_of (book_of book).atoms candidate)) book layer;
+        answers_none (Result Nearest Cause) (λ P. near.candidate_tests P candidate (length old)) (λ v P. near.reply_of v P (interpretation_of (book_of book).atoms candidate)) book layer;
     near_bytes = λ candidate old.
         answers_none (List ℕ) (λ P. near.candidate_tests P candidate (length old)) (λ v P. near.buffer_of v P (interpretation_of (book_of book).atoms candidate) old) book layer;
-    count_reply_lem = λ condition. answers_none CountReply (λ P. count.fit_tests P condition) (λ v P. count.reply_of v P (fits_text condition)) book layer;
+    count_reply_lem = λ condition. answers_none (Result Counted Cause) (λ P. count.fit_tests P condition) (λ v P. count.reply_of v P (fits_text condition)) book layer;
   }

@@ -1,32 +1,22 @@
 -- The host's number: what a C host reads from an answer by the functions of include/lesson.h, and what is promised of it for every
 -- input of every call. proofs/HostLaws.antt proves it. Assumes nothing.
-use Rattle.std.specs.Prelude.{◌≡◌, ◌↔◌, Bool, true, false, not, List, ℕ, ◌/◌, ◌%◌, eqb}
-use Rattle.book.specs.Causes.{verdict}
+use Rattle.std.specs.Prelude.{◌≡◌, ◌↔◌, Bool, true, false, not, List, ℕ, ◌/◌, ◌%◌, eqb, Result, Ok, Err}
+use Rattle.book.specs.Causes.{Verdict, verdict}
 use Rattle.book.specs.Numbers.{number_of}
 use Rattle.book.specs.declared.Cause.{Cause}
-use Rattle.book.specs.declared.Verdict.{Verdict}
-use Rattle.book.specs.declared.Verdict.TheVariants.{Accepted, Refused}
 use Rattle.list_call.specs.Condition3.{Call, listed, SameModels, Lists}
 use Rattle.list_call.specs.Reply.{list_reply}
-use Rattle.list_call.specs.declared.ListReply.{ListReply}
-use Rattle.list_call.specs.declared.ListReply.TheVariants as list
+use Rattle.list_call.specs.declared.Listed.{Listed}
 use Rattle.one_call.specs.Reply.{one_reply}
-use Rattle.one_call.specs.declared.OneReply.{OneReply}
-use Rattle.one_call.specs.declared.OneReply.TheVariants as one
 use Rattle.near_call.specs.Reply.{near_reply}
-use Rattle.near_call.specs.declared.NearReply.{NearReply}
-use Rattle.near_call.specs.declared.NearReply.TheVariants as near
+use Rattle.near_call.specs.declared.Nearest.{Nearest}
 use Rattle.place_call.specs.Reply.{place_reply}
 use Rattle.place_call.specs.declared.Place.{Place}
 use Rattle.place_call.specs.declared.Place.TheVariants.{Every, InSome, Nowhere}
-use Rattle.place_call.specs.declared.PlaceReply.{PlaceReply}
-use Rattle.place_call.specs.declared.PlaceReply.TheVariants as place
+use Rattle.place_call.specs.declared.Placed.{Placed}
 use Rattle.count_call.specs.Reply.{count_reply}
-use Rattle.count_call.specs.declared.CountReply.{CountReply}
-use Rattle.count_call.specs.declared.CountReply.TheVariants as count
+use Rattle.count_call.specs.declared.Counted.{Counted}
 use Rattle.test_call.specs.Reply.{test_reply}
-use Rattle.test_call.specs.declared.TestReply.{TestReply}
-use Rattle.test_call.specs.declared.TestReply.TheVariants as reply
 use Rattle.lesson.specs.Answers.{check_answer, test_answer, list_answer, one_answer, place_answer, near_answer, count_answer}
 
 -- ---- the functions of include/lesson.h, each behind its C. Of a number below 2^64, x >> 8 is x / 256, x & 0xFF is x % 256, and
@@ -101,41 +91,38 @@ abbrev pub refused_for : {A : Type 0} → Cause → A → Reading A
 refused_for c own = record { granted = false; cause = number_of c; branching = 0; own = own }
 
 -- ---- what each reply has to tell
+-- what a granted one tells, or the cause, and nothing of the call's own
+abbrev pub told_by : {A B : Type 0} → (B → Reading A) → A → Result B Cause → Reading A
+told_by granted none (Ok told) = granted told
+told_by granted none (Err c) = refused_for c none
+
 -- lesson_check: nothing more; lesson_state_count reads 0
 abbrev pub check_told : Verdict → Reading ℕ
-check_told Accepted = granted_with 0 0
-check_told (Refused c) = refused_for c 0
+check_told v = told_by (λ accepted. granted_with 0 0) 0 v
 
 -- lesson_test, by lesson_is_stable: yes or no
-abbrev pub test_told : TestReply → Reading Bool
-test_told reply.Stable = granted_with 0 true
-test_told reply.NotStable = granted_with 0 false
-test_told (reply.Refused c) = refused_for c false
+abbrev pub test_told : Result Bool Cause → Reading Bool
+test_told r = told_by (λ stable. granted_with 0 stable) false r
 
 -- lesson_list, by lesson_state_count: k
-abbrev pub list_told : ListReply → Reading ℕ
-list_told (list.Listed k g) = granted_with g k
-list_told (list.Refused c) = refused_for c 0
+abbrev pub list_told : Result Listed Cause → Reading ℕ
+list_told r = told_by (λ l. granted_with l.branching l.states) 0 r
 
 -- lesson_one: nothing but g; lesson_state_count reads 0
-abbrev pub one_told : OneReply → Reading ℕ
-one_told (one.Written g) = granted_with g 0
-one_told (one.Refused c) = refused_for c 0
+abbrev pub one_told : Result ℕ Cause → Reading ℕ
+one_told r = told_by (λ g. granted_with g 0) 0 r
 
 -- lesson_place, by lesson_place_of: the place
-abbrev pub place_told : PlaceReply → Reading ℕ
-place_told (place.Placed p g) = granted_with g (place_number p)
-place_told (place.Refused c) = refused_for c 0
+abbrev pub place_told : Result Placed Cause → Reading ℕ
+place_told r = told_by (λ p. granted_with p.branching (place_number p.place)) 0 r
 
 -- lesson_nearest, by lesson_distance: how many facts differ
-abbrev pub near_told : NearReply → Reading ℕ
-near_told (near.Written d g) = granted_with g d
-near_told (near.Refused c) = refused_for c 0
+abbrev pub near_told : Result Nearest Cause → Reading ℕ
+near_told r = told_by (λ n. granted_with n.branching n.distance) 0 r
 
 -- lesson_count, by lesson_state_count and lesson_fit_count: k and the count
-abbrev pub count_told : CountReply → Reading Counts
-count_told (count.Counted k g c) = granted_with g (record { states = k; fitting = c })
-count_told (count.Refused c) = refused_for c (record { states = 0; fitting = 0 })
+abbrev pub count_told : Result Counted Cause → Reading Counts
+count_told r = told_by (λ k. granted_with k.branching (record { states = k.states; fitting = k.fitting })) (record { states = 0; fitting = 0 }) r
 
 -- ---- what is promised
 -- what a host hands to a call; each call takes its part of it
@@ -154,7 +141,7 @@ pub record HostReads {Reply A : Type 0} (reply : Given → Reply) (answer : Repl
   pub reads : (x : Given) → read_by own (answer (reply x)) ≡ told (reply x)
   pub differ : (x y : Given) → answer (reply x) ≡ answer (reply y) → reply x ≡ reply y
 
--- The six calls. So lesson_list's number gives back k and g where the reply is `Listed k g`, and the cause where it is `Refused c`.
+-- The calls. So lesson_list's number gives back k and g where the reply is `Ok`, and the cause where it is `Err`.
 pub record AnswersRead : Type 0 where
   pub lesson_check : HostReads (λ x. verdict x.book) check_answer lesson_state_count check_told
   pub lesson_test : HostReads (λ x. test_reply x.book x.layer x.off x.candidate) test_answer lesson_is_stable test_told

@@ -7,9 +7,8 @@ use Rattle.models.specs.Program.{Program}
 use Rattle.models.specs.StableModels.{stable}
 use Rattle.models.specs.Listing.{interpretation_of}
 use Rattle.models.specs.SwitchedOff.{whole_program}
-use Rattle.book.specs.Causes.{first_of}
+use Rattle.book.specs.Causes.{Verdict, first_of}
 use Rattle.book.specs.declared.Cause.TheVariants.{BadCandidate}
-use Rattle.book.specs.declared.Verdict.{Verdict}
 use Rattle.accepted.specs.SwitchedOff.{whole_tests}
 use Rattle.candidate.specs.Candidate.{is_bad_candidate}
 use Rattle.test_call.specs.Reply as test

@@ -2,32 +2,36 @@
 // document 01's number. None has a `requires`: every input has an outcome.
 #![tactic(auto)]
 
-ghost use Rattle.std.specs.Prelude.{◌≡◌, ◌≤◌};
+ghost use Rattle.std.specs.Prelude.{◌≡◌, ◌*◌, ◌≤◌, MatchResult};
+ghost use Rattle.std.specs.Result.{ForOk};
 ghost use Rattle.book.specs.Causes.{verdict};
+ghost use Rattle.book.specs.Numbers.{number_of};
 ghost use Rattle.test_call.specs.Reply.{test_reply};
 ghost use Rattle.list_call.specs.Reply.{list_reply, list_buffer};
 ghost use Rattle.one_call.specs.Reply.{one_reply, one_buffer};
 ghost use Rattle.near_call.specs.Reply.{near_reply, near_buffer};
 ghost use Rattle.place_call.specs.Reply.{place_reply};
 ghost use Rattle.count_call.specs.Reply.{count_reply};
-ghost use Rattle.lesson.specs.Answers.{check_answer, test_answer, list_answer, one_answer, place_bits, place_answer, near_answer, answer_of, ListFits, OneFits, PlaceFits, NearFits, Fits, count_answer, CountFits};
+ghost use Rattle.lesson.specs.Answers.{check_answer, test_answer, list_answer, one_answer, place_bits, place_answer, near_answer, count_answer};
 
-use book::{Verdict, cause_number, check};
-use count_call::CountReply;
-use drive::{Answer, Question, ask, count, near};
-use list_call::ListReply;
-use near_call::NearReply;
-use one_call::OneReply;
-use place_call::{Place, PlaceReply};
-use test_call::{TestReply, test};
+use book::{Cause, check};
+use drive::{count, list, nearest, one, place};
+use place_call::Place;
+use test_call::test;
 
-// How a verdict is answered.
-fn verdict_number(v: Verdict) -> u64
-    ensures { result ≡ check_answer v }
+// What an answer carries is told in bits of its own: g from bit 8 on, the call's own number from bit 16 on, and a count from bit 40 on.
+const BRANCHING: u64 = 1 << 8;
+const OWN: u64 = 1 << 16;
+const FITTING: u64 = 1 << 40;
+
+// How an answer is told: in the bits that its call makes of a granted one, or as the cause's number.
+fn number<T, F: FnOnce(T) -> u64>(answer: Result<T, Cause>, bits: F) -> u64
+    requires { ForOk answer (λ told. F.pre bits told) }
+    ensures { MatchResult answer (λ told. F.post bits told result) (λ c. result ≡ number_of c) }
 {
-    match v {
-        Verdict::Accepted => 0,
-        Verdict::Refused(c) => cause_number(c),
+    match answer {
+        Ok(told) => bits(told),
+        Err(c) => c.into(),
     }
 }
 
@@ -35,108 +39,17 @@ fn verdict_number(v: Verdict) -> u64
 pub fn lesson_check(book: &[u8]) -> u64
     ensures { result ≡ check_answer (verdict book.now) }
 {
-    verdict_number(check(book))
-}
-
-// How the test's reply is answered: yes in bit 16.
-fn test_number(r: TestReply) -> u64
-    ensures { result ≡ test_answer r }
-{
-    match r {
-        TestReply::Stable => 65536,
-        TestReply::NotStable => 0,
-        TestReply::Refused(c) => cause_number(c),
-    }
+    number(check(book), |_| 0)
 }
 
 // Whether a candidate is a stable state of a book at a layer, with the layers of a set switched off, or the first of causes 1 to 10 and
-// 19 that applies.
+// 19 that applies: yes in bit 16.
 pub fn lesson_test(book: &[u8], layer: u32, off: u32, candidate: &[u8]) -> u64
     ensures { result ≡ test_answer (test_reply book.now layer off candidate.now) }
 {
-    test_number(test(book, layer, off, candidate))
-}
-
-// A fact's place in bits 16 and 17.
-fn place_bits(p: Place) -> u64
-    ensures { (result ≡ place_bits p) × (result ≤ 131072) }
-{
-    match p {
-        Place::Every => 131072,
-        Place::InSome => 65536,
-        Place::Nowhere => 0,
-    }
-}
-
-// How a listing's reply is answered: k from bit 16 on, g in bits 8 to 15.
-fn list_number(r: ListReply) -> u64
-    requires { ListFits r }
-    ensures { result ≡ list_answer r }
-{
-    match r {
-        ListReply::Listed(k, g) => (k as u64) * 65536 + (g as u64) * 256,
-        ListReply::Refused(c) => cause_number(c),
-    }
-}
-
-// How the reply of the call for one state is answered: g in bits 8 to 15.
-fn one_number(r: OneReply) -> u64
-    requires { OneFits r }
-    ensures { result ≡ one_answer r }
-{
-    match r {
-        OneReply::Written(g) => (g as u64) * 256,
-        OneReply::Refused(c) => cause_number(c),
-    }
-}
-
-// How the reply for a fact's place is answered: the place in bits 16 and 17, g in bits 8 to 15.
-fn place_number(r: PlaceReply) -> u64
-    requires { PlaceFits r }
-    ensures { result ≡ place_answer r }
-{
-    match r {
-        PlaceReply::Placed(p, g) => place_bits(p) + (g as u64) * 256,
-        PlaceReply::Refused(c) => cause_number(c),
-    }
-}
-
-// How the reply for the state closest to a candidate is answered: the number of facts that differ from bit 16 on, g in bits 8 to 15.
-fn near_number(r: NearReply) -> u64
-    requires { NearFits r }
-    ensures { result ≡ near_answer r }
-{
-    match r {
-        NearReply::Written(d, g) => (d as u64) * 65536 + (g as u64) * 256,
-        NearReply::Refused(c) => cause_number(c),
-    }
-}
-
-// How the reply of a count is answered: g in bits 8 to 15, k in bits 16 to 39, the count from bit 40 on.
-fn count_number(r: CountReply) -> u64
-    requires { CountFits r }
-    ensures { result ≡ count_answer r }
-{
-    match r {
-        CountReply::Counted(k, g, c) => {
-            (c as u64) * 1099511627776 + (k as u64) * 65536 + (g as u64) * 256
-        }
-        CountReply::Refused(c) => cause_number(c),
-    }
-}
-
-// How the answer of a call that searches is told.
-fn answer_number(a: Answer) -> u64
-    requires { Fits a }
-    ensures { result ≡ answer_of a }
-{
-    match a {
-        Answer::Listing(r) => list_number(r),
-        Answer::State(r) => one_number(r),
-        Answer::Standing(r) => place_number(r),
-        Answer::Closest(r) => near_number(r),
-        Answer::Counting(r) => count_number(r),
-    }
+    number(test(book, layer, off, candidate), |yes| {
+        if yes { OWN } else { 0 }
+    })
 }
 
 // Writes the listing of a book at a layer, with the layers of a set switched off, into the buffer, or names the first of causes 1 to 9,
@@ -145,7 +58,9 @@ pub fn lesson_list(book: &[u8], layer: u32, off: u32, buffer: &mut [u8]) -> u64
     ensures answer { result ≡ list_answer (list_reply book.now layer off buffer.old) }
     ensures bytes { buffer.new ≡ list_buffer book.now layer off buffer.old }
 {
-    answer_number(ask(book, layer, off, Question::List, buffer))
+    number(list(book, layer, off, buffer), |l| {
+        l.states as u64 * OWN + l.branching as u64 * BRANCHING
+    })
 }
 
 // Writes the first record of the listing of a book at a layer, with the layers of a set switched off, into the buffer's first bytes, or
@@ -154,7 +69,20 @@ pub fn lesson_one(book: &[u8], layer: u32, off: u32, buffer: &mut [u8]) -> u64
     ensures answer { result ≡ one_answer (one_reply book.now layer off buffer.old) }
     ensures bytes { buffer.new ≡ one_buffer book.now layer off buffer.old }
 {
-    answer_number(ask(book, layer, off, Question::One, buffer))
+    number(one(book, layer, off, buffer), |g| {
+        g as u64 * BRANCHING
+    })
+}
+
+// A fact's place, which an answer has in bits 16 and 17.
+fn place_number(place: Place) -> u64
+    ensures { (result * 65536 ≡ place_bits place) × (result ≤ 2) }
+{
+    match place {
+        Place::Every => 2,
+        Place::InSome => 1,
+        Place::Nowhere => 0,
+    }
 }
 
 // Whether a fact stands in every stable state of a book at a layer, with the layers of a set switched off, in some or in none, or the
@@ -162,8 +90,9 @@ pub fn lesson_one(book: &[u8], layer: u32, off: u32, buffer: &mut [u8]) -> u64
 pub fn lesson_place(book: &[u8], layer: u32, off: u32, fact: u32) -> u64
     ensures { result ≡ place_answer (place_reply book.now layer off fact) }
 {
-    let mut none: [u8; 0] = [];
-    answer_number(ask(book, layer, off, Question::Place(fact as usize), &mut none))
+    number(place(book, layer, off, fact), |p| {
+        place_number(p.place) * OWN + p.branching as u64 * BRANCHING
+    })
 }
 
 // Writes the record of the stable state of a book at a layer that differs from a candidate in the fewest facts, with the layers of a set
@@ -173,7 +102,9 @@ pub fn lesson_nearest(book: &[u8], layer: u32, off: u32, candidate: &[u8], buffe
     ensures answer { result ≡ near_answer (near_reply book.now layer off candidate.now buffer.old) }
     ensures bytes { buffer.new ≡ near_buffer book.now layer off candidate.now buffer.old }
 {
-    answer_number(near(book, layer, off, candidate, buffer))
+    number(nearest(book, layer, off, candidate, buffer), |n| {
+        n.distance as u64 * OWN + n.branching as u64 * BRANCHING
+    })
 }
 
 // In how many stable states of a book at a layer, with the layers of a set switched off, a condition holds, or the first of causes 1 to
@@ -181,5 +112,7 @@ pub fn lesson_nearest(book: &[u8], layer: u32, off: u32, candidate: &[u8], buffe
 pub fn lesson_count(book: &[u8], layer: u32, off: u32, condition: &[u8]) -> u64
     ensures { result ≡ count_answer (count_reply book.now layer off condition.now) }
 {
-    answer_number(count(book, layer, off, condition))
+    number(count(book, layer, off, condition), |k| {
+        k.fitting as u64 * FITTING + k.states as u64 * OWN + k.branching as u64 * BRANCHING
+    })
 }
