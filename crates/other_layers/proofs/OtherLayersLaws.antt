@@ -11,10 +11,9 @@ use Rattle.models.specs.StableModels.{stable}
 use Rattle.models.specs.Listing.{interpretation_of}
 use Rattle.models.specs.Alike.{Alike}
 use Rattle.models.proofs.AlikeAtLaws.{alike_at}
-use Rattle.book.specs.Causes.{Test, tests, first_of, verdict}
+use Rattle.std.proofs.Common.{Ok}
+use Rattle.book.specs.Causes.{Test, Verdict, tests, first_of, verdict}
 use Rattle.book.specs.declared.Cause.TheVariants.{BadCandidate}
-use Rattle.book.specs.declared.Verdict.{Verdict}
-use Rattle.book.specs.declared.Verdict.TheVariants.{Accepted}
 use Rattle.accepted.specs.Accepted.{IsAccepted}
 use Rattle.accepted.specs.Driven.{driven_tests, layer_tests}
 use Rattle.accepted.proofs.FirstLaws.{first_append}
@@ -36,7 +35,7 @@ use Rattle.other_layers.specs.OtherLayers.{SameLesson, OtherLayers}
 use Rattle.other_layers.proofs.SameTestsLaws.{list_tests_lem, one_tests_lem, place-tests, near_tests_lem, count-tests, candidate-stable}
 
 -- only a call's own tests are left
-own-tests : (book : List ℕ) (layer off : ℕ) → IsAccepted book → first_of (driven_tests (layer_count book) layer off) ≡ Accepted
+own-tests : (book : List ℕ) (layer off : ℕ) → IsAccepted book → first_of (driven_tests (layer_count book) layer off) ≡ Ok tt
     → (ts : List Test) → first_of (layer_tests book layer off ++ ts) ≡ first_of ts
 unfolding layer_tests verdict
 own-tests book layer off ok driven ts = first_append (layer_tests book layer off) ts (first_append (tests book) (driven_tests (layer_count book) layer off) ok ∙ driven)

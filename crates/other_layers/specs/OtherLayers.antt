@@ -2,14 +2,13 @@
 -- and leave the same bytes, whatever their other layers hold; document 004 has it for weighted graphs as its Proposition 1. What the books
 -- have to agree in is `SameLesson`, with document 02's words beside each field; what then is the same is `SameAnswers`, over the numbers and
 -- the bytes that the contracts of crates/lesson/src/lib.rt promise. proofs/OtherLayersLaws.antt proves `OtherLayers`. Assumes nothing.
-use Rattle.std.specs.Prelude.{◌≡◌, ℕ}
+use Rattle.std.specs.Prelude.{◌≡◌, ℕ, Ok}
 use mathlib.Core.List.{List, Memᴰ}
 use Rattle.layers.specs.Layers.{below}
 use Rattle.format.specs.Book.{Rule, layer_count, book_of}
 use Rattle.models.specs.Program.{in_set, AtOrBelow}
 use Rattle.models.specs.Alike.{HasRule}
 use Rattle.book.specs.Causes.{first_of}
-use Rattle.book.specs.declared.Verdict.TheVariants.{Accepted}
 use Rattle.accepted.specs.Accepted.{IsAccepted}
 use Rattle.accepted.specs.Driven.{driven_tests}
 use Rattle.test_call.specs.Reply.{test_reply}
@@ -29,8 +28,8 @@ module _ (one other : List ℕ) (layer off off' : ℕ) where
     -- "with equal n"
     pub facts_same : (book_of one).atoms ≡ (book_of other).atoms
     -- "neither meeting 9 or 19"
-    pub driven : first_of (driven_tests (layer_count one) layer off) ≡ Accepted
-    pub other_driven : first_of (driven_tests (layer_count other) layer off') ≡ Accepted
+    pub driven : first_of (driven_tests (layer_count one) layer off) ≡ Ok tt
+    pub other_driven : first_of (driven_tests (layer_count other) layer off') ≡ Ok tt
     -- "the same driven layer with the same layers below it"
     pub below_same : (i : ℕ) → below (book_of one).arrows i layer ≡ below (book_of other).arrows i layer
     -- "the same set of layers switched off among those at or below it"

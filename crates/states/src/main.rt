@@ -4,10 +4,11 @@
 
 ghost use Rattle.std.specs.Prelude.{◌≤◌, IfOk, length};
 
-use base::{MAX_ATOMS, wide};
-use book::cause_number;
-use drive::{Answer, Question, ask};
-use list_call::ListReply;
+use base::MAX_ATOMS;
+use book::Cause;
+use drive::list;
+use list_call::Listed;
+use records::HEAD_SIZE;
 use std::io;
 use std::io::{ErrorKind, Read, Write};
 
@@ -15,105 +16,69 @@ use std::io::{ErrorKind, Read, Write};
 const MOST_INPUT: usize = 65536;
 
 // Bytes that are read: one more than a book may have shows that there is more input.
-const INPUT: usize = 65537;
+const INPUT: usize = MOST_INPUT + 1;
 
 // Bytes of the buffer for the listing. A book whose listing is longer is refused 13.
 const ROOM: usize = 65536;
 
-fn print_refused<W: Write>(out: &mut W, number: u64) -> io::Result<()> {
-    writeln!(out, "refused {number}")
-}
-
-fn print_head<W: Write>(out: &mut W, n: u64, k: u64, g: u64) -> io::Result<()> {
-    writeln!(out, "facts {n} models {k} branching {g}")
-}
-
-// Fact f's digit in a record: bit 7 - (f mod 8) of byte f div 8.
-fn digit(record: &[u8], f: usize) -> u8 {
-    let at = f / 8;
-    if at < record.len() {
-        let shift = 7 - f % 8;
-        if (wide(record[at]) >> (shift as u32)) & 1 == 1 {
-            return b'1';
-        }
-    }
-    b'0'
-}
-
 // Bytes of a line: a digit for each fact, and its end.
 const LINE: usize = MAX_ATOMS + 1;
 
-// One line: a digit for each fact from fact 0. No book has more than MAX_ATOMS.
-fn print_state<W: Write>(out: &mut W, record: &[u8], n: usize) -> io::Result<()> {
-    let mut text = [b'\n'; LINE];
-    let mut f = 0;
-    while f < n {
-        if MAX_ATOMS <= f {
-            return Ok(());
-        }
-        text[f] = digit(record, f);
-        f += 1;
-    }
-    let end = f + 1;
-    out.write_all(&text[0..end])
+// Where a book has the number of its layers, and a listing that of its facts.
+const LAYERS_AT: usize = 7;
+
+const FACTS_AT: usize = 5;
+
+fn print_refused<W: Write>(out: &mut W, cause: Cause) -> io::Result<()> {
+    let number = u64::from(cause);
+    writeln!(out, "refused {number}")
 }
 
-// A line for each of the k records behind the listing's head.
-fn print_states<W: Write>(out: &mut W, listing: &[u8], n: usize, k: usize) -> io::Result<()> {
-    let w = n / 8 + (n % 8 + 7) / 8;
-    let mut at: usize = 11;
-    let mut left = k;
-    while 0 < left {
-        if listing.len() < at {
-            return Ok(());
-        }
-        if listing.len() - at < w {
-            return Ok(());
-        }
-        let to = at + w;
-        print_state(out, &listing[at..to], n)?;
-        at = to;
-        left -= 1;
+// A fact's digit in a record: bit 7 - f % 8 of byte f / 8.
+fn digit(record: &[u8], fact: usize) -> u8 {
+    match record.get(fact / 8) {
+        Some(byte) if byte >> (7 - fact % 8) & 1 == 1 => b'1',
+        _ => b'0',
+    }
+}
+
+// One line, written at once: a digit for each fact from fact 0. No book has more than MAX_ATOMS.
+fn print_state<W: Write>(out: &mut W, record: &[u8], facts: usize) -> io::Result<()> {
+    let mut line = [b'\n'; LINE];
+    let end = facts.min(MAX_ATOMS);
+    for fact in 0..end {
+        line[fact] = digit(record, fact);
+    }
+    out.write_all(&line[..=end])
+}
+
+// The head's numbers, and a line for each of the records behind the listing's head.
+fn print_listing<W: Write>(out: &mut W, listed: Listed, listing: &[u8; ROOM]) -> io::Result<()> {
+    let facts = usize::from(u16::from_be_bytes([listing[FACTS_AT], listing[FACTS_AT + 1]]));
+    let states = listed.states;
+    let branching = listed.branching;
+    writeln!(out, "facts {facts} models {states} branching {branching}")?;
+    let size = facts.div_ceil(8).max(1);
+    for record in listing[HEAD_SIZE..].chunks_exact(size).take(states) {
+        print_state(out, record, facts)?;
     }
     Ok(())
 }
 
 // The last layer, L - 1. A book with no layer, or with too few bytes to say, is refused whatever layer is driven.
 fn last_layer(book: &[u8]) -> u32 {
-    if book.len() < 8 {
-        return 0;
-    }
-    let layers = wide(book[7]);
-    if layers == 0 {
-        return 0;
-    }
-    (layers - 1) as u32
-}
-
-fn print_listing<W: Write>(out: &mut W, reply: ListReply, listing: &[u8]) -> io::Result<()> {
-    match reply {
-        ListReply::Refused(c) => print_refused(out, cause_number(c)),
-        ListReply::Listed(k, g) => {
-            if listing.len() < 11 {
-                return Ok(());
-            }
-            let n = wide(listing[5]) * 256 + wide(listing[6]);
-            print_head(out, n as u64, k as u64, g as u64)?;
-            print_states(out, listing, n, k)
-        }
+    match book.get(LAYERS_AT) {
+        Some(layers) => u32::from(layers.saturating_sub(1)),
+        None => 0,
     }
 }
 
-// A listing is asked for, so that no other answer comes. Nothing is switched off.
+// Nothing is switched off.
 fn show<W: Write>(out: &mut W, book: &[u8]) -> io::Result<()> {
     let mut buffer: [u8; ROOM] = [0; ROOM];
-    let answer = ask(book, last_layer(book), 0, Question::List, &mut buffer);
-    match answer {
-        Answer::Listing(reply) => print_listing(out, reply, &buffer),
-        Answer::State(_) => Ok(()),
-        Answer::Standing(_) => Ok(()),
-        Answer::Closest(_) => Ok(()),
-        Answer::Counting(_) => Ok(()),
+    match list(book, last_layer(book), 0, &mut buffer) {
+        Ok(listed) => print_listing(out, listed, &buffer),
+        Err(cause) => print_refused(out, cause),
     }
 }
 
@@ -145,7 +110,7 @@ fn main(rt: HostRuntime) -> io::Result<()> {
     let len = read_input(&mut rt.reader(), &mut input)?;
     let mut out = io::writer(&rt);
     if MOST_INPUT < len {
-        return print_refused(&mut out, 3);
+        return print_refused(&mut out, Cause::WrongLength);
     }
     show(&mut out, &input[0..len])
 }
