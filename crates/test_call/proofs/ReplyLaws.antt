@@ -16,7 +16,7 @@ use Rattle.models.proofs.LeastLaws.{stable_sound, stable_complete}
 use Rattle.models.proofs.AlikeLaws.{alike-stable, alike-formed}
 use Rattle.models.proofs.ConstraintLaws.{constrained-filter}
 use Rattle.base.specs.Lists.{all, any}
-use Rattle.table.specs.Rows.{row_size}
+use Rattle.table.specs.declared.Row.{Row}
 use Rattle.table.specs.Table.{program_of, TableMade}
 use Rattle.table.specs.Tabled.{tabled}
 use Rattle.table.proofs.TabledLaws.{tabled-free, lent_alike}
@@ -35,36 +35,19 @@ use Rattle.candidate.proofs.CandidateLaws.{read_length}
 use Rattle.test_call.specs.Reply.{test_tests, reply_of, test_reply, NoCause, YesExactly, NoExactly}
 use Rattle.std.proofs.Common.{Result, Ok, Err}
 
--- the first n places of what was read, as the code lends them
-module _ (n : ℕ) (s : List ℕ) (m : List Bool) (e : take n m ≡ interpretation_of n s) where
-  pub lent_state : take (n - 0) m ≡ interpretation_of n s
-  lent_state = ap (λ (k : ℕ). take k m) {x = n - 0} {y = n} (omega arith) ∙ e
-
-  pub lent_size : length (take (n - 0) m) ≡ n
-  lent_size = ap (length {A = Bool}) lent_state ∙ read_length n s
-
--- the constraints, as the code lends them
-module _ {bodies : List (List Literal)} {book bans : List ℕ} {count : ℕ} (w : BansMade bodies book bans count) where
-  pub lent_fit : BansFit book (take (count - 0) bans)
-  lent_fit = subst (λ (k : ℕ). BansFit book (take k bans)) {x = count} {y = count - 0} (omega arith) w.fits
-
-  pub lent_bodies : (m : Interpretation) (r : Bool) → r ≡ any (all (holds m)) (bodies_of book (take (count - 0) bans)) → r ≡ any (all (holds m)) bodies
-  lent_bodies m r e =
-      e ∙ ap (λ (bs : List (List Literal)). any (all (holds m)) bs) (ap (λ (k : ℕ). bodies_of book (take k bans)) {x = count - 0} {y = count} (omega arith) ∙ w.bodies_are)
-
 -- the rules of the lent table are well formed
-pub lent_formed : {P : Program} {book rows : List ℕ} {count : ℕ} → TableMade P book rows count → {n : ℕ} → n ≡ P.atoms → WellFormed P → WellFormed (tabled book (take (row_size * count - 0) rows) n)
+pub lent_formed : {P : Program} {book : List ℕ} {rows : List Row} {count : ℕ} → TableMade P book rows count → {n : ℕ} → n ≡ P.atoms → WellFormed P → WellFormed (tabled book (take count rows) n)
 unfolding constrained
 lent_formed {P} {book} {rows} {count} made {n} e w =
-    let f : WellFormed (constrained (tabled book (take (row_size * count - 0) rows) n) P.constraints) = alike-formed (lent_alike made e P.constraints refl) w in
+    let f : WellFormed (constrained (tabled book (take count rows) n) P.constraints) = alike-formed (lent_alike made e P.constraints refl) w in
     record { heads = f.heads; bodies = f.bodies }
 
 -- a state that a constraint forbids is not stable
 pub forbidden_over : (P : Program) (n : ℕ) (s : List ℕ) (m : List Bool) → take n m ≡ interpretation_of n s → (f : Bool)
-    → f ≡ any (all (holds (take (n - 0) m))) P.constraints → f ≡ true → false ≡ stable P (interpretation_of n s)
+    → f ≡ any (all (holds (take n m))) P.constraints → f ≡ true → false ≡ stable P (interpretation_of n s)
 unfolding stable forbidden
 forbidden_over P n s m q f ef t =
-    let z : any (all (holds (interpretation_of n s))) P.constraints ≡ true = ap (λ (o : Interpretation). any (all (holds o)) P.constraints) (sym (lent_state n s m q)) ∙ sym ef ∙ t in
+    let z : any (all (holds (interpretation_of n s))) P.constraints ≡ true = ap (λ (o : Interpretation). any (all (holds o)) P.constraints) (sym q) ∙ sym ef ∙ t in
     rw z (sym (and_false (settled P (interpretation_of n s))))
   where
     and_false : (c : Bool) → (c && false) ≡ false
@@ -72,15 +55,15 @@ forbidden_over P n s m q f ef t =
     and_false false = refl
 
 -- the test of the lent table is that of the driven layer's program, where no constraint forbids the state
-pub stable_over : {P : Program} {book rows : List ℕ} {count : ℕ} → TableMade P book rows count → {n : ℕ} → n ≡ P.atoms
-    → (s : List ℕ) (m : List Bool) → take n m ≡ interpretation_of n s → (f : Bool) → f ≡ any (all (holds (take (n - 0) m))) P.constraints → f ≡ false → (r : Bool)
-    → r ≡ stable (tabled book (take (row_size * count - 0) rows) n) (take (n - 0) m) → r ≡ stable P (interpretation_of n s)
+pub stable_over : {P : Program} {book : List ℕ} {rows : List Row} {count : ℕ} → TableMade P book rows count → {n : ℕ} → n ≡ P.atoms
+    → (s : List ℕ) (m : List Bool) → take n m ≡ interpretation_of n s → (f : Bool) → f ≡ any (all (holds (take n m))) P.constraints → f ≡ false → (r : Bool)
+    → r ≡ stable (tabled book (take count rows) n) (take n m) → r ≡ stable P (interpretation_of n s)
 stable_over {P} {book} {rows} {count} made {n} e s m q f ef z r t =
-    let Q : Program = tabled book (take (row_size * count - 0) rows) n in
-    let o : Interpretation = take (n - 0) m in
+    let Q : Program = tabled book (take count rows) n in
+    let o : Interpretation = take n m in
     let split : stable P o ≡ (stable Q o && not (any (all (holds o)) P.constraints)) =
-    alike-stable (lent_alike made e P.constraints refl) o (lent_size n s m q ∙ e) ∙ constrained-filter Q P.constraints (tabled-free book (take (row_size * count - 0) rows) n) o in
-    t ∙ sym (split ∙ ap (λ (c : Bool). stable Q o && not c) (sym ef ∙ z) ∙ and_true (stable Q o)) ∙ ap (λ (o : Interpretation). stable P o) (lent_state n s m q)
+    alike-stable (lent_alike made e P.constraints refl) o (ap (length {A = Bool}) q ∙ read_length n s ∙ e) ∙ constrained-filter Q P.constraints (tabled-free book (take count rows) n) o in
+    t ∙ sym (split ∙ ap (λ (c : Bool). stable Q o && not c) (sym ef ∙ z) ∙ and_true (stable Q o)) ∙ ap (λ (o : Interpretation). stable P o) q
   where
     and_true : (c : Bool) → (c && true) ≡ c
     and_true true = refl

@@ -16,20 +16,17 @@ use bans::banned;
 use base::MAX_RULES;
 use book::Cause;
 use candidate::{bad_candidate, read_candidate};
-use filling::HINTS;
-use table::ROW_SIZE;
+use filling::Hints;
+use table::{NO_ROW, NO_SPAN, Table};
 use tester::is_stable;
-
-// The numbers of the rows of all rules.
-const ROWS: usize = ROW_SIZE * MAX_RULES;
 
 // Whether the body of a constraint that counts at the layer holds in a state.
 fn forbids(driving: &Driving, m: &[bool]) -> bool
     ensures { result ≡ any (all (holds m.now)) (driven_program driving.now).constraints }
 {
-    let mut bans: [u32; MAX_RULES] = [0; MAX_RULES];
+    let mut bans = [NO_SPAN; MAX_RULES];
     let count = driving.prepare_bans(&mut bans);
-    banned(driving.book, &bans[0..count], m)
+    banned(driving.book, &bans[..count], m)
 }
 
 // Whether a candidate's state is stable, once no cause applies: no constraint forbids it, and the rules settle it. Their table is made
@@ -40,19 +37,16 @@ fn candidate_stable(driving: &Driving, candidate: &[u8]) -> bool
 {
     let n = driving.atom_count();
     let m = read_candidate(candidate, n);
-    if forbids(driving, &m[0..n]) {
+    if forbids(driving, &m[..n]) {
         return false;
     }
-    let mut rows: [u16; ROWS] = [0; ROWS];
+    let mut rows = [NO_ROW; MAX_RULES];
     let count = driving.prepare(&mut rows);
-    let mut hints: [u16; HINTS] = [0; HINTS];
-    is_stable(
-        driving.book,
-        &rows[0..ROW_SIZE * count],
-        &m[0..n],
-        n,
-        &mut hints,
-    )
+    let table = Table {
+        book: driving.book,
+        rows: &rows[..count],
+    };
+    is_stable(table, &m[..n], n, &mut Hints::new())
 }
 
 // Whether a candidate is stable.

@@ -9,7 +9,7 @@ use Rattle.accepted.specs.Driving.{driven_program}
 use Rattle.accepted.proofs.RecordFacts.{accepted-formed, program_atoms}
 use Rattle.candidate.specs.Candidate.{is_bad_candidate}
 use Rattle.candidate.proofs.CandidateLaws.{ok_length}
-use Rattle.test_call.proofs.ReplyLaws.{lent_size, lent_formed, forbidden_over, stable_over}
+use Rattle.test_call.proofs.ReplyLaws.{lent_formed, forbidden_over, stable_over}
 use Rattle.test_call.proofs.candidate_stable.Goals as goal
 
 pub read_candidate-m-requires-clause-candidate_len : goal.read_candidate-m-requires-clause-candidate_len

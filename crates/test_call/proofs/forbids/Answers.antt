@@ -1,11 +1,11 @@
--- The numbers made are those of the layer's constraints.
-use Rattle.test_call.proofs.ReplyLaws.{lent_fit, lent_bodies}
+-- The bodies found are those of the layer's constraints.
+use mathlib.Core.Path.{ap, ◌∙◌}
+use mathlib.Core.List.{List}
+use Rattle.base.specs.Lists.{all, any}
+use Rattle.format.specs.Book.{Literal}
+use Rattle.models.specs.StableModels.{holds}
 use Rattle.test_call.proofs.forbids.Goals as goal
-
-pub banned-requires : goal.banned-requires
-banned-requires c =
-    lent_fit c.prepare_bans-count.ensures
 
 pub returns : goal.returns
 returns c =
-    lent_bodies c.prepare_bans-count.ensures c.args.m.now c.banned.result c.banned.ensures
+    c.banned.ensures ∙ ap (λ (bs : List (List Literal)). any (all (holds c.args.m.now)) bs) c.prepare_bans-count.ensures.bodies_are
