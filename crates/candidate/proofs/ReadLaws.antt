@@ -1,27 +1,23 @@
 -- A candidate is read fact by fact, and its spare bits one after the other. Used by `bit_at`, `bad_candidate` and `read_candidate`.
 -- Assumes nothing.
-use mathlib.Core.Path.{◌≡◌, refl, sym, subst, ◌∙◌}
-use mathlib.Core.Bool.{Bool, true, false, ◌&&◌}
-use mathlib.Core.List.{List, []}
-use Prim.Native.Nat.{ℕ, ◌+◌, ◌*◌, ◌-◌, ◌/◌, ◌%◌, ◌^◌, ◌<◌, ◌≤◌}
+use mathlib.Core.Path.{◌≡◌, refl, sym, ap, ap₂, subst, ◌∙◌}
+use mathlib.Core.Bool.{Bool, true, false, ◌&&◌, ◌||◌}
+use mathlib.Core.List.{List, [], ◌∷◌, ◌++◌}
+use Prim.Native.Nat.{ℕ, zero, suc, ◌+◌, ◌*◌, ◌-◌, ◌<◌, ◌≤◌}
 use native.Mathlib.Numerals.{add-one}
 use native.Mathlib.Omega.{arith}
-use borrow.Author.Tests.{eq-eqb, ne_eqb, le-leb, lt-leb}
-use lib.Bits.{bit_and}
+use borrow.Author.Tests.{eq-eqb, le-leb, lt-leb}
 use lib.Dec.{T, eqb, leb}
-use lib.ListN.{length, get_or, set, take}
+use lib.ListN.{length, set, take}
 use lib.Seq.{take-suc-set}
+use Rattle.std.specs.List.{list_any, range_with_len}
+use Rattle.std.proofs.lemmas.List.Folds.{list_any-append}
 use Rattle.base.specs.Lists.{any, up_to}
 use Rattle.base.proofs.Members.{◌∈◌, and_left, any_at}
 use Rattle.base.proofs.MapLaws.{map_snoc}
-use Rattle.base.proofs.UpTo.{failed, up_to_lt, any-more, any_hit, any_end}
-use Rattle.layers.proofs.WarshallLaws.{test_bit}
+use Rattle.base.proofs.UpTo.{failed, up_to_lt}
 use Rattle.models.specs.Listing.{record_size, bit_at, interpretation_of}
 use Rattle.candidate.specs.Candidate.{has_spare_bit, is_bad_candidate}
-
-pub bit_is : (s : List ℕ) (f v i : ℕ) → v ≡ get_or s (f / 8) 0 → i ≡ 7 - f % 8 → eqb (bit_and (v / 2 ^ i) 1) 1 ≡ bit_at s f
-unfolding bit_at
-bit_is s f v i e q = rw (test_bit v i, e, q) refl
 
 -- the test of a spare bit
 unfoldable pub spare : ℕ → List ℕ → ℕ → Bool
@@ -41,36 +37,30 @@ module _ (n : ℕ) (s : List ℕ) where
   unfolding spare
   spare_is f h = rw (le-leb n f h) refl
 
-  pub other_length : (w : ℕ) → w ≡ record_size n → (length s ≡ w → ⊥) → true ≡ is_bad_candidate n s
-  unfolding is_bad_candidate
-  other_length w e h = sym (rw (ne_eqb (length s) (record_size n) (λ q. h (q ∙ sym e))) refl)
+-- the spare bits, as the code goes through them
+range_more : (a n : ℕ) → range_with_len a (suc n) ≡ range_with_len a n ++ ((a + n) ∷ [])
+range_more a zero = ap (λ (k : ℕ). k ∷ []) {x = a} {y = a + 0} (omega arith)
+range_more a (suc n) =
+    ap (λ (t : List ℕ). a ∷ t) (range_more (a + 1) n)
+    ∙ ap (λ (k : ℕ). a ∷ (range_with_len (a + 1) n ++ (k ∷ []))) {x = a + 1 + n} {y = a + suc n} (omega arith)
 
-  module _ (w : ℕ) (ew : w ≡ record_size n) (l : length s ≡ w) where
-    spares_decide : (t : Bool) → t ≡ any (spare n s) (up_to (8 * w)) → t ≡ is_bad_candidate n s
-    unfolding is_bad_candidate has_spare_bit spare
-    spares_decide t e = e ∙ sym (rw (eq-eqb (length s) (record_size n) (l ∙ ew), ← ew) refl)
+spares : (n k : ℕ) (s : List ℕ) → list_any (bit_at s) (range_with_len n k) ≡ any (spare n s) (up_to (n + k))
+unfolding any up_to
+spares n zero s = let e : n + 0 ≡ n = omega arith in rw e (sym (spare_start n s))
+spares n (suc k) s =
+    let e : suc (n + k) ≡ n + suc k = omega arith in
+    ap (list_any (bit_at s)) (range_more n k)
+    ∙ list_any-append (bit_at s) (range_with_len n k) ((n + k) ∷ [])
+    ∙ ap₂ (λ (a b : Bool). a || (b || false)) (spares n k s) (sym (spare_is n s (n + k) (omega arith)))
+    ∙ sym (list_any-append (spare n s) (up_to (n + k)) ((n + k) ∷ []))
+    ∙ ap (λ (m : ℕ). any (spare n s) (up_to m)) e
 
-    module _ (f : ℕ) (h : n ≤ f) (t : Bool) (e : t ≡ bit_at s f) where
-      pub spare_set : f < 8 * w → t ≡ true → true ≡ is_bad_candidate n s
-      spare_set i q = spares_decide true (any_hit (spare n s) f (8 * w) i (spare_is f h ∙ sym e ∙ q))
-
-      pub spare_clear : any (spare n s) (up_to f) ≡ false → t ≡ false → any (spare n s) (up_to (f + 1)) ≡ false
-      spare_clear k q = any-more (spare n s) f k (spare_is f h ∙ sym e ∙ q)
-
-    pub spares_clear : (f : ℕ) → f ≤ 8 * w → 8 * w ≤ f → any (spare n s) (up_to f) ≡ false → false ≡ is_bad_candidate n s
-    spares_clear f h i e = spares_decide false (any_end (spare n s) f (8 * w) h i e)
-
-    -- the facts and the spare bits are in the record
-    pub facts_in : n ≤ 8 * w
-    unfolding record_size
-    facts_in = omega arith
-
-    pub byte_in : (f : ℕ) → f < 8 * w → f / 8 < length s
-    byte_in f h = omega arith
-
-pub fact_in : (n : ℕ) (s : List ℕ) → length s ≡ record_size n → (f : ℕ) → f < n → f / 8 < length s
-unfolding record_size
-fact_in n s e f h = omega arith
+pub spares_decide : (n w : ℕ) (s : List ℕ) → w ≡ record_size n → length s ≡ w → list_any (bit_at s) (range_with_len n (8 * w - n)) ≡ is_bad_candidate n s
+unfolding is_bad_candidate has_spare_bit spare record_size
+spares_decide n w s e l =
+    let t : n + (8 * w - n) ≡ 8 * record_size n = omega (arith, e) in
+    let h : eqb (length s) (record_size n) ≡ true = eq-eqb (length s) (record_size n) (l ∙ e) in
+    rw (h, ← t) (spares n (8 * w - n) s)
 
 -- the state, one fact more
 pub read_start : (s : List ℕ) → [] ≡ interpretation_of 0 s

@@ -9,33 +9,23 @@ ghost use Rattle.candidate.specs.Candidate.{is_bad_candidate};
 use base::MAX_ATOMS;
 use records::record_size;
 
-// The bit of fact f.
+// The bit of fact f; 0 where the bytes have none.
+#[tactic(auto, unfolding(models::specs::Listing::bit_at))]
 fn bit_at(s: &[u8], f: usize) -> bool
-    requires { f / 8 < length s.now }
     ensures { result ≡ bit_at s.now f }
 {
-    let v = s[f / 8];
-    let i = 7 - f % 8;
-    (v >> (i as u32)) & 1 == 1
+    let byte = s.get(f / 8).copied().unwrap_or(0);
+    (byte >> (7 - f % 8)) & 1 == 1
 }
 
 // Cause 10: a candidate of another length, or a spare bit set.
+#[tactic(auto, unfolding(crate::specs::Candidate::is_bad_candidate))]
 pub fn bad_candidate(candidate: &[u8], n: usize) -> bool
     requires { n ≤ max_atoms }
     ensures { result ≡ is_bad_candidate n candidate.now }
 {
     let w = record_size(n);
-    if candidate.len() != w {
-        return true;
-    }
-    let mut f = n;
-    while f < 8 * w {
-        if bit_at(candidate, f) {
-            return true;
-        }
-        f += 1;
-    }
-    false
+    candidate.len() != w || (n..8 * w).any(|f| bit_at(candidate, f))
 }
 
 // The state of n facts that a candidate gives, in the first places.
@@ -45,10 +35,8 @@ pub fn read_candidate(candidate: &[u8], n: usize) -> [bool; MAX_ATOMS]
     ensures { take n result ≡ interpretation_of n candidate.now }
 {
     let mut m = [false; MAX_ATOMS];
-    let mut f = 0;
-    while f < n {
+    for f in 0..n {
         m[f] = bit_at(candidate, f);
-        f += 1;
     }
     m
 }

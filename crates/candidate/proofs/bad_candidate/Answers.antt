@@ -1,28 +1,12 @@
--- The invariant: no spare bit before f is set. The bits left fall.
-use Rattle.candidate.proofs.ReadLaws.{spare_start, other_length, spare_set, spare_clear, spares_clear, facts_in, byte_in}
-use native.Mathlib.Omega.{arith}
+-- Assumes nothing.
+use Rattle.std.proofs.Common.{rules, tests, refl, ◌∙◌, ◌*◌, arith}
+use Rattle.std.proofs.lemmas.Iterator.{YieldsList-from_range}
+use Rattle.std.proofs.lemmas.Iterator.Search.{any_from_yields_List}
+use Rattle.models.specs.Listing.{bit_at}
+use Rattle.candidate.proofs.ReadLaws.{spares_decide}
 use Rattle.candidate.proofs.bad_candidate.Goals as goal
 
-pub returns-then-candidate-w : goal.returns-then-candidate-w
-returns-then-candidate-w c =
-    other_length c.args.n c.args.candidate.now c.record_size-w.result c.record_size-w.ensures.0 c.if-candidate-w.true
-
-pub loop-f-init : goal.loop-f-init
-loop-f-init c =
-    (omega arith, facts_in c.args.n c.args.candidate.now c.record_size-w.result c.record_size-w.ensures.0 c.if-candidate-w.false, spare_start c.args.n c.args.candidate.now)
-
-pub bit_at-requires : goal.bit_at-requires
-bit_at-requires c =
-    byte_in c.args.n c.args.candidate.now c.record_size-w.result c.record_size-w.ensures.0 c.if-candidate-w.false c.loop-f.f c.loop-f-test.true
-
-pub returns-then-bit_at : goal.returns-then-bit_at
-returns-then-bit_at c =
-    spare_set c.args.n c.args.candidate.now c.record_size-w.result c.record_size-w.ensures.0 c.if-candidate-w.false c.loop-f.f c.loop-f.invariant.0 c.bit_at.result c.bit_at.ensures c.loop-f-test.true c.if-bit_at.true
-
-pub loop-f-preserved : goal.loop-f-preserved
-loop-f-preserved c =
-    (omega arith, omega arith, spare_clear c.args.n c.args.candidate.now c.record_size-w.result c.record_size-w.ensures.0 c.if-candidate-w.false c.loop-f.f c.loop-f.invariant.0 c.bit_at.result c.bit_at.ensures c.loop-f.invariant.2 c.if-bit_at.false)
-
-pub returns : goal.returns
-returns c =
-    spares_clear c.args.n c.args.candidate.now c.record_size-w.result c.record_size-w.ensures.0 c.if-candidate-w.false c.loop-f.f c.loop-f.invariant.1 c.loop-f-test.false c.loop-f.invariant.2
+pub returns-else-candidate-w : goal.returns-else-candidate-w
+returns-else-candidate-w c =
+    any_from_yields_List (bit_at c.args.candidate.now) c.any.new.self _ _ c.any.ensures.ran (YieldsList-from_range c.args.n (8 * c.record_size-w.result) _ refl refl) (λ x b q k. search (rules, tests))
+    ∙ spares_decide c.args.n c.record_size-w.result c.args.candidate.now c.record_size-w.ensures.0 (omega arith)
