@@ -1,5 +1,5 @@
 -- Lists: tests over all and some members, filtering, concatenation, the numbers below n. Assumes nothing.
-use Rattle.std.specs.Prelude.{Bool, true, false, ◌&&◌, ◌||◌, List, [], ◌∷◌, ◌++◌, ℕ, zero, suc}
+use Rattle.std.specs.Prelude.{Bool, true, false, List, [], ◌∷◌, ◌++◌, ℕ, zero, suc}
 use Rattle.std.specs.List.{list_all, list_any}
 
 module _ {A : Type 0} where

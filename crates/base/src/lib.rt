@@ -1,7 +1,5 @@
-// The bounds of document 01 as the code uses them (specs/Bounds.antt has the same names), and widening casts.
+// The bounds of document 01 as the code uses them; specs/Bounds.antt has the same names.
 #![tactic(auto)]
-
-ghost use Rattle.std.specs.Prelude.{◌≡◌, ◌<◌};
 
 pub const MAX_ATOMS: usize = 1024;
 
@@ -18,17 +16,3 @@ pub const MAX_RULES: usize = 1024;
 pub const MAX_BODY: usize = 16;
 
 pub const MAX_BRANCHING: usize = 20;
-
-// A byte as a length or an index.
-pub fn wide(x: u8) -> usize
-    ensures { (result ≡ x) × (result < 256) }
-{
-    x as usize
-}
-
-// A table's 16-bit entry as a length or an index.
-pub fn wide16(x: u16) -> usize
-    ensures { (result ≡ x) × (result < 65536) }
-{
-    x as usize
-}

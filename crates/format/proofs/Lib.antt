@@ -1,4 +1,3 @@
 pub mod Offsets
 pub mod SectionLaws
-pub mod LiteralLaws
 pub mod Walks

@@ -1,5 +1,5 @@
--- Records are taken one after the other: what the record at an offset is, and what a walk by offset has passed. Used by
--- whole_records, and in the crates above by every loop over records. Assumes nothing.
+-- Records are taken one after the other: the first and what follows it, and the same at an offset. Used by `whole_records` and `Records`,
+-- and by the crate `table`, which walks by offset. Assumes nothing.
 use mathlib.Core.Path.{◌≡◌, refl, sym, ap, ◌∙◌}
 use mathlib.Core.Bool.{Bool, true, false, ◌&&◌}
 use mathlib.Core.List.{List, [], ◌∷◌}
@@ -7,10 +7,9 @@ use Prim.Native.Nat.{ℕ, zero, suc, ◌+◌, ◌-◌, ◌<◌, ◌≤◌, min}
 use native.Mathlib.Omega.{arith}
 use native.Mathlib.Decide.{dec_lt}
 use borrow.Author.Tests.{le-leb, lt-leb}
-use lib.Dec.{leb, eqb}
+use lib.Dec.{leb}
 use lib.ListN.{length, get_or, take, drop, length-drop, drop_of_length-le}
 use lib.Seq.{drop-cons, drop-drop, take_all}
-use Rattle.base.specs.Lists.{all}
 use Rattle.format.specs.Book.{records_in, records, meets_end_in, meets_end, record_end}
 
 -- more turns than bytes change nothing
@@ -103,57 +102,3 @@ module _ (s : List ℕ) (at : ℕ) (h : at < length s) where
 
   pub records_cut : records (drop at s) ≡ take (record_end s at - (at + 1)) (drop (at + 1) s) ∷ records (drop (record_end s at) s)
   records_cut = records_at ∙ ap (λ (t : List ℕ). t ∷ records (drop (at + 1 + get_or s at 0) s)) first_is ∙ ap (λ (t : List ℕ). take (record_end s at - (at + 1)) (drop (at + 1) s) ∷ records t) rest_is
-
-  pub end_over : at < record_end s at
-  unfolding record_end
-  end_over = omega arith
-
-  pub end_in : record_end s at ≤ length s
-  unfolding record_end
-  end_in = omega arith
-
-  -- a test over all records, one record on: r is the code's answer for the record
-  module _ (p : List ℕ → Bool) (e : ℕ) (q : e ≡ record_end s at) (r : Bool) (is : r ≡ p (take (e - (at + 1)) (drop (at + 1) s))) where
-    all-step : all p (records (drop at s)) ≡ (r && all p (records (drop e s)))
-    unfolding all
-    all-step =
-        ap (all p) records_cut
-        ∙ ap (λ (k : ℕ). p (take (k - (at + 1)) (drop (at + 1) s)) && all p (records (drop k s))) (sym q)
-        ∙ ap (λ (b : Bool). b && all p (records (drop e s))) (sym is)
-
-    pub all_fails : r ≡ false → all p (records (drop at s)) ≡ false
-    all_fails t = all-step ∙ ap (λ (b : Bool). b && all p (records (drop e s))) t
-
-    pub all_more : r ≡ true → all p (records (drop at s)) ≡ all p (records (drop e s))
-    all_more t = all-step ∙ ap (λ (b : Bool). b && all p (records (drop e s))) t
-
-pub all_done : (p : List ℕ → Bool) (s : List ℕ) (at : ℕ) → length s ≤ at → all p (records (drop at s)) ≡ true
-unfolding all
-all_done p s at h = ap (all p) (records_done s at h)
-
--- what the walk by length byte has passed
-pub record Passed (s : List ℕ) (at n : ℕ) : Type 0 where
-  pub inside : at ≤ length s
-  pub few : n ≤ at
-  pub whole : meets_end s ≡ meets_end (drop at s)
-  pub number : length (records s) ≡ n + length (records (drop at s))
-
-pub passed_start : (s : List ℕ) → Passed s 0 0
-passed_start s = record { inside = omega arith; few = omega arith; whole = refl; number = omega arith }
-
-module _ (s : List ℕ) (at n : ℕ) (w : Passed s at n) where
-  pub passed_fails : (len k : ℕ) → len ≡ get_or s at 0 → at < length s → length s - (at + 1) < len → false ≡ (meets_end s && eqb (length (records s)) k)
-  passed_fails len k e h b = sym (rw (w.whole, meets_fails s at h (omega arith)) refl)
-
-  pub passed_more : (len : ℕ) → len ≡ get_or s at 0 → at < length s → len ≤ length s - (at + 1) → Passed s (at + 1 + len) (n + 1)
-  passed_more len e h b = record {
-    inside = omega arith;
-    few = omega (arith, w.few);
-    whole = rw e (w.whole ∙ meets_more s at h (omega arith));
-    number = rw e (w.number ∙ omega (arith, count-more s at h));
-  }
-
-  pub passed_end : (k : ℕ) → length s ≤ at → eqb n k ≡ (meets_end s && eqb (length (records s)) k)
-  passed_end k h =
-      let e : n ≡ length (records s) = omega (arith, w.number, ap (length {A = List ℕ}) (records_done s at h)) in
-      rw (w.whole, meets_done s at h, ← e) refl

@@ -1,10 +1,10 @@
-// The book's bytes: big-endian fields, records by length byte, and whether both sections are whole (cause 4).
+// The book's bytes: big-endian fields, literals, records by length byte, and whether both sections are whole (cause 4).
 // Every count and length is compared with what the walk over the records finds before anything uses it.
 #![tactic(auto)]
 
 ghost use Rattle.std.specs.Prelude.{◌≡◌, ◌&&◌, ◌+◌, ◌*◌, ◌≤◌, ◌<◌, eqb, length};
 ghost use Rattle.std.specs.Iterator.{YieldsFirst, YieldsFirstBy, item_count};
-ghost use Rattle.format.specs.Book.{u16_at, u32_at, records, meets_end, record_end, literal_of, literals_of, is_falsity};
+ghost use Rattle.format.specs.Book.{u16_at, u32_at, records, meets_end, literal_of, literals_of, is_falsity};
 ghost use Rattle.format.specs.Sections.{whole_section, has_broken_section};
 
 // A literal: a fact, or its negation.
@@ -36,7 +36,7 @@ impl Literal {
     }
 }
 
-// The literals of a body's bytes, one after the other.
+// The literals of a body's bytes, one after the other; a byte left over at the end is none.
 #[derive(Clone, Copy)]
 pub struct Literals<'a>(pub &'a [u8]);
 
@@ -95,20 +95,6 @@ pub fn be32(s: &[u8], at: usize) -> usize
     u32::from_be_bytes([s[at], s[at + 1], s[at + 2], s[at + 3]]) as usize
 }
 
-// The two bytes of a literal as a number: its fact, and 32,768 more where it is negated.
-pub fn literal_value(a: u8, b: u8) -> usize
-    ensures { (result ≡ a * 256 + b) × (result < 65536) }
-{
-    usize::from(u16::from_be_bytes([a, b]))
-}
-
-// Whether the literal of two bytes is the plain 32,767, the head of a constraint.
-pub fn is_falsity(a: u8, b: u8) -> bool
-    ensures { result ≡ is_falsity (literal_of a b) }
-{
-    Literal::from_bytes(a, b).is_falsity()
-}
-
 // Whether the records of a section's bytes meet its end, and their number is the count.
 #[tactic(auto, using(crate::proofs::Offsets::meets_next, crate::proofs::Offsets::records_next), unfolding(crate::specs::Book::meets_end, crate::specs::Book::meets_end_in, crate::specs::Book::records, crate::specs::Book::records_in))]
 pub fn whole_records(part: &[u8], count: usize) -> bool
@@ -124,15 +110,6 @@ pub fn whole_records(part: &[u8], count: usize) -> bool
         n += 1;
     }
     n == count
-}
-
-// The end of the record at an offset: where its length byte says, or the end of the bytes.
-#[tactic(auto, unfolding(crate::specs::Book::record_end))]
-pub fn record_end(part: &[u8], at: usize) -> usize
-    requires { at < length part.now }
-    ensures { result ≡ record_end part.now at }
-{
-    (at + 1 + usize::from(part[at])).min(part.len())
 }
 
 // Whether the section at an offset lies inside the book, its records meet its end, and their number is its count.
