@@ -37,6 +37,10 @@ whole s at e =
       count = eqb-true (length (records (section_records s at))) (section_count s at) (and_right (a && b) c e);
     }
 
+-- so the header of an accepted book can be read
+pub whole_book : (s : List ℕ) → IsAccepted s → has_broken_section s ≡ false
+whole_book s e = (accepted_lawful s e).not4
+
 -- both sections are whole, and the second ends the book
 pub record Sections (s : List ℕ) : Type 0 where
   pub arrows : Whole s 8

@@ -20,25 +20,22 @@ use table::{Row, Span, rule_table};
 
 // Whether the set has a layer that a book of so many layers lacks. A book of MAX_LAYERS lacks none: every set is lawful there, and 32 bits
 // are never shifted by 32.
+#[tactic(auto, using(crate::proofs::DrivenLaws::absent_shifted, crate::proofs::DrivenLaws::absent_none))]
 fn has_absent_layer(layers: usize, off: u32) -> bool
     ensures { result ≡ has_absent_layer layers off }
 {
-    if layers < MAX_LAYERS {
-        return off >> (layers as u32) != 0;
-    }
-    false
+    layers < MAX_LAYERS && off >> (layers as u32) != 0
 }
 
 // The first of causes 9 and 19 that applies, or accepted.
+#[tactic(auto, unfolding(crate::specs::Driven::driven_tests, crate::specs::Driven::is_no_such_layer, book::specs::Causes::first_of, book::specs::Causes::verdict_if))]
 fn check_driven(layers: usize, layer: usize, off: u32) -> Result<(), Cause>
     ensures { result ≡ first_of (driven_tests layers layer off) }
 {
-    let past = layers <= layer;
-    let absent = has_absent_layer(layers, off);
-    if past {
+    if layers <= layer {
         return Err(Cause::NoSuchLayer);
     }
-    if absent {
+    if has_absent_layer(layers, off) {
         return Err(Cause::NoSuchLayerOff);
     }
     Ok(())
@@ -61,6 +58,7 @@ impl<'a> Driving<'a> {
     ghost use Rattle.accepted.specs.Driving.{driven_program};
 
     // The number of facts.
+    #[tactic(auto, using(crate::proofs::RangeFacts::whole_book, crate::proofs::RangeFacts::atoms_are))]
     pub fn atom_count(&self) -> usize
         ensures { (result ≡ (book_of self.now.book.now).atoms) × (0 < result) × (result ≤ max_atoms) }
     {
@@ -68,6 +66,7 @@ impl<'a> Driving<'a> {
     }
 
     // Writes the table of the rules that count at the layer, and says how many there are.
+    #[tactic(auto, using(crate::proofs::RangeFacts::whole_book, book::proofs::RangeLaws::header_in))]
     pub fn prepare(&self, rows: &mut [Row]) -> usize
         requires { length rows.old ≡ max_rules }
         ensures { TableMade (driven_program self.now) self.now.book.now rows.new result }
@@ -77,6 +76,7 @@ impl<'a> Driving<'a> {
     }
 
     // Writes where the bodies of the constraints that count at the layer stand, as `prepare` does the rules' rows, and says how many there are.
+    #[tactic(auto, using(crate::proofs::RangeFacts::whole_book, book::proofs::RangeLaws::header_in))]
     pub fn prepare_bans(&self, bans: &mut [Span]) -> usize
         requires { length bans.old ≡ max_rules }
         ensures { BansMade (driven_program self.now).constraints self.now.book.now bans.new result }
@@ -87,6 +87,7 @@ impl<'a> Driving<'a> {
 }
 
 // The layer, ready to be driven, or the first of causes 1 to 9 and 19 that applies: what every call that drives a layer asks first.
+#[tactic(auto, using(crate::proofs::RangeFacts::whole_book, crate::proofs::DrivenLaws::book_refused, crate::proofs::DrivenLaws::book_accepted))]
 pub fn check_layer(book: &[u8], layer: u32, off: u32) -> Result<Driving<'_>, Cause>
     ensures verdict { verdict_of result ≡ first_of (layer_tests book.now layer off) }
     ensures driving { IfOk result (λ d. (d.book.now ≡ book.now) × (d.layer ≡ layer) × (d.off ≡ off)) }

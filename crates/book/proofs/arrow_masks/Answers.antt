@@ -21,8 +21,9 @@ unreachable-requires c =
 pub bit_of-requires : goal.bit_of-requires
 bit_of-requires c =
     let w : Two c.in-Some.rec.now = next_two c.loop-rec.invariant _ _ c.in-Some.ensures.steps in
-    let low = w.later in
-    (search (rules, low), w.earlier)
+    let earlier = w.earlier in
+    let later = w.later in
+    (search (rules, earlier, later), search (rules, earlier, later))
 
 pub returns-then-bit_of-clause-repeated : goal.returns-then-bit_of-clause-repeated
 returns-then-bit_of-clause-repeated c =
@@ -31,8 +32,9 @@ returns-then-bit_of-clause-repeated c =
 pub set_bit-requires : goal.set_bit-requires
 set_bit-requires c =
     let w : Two c.in-Some.rec.now = next_two c.loop-rec.invariant _ _ c.in-Some.ensures.steps in
-    let low = w.later in
-    (search (rules, low), w.earlier)
+    let earlier = w.earlier in
+    let later = w.later in
+    (search (rules, earlier, later), search (rules, earlier, later))
 
 pub loop-rec-preserved : goal.loop-rec-preserved
 loop-rec-preserved c =
