@@ -4,9 +4,8 @@ use mathlib.Core.Path.{◌≡◌, refl, sym, ap, ap₂, subst, ◌∙◌}
 use mathlib.Core.Bool.{Bool, not}
 use mathlib.Core.List.Memᴰ
 use mathlib.Core.List.{List, [], ◌∷◌, ◌++◌, map}
-use Prim.Native.Nat.{ℕ, zero, suc, ◌≤◌, ◌/◌, ◌^◌, ◌<◌}
+use Prim.Native.Nat.{ℕ, zero, suc, ◌≤◌, ◌<◌}
 use native.Mathlib.Omega.{arith}
-use lib.Bits.{bit_and}
 use lib.Dec.{eqb}
 use lib.ListN.{length, get_or, take}
 use lib.Seq.{take-suc, take-length}
@@ -15,7 +14,6 @@ use Rattle.base.specs.Lists.{up_to}
 use Rattle.layers.specs.Masks.{bit_of}
 use Rattle.format.specs.Book.{Rule}
 use Rattle.base.proofs.Members.{◌∈◌}
-use Rattle.layers.proofs.WarshallLaws.{test_bit}
 use Rattle.table.specs.declared.Row.{Row}
 use Rattle.table.specs.declared.TheConstants.{NO_ROW}
 use Rattle.table.specs.Rows.{nth, SpanFits, row_count, head_name, row_layer, row_rule, row_at, alive, rows_of, RowsBounded, RowsFit, SameRules}
@@ -55,16 +53,7 @@ pub rows_listed : (book : List ℕ) (rows : List Row) → rows_of book rows ≡ 
 unfolding rows_of row_at
 rows_listed book rows = ap (map (row_rule book)) (sym (take-length rows)) ∙ first_ones (row_rule book) NO_ROW rows (length rows) (omega arith)
 
--- the bit that the code tests says whether a row is alive: a row's head has one name
-module _ (book : List ℕ) (rows : List Row) (rejects : List ℕ) (j h i : ℕ) (p : h ≡ head_name rows j) (q : i ≡ row_layer rows j) where
-  pub alive-bit : alive rejects (row_at book rows j) ≡ not (eqb (bit_and (get_or rejects h 0 / 2 ^ i) 1) 1)
-  unfolding alive row_at
-  alive-bit =
-      ap (λ (x : ℕ). not (eqb (bit_of (get_or rejects x 0) (row_layer rows j)) 1)) (name_back (head_name rows j) ∙ sym p)
-      ∙ ap (λ (y : ℕ). not (eqb (bit_of (get_or rejects h 0) y) 1)) (sym q)
-      ∙ ap (λ (z : ℕ). not (eqb z 1)) (sym (test_bit (get_or rejects h 0) i))
-
--- the same, as the bit of the layer tells it
+-- the bit of the layer says whether a row is alive: a row's head has one name
 pub alive_told : (book : List ℕ) (rows : List Row) (rejects : List ℕ) (j : ℕ) (t : Bool) → t ≡ eqb (bit_of (get_or rejects (head_name rows j) 0) (row_layer rows j)) 1
     → not t ≡ alive rejects (row_at book rows j)
 unfolding alive row_at

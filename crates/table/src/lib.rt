@@ -67,32 +67,6 @@ pub fn body_holds(m: &[bool], body: &[u8]) -> bool
     Literals(body).all(|l| literal_holds(m, l))
 }
 
-// The name of a row's head.
-pub fn row_head(rows: &[Row], j: usize) -> usize
-    requires rows_bounded { RowsBounded rows.now }
-    requires j_bound { j < row_count rows.now }
-    ensures { (result ≡ head_name rows.now j) × (result < max_names) }
-{
-    rows[j].head as usize
-}
-
-// A row's layer.
-pub fn row_layer(rows: &[Row], j: usize) -> usize
-    requires rows_bounded { RowsBounded rows.now }
-    requires j_bound { j < row_count rows.now }
-    ensures { (result ≡ row_layer rows.now j) × (result < max_layers) }
-{
-    rows[j].layer as usize
-}
-
-// The mask of the layers in which a row overrides rules.
-pub fn row_overridden(rows: &[Row], j: usize) -> u32
-    requires { j < row_count rows.now }
-    ensures { result ≡ overridden rows.now j }
-{
-    rows[j].overridden
-}
-
 // The bytes of a body, as a part of the book that starts in its middle.
 pub fn span_bytes<'a>(book: &'a [u8], span: Span) -> &'a [u8]
     requires { SpanFits book.now span }
@@ -102,34 +76,78 @@ pub fn span_bytes<'a>(book: &'a [u8], span: Span) -> &'a [u8]
     &book[from..from + span.size as usize]
 }
 
-// A row's body, as a part of the book that starts in its middle.
-pub fn row_body<'a>(book: &'a [u8], rows: &[Row], j: usize) -> &'a [u8]
-    requires rows_fit { RowsFit book.now rows.now }
-    requires j_bound { j < row_count rows.now }
-    ensures { result.now ≡ row_body book.now rows.now j }
+// Whether the mask has the layer.
+pub fn has_layer(mask: u32, layer: usize) -> bool
+    requires { layer < max_layers }
+    ensures { result ≡ eqb (bit_of mask layer) 1 }
 {
-    span_bytes(book, rows[j].body)
+    (mask >> (layer as u32)) & 1 == 1
 }
 
-// Whether a row's body holds.
-pub fn row_holds(book: &[u8], rows: &[Row], m: &[bool], j: usize) -> bool
-    requires rows_fit { RowsFit book.now rows.now }
-    requires j_bound { j < row_count rows.now }
-    ensures { result ≡ body_holds m.now (row_at book.now rows.now j) }
-{
-    body_holds(m, row_body(book, rows, j))
+// The rows of a table, with the book that their bodies lie in.
+#[derive(Clone, Copy)]
+pub struct Table<'a> {
+    pub book: &'a [u8],
+    pub rows: &'a [Row],
+    ghost fit: { RowsFit book.now rows.now },
 }
 
-// Whether a row is alive: its layer's bit is not set in the mask at its head's name.
-pub fn row_alive(book: &[u8], rows: &[Row], rejects: &[u32], j: usize) -> bool
-    requires rows_fit { RowsFit book.now rows.now }
-    requires rejects_len { length rejects.now ≡ max_names }
-    requires j_bound { j < row_count rows.now }
-    ensures { result ≡ alive rejects.now (row_at book.now rows.now j) }
-{
-    let h = row_head(rows, j);
-    let layer = row_layer(rows, j);
-    (rejects[h] >> (layer as u32)) & 1 != 1
+impl<'a> Table<'a> {
+    pub fn len(self) -> usize
+        ensures { result ≡ row_count self.entry.rows.now }
+    {
+        self.rows.len()
+    }
+
+    // The name of a row's head.
+    pub fn head(self, j: usize) -> usize
+        requires { j < row_count self.rows.now }
+        ensures { (result ≡ head_name self.entry.rows.now j) × (result < max_names) }
+    {
+        self.rows[j].head as usize
+    }
+
+    // A row's layer.
+    pub fn layer(self, j: usize) -> usize
+        requires { j < row_count self.rows.now }
+        ensures { (result ≡ row_layer self.entry.rows.now j) × (result < max_layers) }
+    {
+        self.rows[j].layer as usize
+    }
+
+    // The mask of the layers in which a row overrides rules.
+    pub fn overridden(self, j: usize) -> u32
+        requires { j < row_count self.rows.now }
+        ensures { result ≡ overridden self.entry.rows.now j }
+    {
+        self.rows[j].overridden
+    }
+
+    // A row's body, as a part of the book that starts in its middle.
+    pub fn body(self, j: usize) -> &'a [u8]
+        requires { j < row_count self.rows.now }
+        ensures { result.now ≡ row_body self.entry.book.now self.entry.rows.now j }
+    {
+        span_bytes(self.book, self.rows[j].body)
+    }
+
+    // Whether a row's body holds.
+    pub fn holds(self, m: &[bool], j: usize) -> bool
+        requires { j < row_count self.rows.now }
+        ensures { result ≡ body_holds m.now (row_at self.entry.book.now self.entry.rows.now j) }
+    {
+        body_holds(m, self.body(j))
+    }
+
+    // Whether a row is alive: its layer's bit is not set in the mask at its head's name.
+    pub fn alive(self, rejects: &[u32], j: usize) -> bool
+        requires rejects_len { length rejects.now ≡ max_names }
+        requires j_bound { j < row_count self.rows.now }
+        ensures { result ≡ alive rejects.now (row_at self.entry.book.now self.entry.rows.now j) }
+    {
+        let row = self.rows[j];
+        !has_layer(rejects[row.head as usize], row.layer as usize)
+    }
 }
 
 // The name of the opposite literal.
@@ -170,14 +188,6 @@ fn literal_named(h: usize) -> Literal
         atom: h - MAX_ATOMS,
         negated: true,
     }
-}
-
-// Whether the mask has the layer.
-pub fn has_layer(mask: u32, layer: usize) -> bool
-    requires { layer < max_layers }
-    ensures { result ≡ eqb (bit_of mask layer) 1 }
-{
-    (mask >> (layer as u32)) & 1 == 1
 }
 
 // What one walk over the rules' records gathers: the row of each rule, or where the body of each constraint stands.
@@ -365,70 +375,4 @@ pub fn rule_table(
     let count = make_rows(book, first, mask, rows);
     overridden_layers(book, &mut rows[..count], lower);
     count
-}
-
-// The rows of a table, with the book that their bodies lie in.
-#[derive(Clone, Copy)]
-pub struct Table<'a> {
-    pub book: &'a [u8],
-    pub rows: &'a [Row],
-    ghost fit: { RowsFit book.now rows.now },
-}
-
-impl<'a> Table<'a> {
-    pub fn len(self) -> usize
-        ensures { result ≡ row_count self.entry.rows.now }
-    {
-        self.rows.len()
-    }
-
-    // The name of a row's head.
-    pub fn head(self, j: usize) -> usize
-        requires { j < row_count self.rows.now }
-        ensures { (result ≡ head_name self.entry.rows.now j) × (result < max_names) }
-    {
-        self.rows[j].head as usize
-    }
-
-    // A row's layer.
-    pub fn layer(self, j: usize) -> usize
-        requires { j < row_count self.rows.now }
-        ensures { (result ≡ row_layer self.entry.rows.now j) × (result < max_layers) }
-    {
-        self.rows[j].layer as usize
-    }
-
-    // The mask of the layers in which a row overrides rules.
-    pub fn overridden(self, j: usize) -> u32
-        requires { j < row_count self.rows.now }
-        ensures { result ≡ overridden self.entry.rows.now j }
-    {
-        self.rows[j].overridden
-    }
-
-    // A row's body, as a part of the book that starts in its middle.
-    pub fn body(self, j: usize) -> &'a [u8]
-        requires { j < row_count self.rows.now }
-        ensures { result.now ≡ row_body self.entry.book.now self.entry.rows.now j }
-    {
-        span_bytes(self.book, self.rows[j].body)
-    }
-
-    // Whether a row's body holds.
-    pub fn holds(self, m: &[bool], j: usize) -> bool
-        requires { j < row_count self.rows.now }
-        ensures { result ≡ body_holds m.now (row_at self.entry.book.now self.entry.rows.now j) }
-    {
-        body_holds(m, self.body(j))
-    }
-
-    // Whether a row is alive: its layer's bit is not set in the mask at its head's name.
-    pub fn alive(self, rejects: &[u32], j: usize) -> bool
-        requires rejects_len { length rejects.now ≡ max_names }
-        requires j_bound { j < row_count self.rows.now }
-        ensures { result ≡ alive rejects.now (row_at self.entry.book.now self.entry.rows.now j) }
-    {
-        let row = self.rows[j];
-        !has_layer(rejects[row.head as usize], row.layer as usize)
-    }
 }
