@@ -11,6 +11,7 @@ ghost use Rattle.layers.specs.Masks.{marked, Linked, Way, EmptyFrom};
 use base::MAX_LAYERS;
 
 // Whether bit j of mask i is set.
+#[tactic(auto, using(crate::proofs::WarshallLaws::test_bit), unfolding(crate::specs::Masks::marked))]
 pub fn bit_of(m: &[u32], i: usize, j: usize) -> bool
     requires { (i < length m.now) × (j < max_layers) }
     ensures { result ≡ marked m.now i j }
@@ -19,6 +20,7 @@ pub fn bit_of(m: &[u32], i: usize, j: usize) -> bool
 }
 
 // Sets bit j of mask i.
+#[tactic(auto, using(crate::proofs::BitLaws::with_bit))]
 pub fn set_bit(m: &mut [u32], i: usize, j: usize)
     requires { (i < length m.old) × (j < max_layers) }
     ensures { (x y : ℕ) → marked m.new x y ≡ (marked m.old x y || same_arrow (link i j) (link x y)) }
