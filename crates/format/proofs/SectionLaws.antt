@@ -1,34 +1,16 @@
--- Cause 4: the tests of the code decide whether a section is whole and whether both are, and where they are, which bytes of the book
--- are which records. Used by whole_section and broken_section; the crate `book` reads the sections by `arrow-part` and `rule_part`.
--- Assumes nothing.
-use mathlib.Core.Path.{◌≡◌, refl, sym, ap, ◌∙◌}
-use mathlib.Core.Bool.{Bool, true, false, not, ◌&&◌, ◌||◌, false≢true}
+-- Where cause 4 does not apply: a section that is whole has room for its fields, and which bytes of the book are which records. Used by
+-- broken_section; the crate `book` reads the sections by `arrow-part` and `rule_part`. Assumes nothing.
+use mathlib.Core.Path.{◌≡◌, refl, sym, ap}
+use mathlib.Core.Bool.{Bool, true, false, not, ◌||◌, false≢true}
 use mathlib.Core.List.{List}
-use Prim.Native.Nat.{ℕ, ◌+◌, ◌-◌, ◌<◌, ◌≤◌}
+use Prim.Native.Nat.{ℕ, ◌+◌, ◌-◌, ◌≤◌}
 use native.Mathlib.Omega.{arith}
-use borrow.Author.Tests.{le-leb, lt-leb, leb-true, eqb-true, not-false}
+use borrow.Author.Tests.{leb-true, eqb-true, not-false}
 use lib.Dec.{eqb}
 use lib.ListN.{length, take, drop}
-use Rattle.format.specs.Book.{u16_at, u32_at, records, meets_end, section_bytes, section_count, section_end, section_records, rule_section, arrow_records, rule_records}
+use Rattle.format.specs.Book.{u32_at, records, section_bytes, section_end, section_records, rule_section, arrow_records, rule_records}
 use Rattle.format.specs.Sections.{whole_section, has_broken_section}
 use Rattle.layers.proofs.BitLaws.{and_left}
-
-module _ (s : List ℕ) (at : ℕ) where
-  pub section-short : length s < at + 6 → false ≡ whole_section s at
-  unfolding whole_section section_end
-  section-short h = sym (rw (lt-leb (at + 6 + section_bytes s at) (length s) (omega arith)) refl)
-
-  module _ (b : ℕ) (e : b ≡ u32_at s at) where
-    pub section_over : at + 6 ≤ length s → length s - (at + 6) < b → false ≡ whole_section s at
-    unfolding whole_section section_end section_bytes
-    section_over h i = sym (rw (lt-leb (at + 6 + u32_at s at) (length s) (omega arith)) refl)
-
-    pub section_walk : (k : ℕ) → k ≡ u16_at s (at + 4) → at + 6 ≤ length s → b ≤ length s - (at + 6) → (t : Bool)
-        → t ≡ (meets_end (take (at + 6 + b - (at + 6)) (drop (at + 6) s)) && eqb (length (records (take (at + 6 + b - (at + 6)) (drop (at + 6) s)))) k) → t ≡ whole_section s at
-    unfolding whole_section section_end section_records section_bytes section_count
-    section_walk k f h i t q =
-        let w : at + 6 + b - (at + 6) ≡ u32_at s at = omega arith in
-        q ∙ sym (rw (le-leb (at + 6 + u32_at s at) (length s) (omega arith), ← f, ← w) refl)
 
 -- neither of two tests that fail together passes
 pub or_first : (a b : Bool) → (a || b) ≡ false → a ≡ false
@@ -42,24 +24,6 @@ or_second false b e = e
 pub section_inside : (s : List ℕ) (at : ℕ) → whole_section s at ≡ true → at + 6 + u32_at s at ≤ length s
 unfolding whole_section section_end section_bytes
 section_inside s at e = leb-true (at + 6 + u32_at s at) (length s) (and_left _ _ (and_left _ _ e))
-
-module _ (s : List ℕ) where
-  pub four_first : whole_section s 8 ≡ false → true ≡ has_broken_section s
-  unfolding has_broken_section
-  four_first e = sym (rw e refl)
-
-  module _ (t : whole_section s 8 ≡ true) (b : ℕ) (e : b ≡ u32_at s 8) where
-    second_is : 14 + b ≡ rule_section s
-    unfolding rule_section section_end section_bytes
-    second_is = rw e refl
-
-    pub four_second : whole_section s (14 + b) ≡ false → true ≡ has_broken_section s
-    unfolding has_broken_section
-    four_second f = sym (rw (t, ← second_is, f) refl)
-
-    pub four_end : whole_section s (14 + b) ≡ true → (d : ℕ) → d ≡ u32_at s (14 + b) → not (eqb (14 + b + 6 + d) (length s)) ≡ has_broken_section s
-    unfolding has_broken_section section_end section_bytes
-    four_end f d g = sym (rw (t, ← second_is, f, ← g) refl)
 
 -- what follows where cause 4 does not apply: the fields are there, and the rule section ends the book
 pub record Laid (s : List ℕ) : Type 0 where
