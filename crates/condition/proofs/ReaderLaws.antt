@@ -102,20 +102,10 @@ operands_none o old mid next bytes h q n w u f =
     no_operand (meant o) (go_on (meant o) p.0 (h.back w u f)) n
 
 -- ---- an operand of `&`, by its first byte
-not_only : {x y u : List ℕ} {w : Condition} → x ≡ 33 ∷ y → Took bracket x w u → ((a : Condition) → Took bracket y a u → ⊥) → ⊥
-not_only {u = u} e (not_took {a = a} f h) n = n a (subst (λ (l : List ℕ). Took bracket l a u) (rest-same (sym f ∙ e)) h)
-not_only e (shut_took f h g) n = omega (arith, first_same (sym e ∙ f))
-not_only e (name_took {t = t} {u = u} f d some few m) n = omega (arith, begins t u d some f e)
-
 shut_only : {x y u : List ℕ} {w : Condition} → x ≡ 40 ∷ y → Took bracket x w u → ((a : Condition) (v : List ℕ) → Took (from disjunction nothing) y a v → v ≡ 41 ∷ u → ⊥) → ⊥
 shut_only e (not_took f h) n = omega (arith, first_same (sym e ∙ f))
 shut_only e (shut_took {v = v} {a = a} f h g) n = n a v (subst (λ (l : List ℕ). Took (from disjunction nothing) l a v) (rest-same (sym f ∙ e)) h) g
 shut_only e (name_took {t = t} {u = u} f d some few m) n = omega (arith, begins t u d some f e)
-
-name_only : {x u : List ℕ} {w : Condition} → Stops 33 x → Stops 40 x → Took bracket x w u → ((f : ℕ) → Took bracket x (Atom f) u → ⊥) → ⊥
-name_only a b (not_took {t = t} f h) n = a t f
-name_only a b (shut_took {t = t} f h g) n = b t f
-name_only a b (name_took {f = f} e d some few m) n = n f (name_took e d some few m)
 
 -- behind `!`
 pub negated_read : {old next last new : Reader} → Passed 33 old next → Written bracket next last → new.rest ≡ last.rest → new.code ≡ last.code ++ (code.Not ∷ []) → Written bracket old new
@@ -128,9 +118,6 @@ negated_read {old} {next} {last} {new} p x r e =
       wrote = e ∙ ap (λ (l : List Code). l ++ (code.Not ∷ [])) (x.wrote ∙ ap (λ (l : List Code). l ++ postfix x.tree) p.1) ∙ append_assoc old.code (postfix x.tree) (code.Not ∷ []);
       room = omega (arith, ap length p.0, ap length p.1, x.room, ap length rest, ap length e, length-append last.code (code.Not ∷ []));
     }
-
-pub negated-none : (old next : Reader) → Passed 33 old next → Unread bracket next → Unread bracket old
-negated-none old next p n w u f = not_only p.0 f (λ a d. n a u d)
 
 -- in brackets
 shut_read : {old next last new : Reader} → Passed 40 old next → Written (from disjunction nothing) next last → Passed 41 last new → Written bracket old new
@@ -149,9 +136,6 @@ pub shut_or_none : (old next last new : Reader) (b : Bool) → Passed 40 old nex
 shut_or_none old next last new true p x q = shut_read p x q
 shut_or_none old next last new false p x n = unshut_none old next last new p x n
 
-pub bracket-none : (old next : Reader) → Passed 40 old next → Unread (from disjunction nothing) next → Unread bracket old
-bracket-none old next p n w u f = shut_only p.0 f (λ a v d e. n a v d)
-
 -- a name
 pub name_read : {old new : Reader} (digits : ℕ) {f : ℕ} → NameOf old.rest.now digits f → new.rest.now ≡ take (length old.rest.now - digits) (drop digits old.rest.now) → new.code ≡ old.code ++ (code.Name f ∷ []) → Written bracket old new
 unfolding postfix
@@ -163,9 +147,6 @@ name_read {old} {new} digits {f} h q e =
       wrote = e;
       room = omega (arith, h.some, h.within, ap length r, length-drop digits old.rest.now, ap length e, length-append old.code (code.Name f ∷ []));
     }
-
-pub name-none : (old : Reader) → Stops 33 old.rest.now → Stops 40 old.rest.now → ((f : ℕ) (u : List ℕ) → Took bracket old.rest.now (Atom f) u → ⊥) → Unread bracket old
-name-none old a b h w u f = name_only a b f (λ n d. h n u d)
 
 -- ---- the levels below an operator's operand
 abbrev pub levels : Operator → ℕ
