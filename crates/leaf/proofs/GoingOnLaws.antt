@@ -3,12 +3,13 @@
 -- reaches_denied, join, model_from and model_at. Assumes nothing.
 use mathlib.Core.Path.{◌≡◌, refl, sym, ap, subst, ◌∙◌}
 use mathlib.Core.Logic.{◌⊎◌, inl, inr, ⊎_elim}
-use mathlib.Core.Bool.{Bool, true, false, ◌&&◌, ◌||◌}
-use mathlib.Core.List.{List}
+use mathlib.Core.Bool.{Bool, true, false, not, ◌&&◌, ◌||◌}
+use mathlib.Core.List.{List, Memᴰ}
 use Prim.Native.Nat.{ℕ, ◌+◌, ◌<◌, ◌≤◌}
 use native.Mathlib.Decide.{ℕ_discrete}
 use native.Mathlib.Numerals.{add-one}
 use native.Mathlib.Omega.{arith}
+use borrow.Author.Tests.{not-true}
 use lib.Dec.{T}
 use lib.ListN.{length, get_or, set, drop, drop_of_length-le}
 use lib.Seq.{drop-cons, get_or-set_same, get_or-set_other}
@@ -18,40 +19,56 @@ use Rattle.models.specs.StableModels.{Interpretation, atom_holds, positive, nega
 use Rattle.filling.specs.Marks.{literal_marked, FollowsFrom, from_start, Apart, Conflict, FilledOn, Fills}
 use Rattle.filling.proofs.GrowingLaws.{SoundMarks}
 use Rattle.filling.proofs.FillingLaws.{filled_on}
+use Rattle.insertion.proofs.SortedLaws.{get_d_member}
 use Rattle.leaf.proofs.UncontestedLaws.{follows_wider}
-use Rattle.leaf.specs.Searchable.{Searchable, Denied, Undisputed, reaches_denied, Joined, Begun}
+use Rattle.leaf.specs.Searchable.{Searchable, Denied, Undisputed, Covered, denies_any, reaches_denied, Joined, Begun}
 use Rattle.leaf.proofs.ModelLaws.{setting_start, covered_start, covered_more}
 
--- ---- whether a denied fact is reached
+-- ---- whether a denied fact passes a test
 and-off : (a b : Bool) → b ≡ false → (a && b) ≡ false
 and-off true b e = e
 and-off false b e = refl
 
-module _ (atoms : List ℕ) (start p : List Bool) where
+module _ (atoms : List ℕ) (start : List Bool) (p : ℕ → Bool) where
   -- the atoms from i on decide
-  abbrev pub ReachedFrom : ℕ → Type 0
-  ReachedFrom i = reaches_denied atoms start p ≡ reaches_denied (drop i atoms) start p
+  abbrev pub DenyFrom : ℕ → Type 0
+  DenyFrom i = denies_any atoms start p ≡ denies_any (drop i atoms) start p
 
-  module _ {i : ℕ} (h : i < length atoms) (f : ℕ) (e : f ≡ get_or atoms i 0) where
-    opened : reaches_denied (drop i atoms) start p ≡ ((atom_holds start f && atom_holds p f) || reaches_denied (drop (i + 1) atoms) start p)
-    unfolding reaches_denied any
-    opened = rw (add-one i, drop-cons atoms i 0 h, ← e) refl
+  module _ {i : ℕ} (h : i < length atoms) where
+    abbrev f : ℕ
+    f = get_or atoms i 0
 
-    pub reached_met : ReachedFrom i → (a b : Bool) → a ≡ atom_holds start f → b ≡ atom_holds p f → a ≡ true → b ≡ true → true ≡ reaches_denied atoms start p
-    reached_met w a b ea eb ta tb = sym (w ∙ opened ∙ rw (← ea, ← eb, ta, tb) refl)
+    opened : denies_any (drop i atoms) start p ≡ ((atom_holds start f && p f) || denies_any (drop (i + 1) atoms) start p)
+    unfolding denies_any any
+    opened = rw (add-one i, drop-cons atoms i 0 h) refl
 
-    reached_more : ReachedFrom i → (atom_holds start f && atom_holds p f) ≡ false → ReachedFrom (i + 1)
-    reached_more w q = w ∙ opened ∙ ap (λ (c : Bool). c || reaches_denied (drop (i + 1) atoms) start p) q
+    pub deny_met : DenyFrom i → (a b : Bool) → a ≡ atom_holds start f → b ≡ p f → a ≡ true → b ≡ true → true ≡ denies_any atoms start p
+    deny_met w a b ea eb ta tb = sym (w ∙ opened ∙ rw (← ea, ← eb, ta, tb) refl)
 
-    pub reached_other : ReachedFrom i → (a : Bool) → a ≡ atom_holds start f → a ≡ false → ReachedFrom (i + 1)
-    reached_other w a ea n = reached_more w (ap (λ (c : Bool). c && atom_holds p f) (sym ea ∙ n))
+    deny_more : DenyFrom i → (atom_holds start f && p f) ≡ false → DenyFrom (i + 1)
+    deny_more w q = w ∙ opened ∙ ap (λ (c : Bool). c || denies_any (drop (i + 1) atoms) start p) q
 
-    pub reached_not : ReachedFrom i → (b : Bool) → b ≡ atom_holds p f → b ≡ false → ReachedFrom (i + 1)
-    reached_not w b eb n = reached_more w (and-off (atom_holds start f) (atom_holds p f) (sym eb ∙ n))
+    pub deny_other : DenyFrom i → (a : Bool) → a ≡ atom_holds start f → a ≡ false → DenyFrom (i + 1)
+    deny_other w a ea n = deny_more w (ap (λ (c : Bool). c && p f) (sym ea ∙ n))
 
-  pub reached_end : (i : ℕ) → length atoms ≤ i → ReachedFrom i → false ≡ reaches_denied atoms start p
-  unfolding reaches_denied any
-  reached_end i h w = sym (w ∙ ap (λ (l : List ℕ). reaches_denied l start p) (drop_of_length-le atoms {i = i} h))
+    pub deny_not : DenyFrom i → (b : Bool) → b ≡ p f → b ≡ false → DenyFrom (i + 1)
+    deny_not w b eb n = deny_more w (and-off (atom_holds start f) (p f) (sym eb ∙ n))
+
+  pub deny_end : (i : ℕ) → length atoms ≤ i → DenyFrom i → false ≡ denies_any atoms start p
+  unfolding denies_any any
+  deny_end i h w = sym (w ∙ ap (λ (l : List ℕ). denies_any l start p) (drop_of_length-le atoms {i = i} h))
+
+-- all of them are marked, where none is not
+pub covered_none : (atoms : List ℕ) (start q : List Bool) (r : Bool) → r ≡ denies_any atoms start (λ f. not (atom_holds q f)) → not r ≡ true → Covered atoms start q (length atoms)
+unfolding denies_any
+covered_none atoms start q r e n i h t = go (get_or atoms i 0) (get_d_member atoms i 0 h) t (atom_holds q (get_or atoms i 0)) refl
+  where
+    go : (f : ℕ) → Memᴰ f atoms → T (atom_holds start f) → (b : Bool) → atom_holds q f ≡ b → T (atom_holds q f)
+    go f k s true eb = subst T (sym eb) tt
+    go f k s false eb =
+        let u : T (any (λ f. atom_holds start f && not (atom_holds q f)) atoms) =
+        any_of (λ f. atom_holds start f && not (atom_holds q f)) k (and_both (atom_holds start f) (not (atom_holds q f)) s (subst (λ (x : Bool). T (not x)) (sym eb) tt)) in
+        absurd (subst T (sym e ∙ not-true r n) u)
 
 -- ---- the marks joined with the start
 module _ (atoms : List ℕ) (start q : List Bool) where

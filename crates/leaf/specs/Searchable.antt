@@ -49,6 +49,14 @@ pub record Undisputed (rejects : List ℕ) (start assumed : List Bool) : Type 0 
 abbrev pub Covered : List ℕ → List Bool → List Bool → ℕ → Type 0
 Covered atoms start q n = (i : ℕ) → i < n → T (atom_holds start (get_or atoms i 0)) → T (atom_holds q (get_or atoms i 0))
 
+-- a test computes p: whatever it may answer of an atom is p of it
+abbrev pub Computes : (ℕ → Bool → Type 0) → (ℕ → Bool) → Type 0
+Computes answers p = (f : ℕ) (r : Bool) → answers f r → r ≡ p f
+
+-- one of these atoms is of the start and passes a test
+unfoldable pub denies_any : List ℕ → List Bool → (ℕ → Bool) → Bool
+denies_any atoms start p = any (λ f. atom_holds start f && p f) atoms
+
 -- one of these atoms is of the start and reached
 unfoldable pub reaches_denied : List ℕ → List Bool → List Bool → Bool
 reaches_denied atoms start p = any (λ f. atom_holds start f && atom_holds p f) atoms

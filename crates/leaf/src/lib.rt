@@ -2,9 +2,9 @@
 // only state that can be stable there.
 #![tactic(auto)]
 
-ghost use Rattle.std.specs.Prelude.{◌≡◌, true, false, [], ◌<◌, eqb, length};
+ghost use Rattle.std.specs.Prelude.{◌≡◌, true, false, [], ℕ, Bool, ◌<◌, eqb, length};
 ghost use Rattle.filling.specs.Marks.{hint_size};
-ghost use Rattle.base.specs.Bounds.{max_names, max_branching};
+ghost use Rattle.base.specs.Bounds.{max_atoms, max_names, max_branching};
 ghost use Rattle.base.specs.Lists.{cons_if};
 ghost use Rattle.layers.specs.Masks.{bit_of};
 ghost use Rattle.table.specs.Names.{literal_named};
@@ -13,116 +13,98 @@ ghost use Rattle.table.specs.Tabled.{tabled};
 ghost use Rattle.tester.specs.Masks.{RejectedMasks};
 ghost use Rattle.setting.specs.Setting.{setting_of};
 ghost use Rattle.leaf.specs.Found.{agree_on, at_setting};
-ghost use Rattle.leaf.specs.Searchable.{Searchable, Choices, denied_of, Undisputed, Covered, reaches_denied, Joined, Begun, Early, OnlyState};
+ghost use Rattle.leaf.specs.Searchable.{Searchable, Choices, denied_of, Undisputed, Covered, Computes, denies_any, reaches_denied, Joined, Begun, Early, OnlyState};
 ghost use Rattle.leaf.specs.Contested.{Answered, Uncontested};
 
 use base::MAX_ATOMS;
 use filling::{clear_marks, fill, fill_on};
-use setting::atom_at;
 use table::{ROW_SIZE, atom_holds, row_alive, row_head, row_holds};
 use tester::settles;
 
-// Whether the i-th branching fact stands at the setting of a mask.
-fn stands(standing: u32, i: usize) -> bool
-    requires { i < max_branching }
-    ensures { result ≡ eqb (bit_of standing i) 1 }
-{
-    (standing >> (i as u32)) & 1 == 1
+// A setting of the branching facts: of these the i-th stands where bit i of the mask is set.
+#[derive(Clone, Copy)]
+pub struct Setting<'a> {
+    pub atoms: &'a [u32],
+    pub standing: u32,
 }
 
-// Marks, of the facts that the setting denies, those of which no rule is rejected: they are defaults in whatever the filling leads to.
-fn assume(atoms: &[u32], standing: u32, rejects: &[u32], negative: &mut [bool])
-    requires rejects_len { length rejects.now ≡ max_names }
-    requires choices { Choices atoms.now (length negative.old) }
-    ensures { Undisputed rejects.now (denied_of atoms.now standing) negative.new }
-{
-    clear_marks(negative);
-    let mut i = 0;
-    while i < atoms.len() {
-        let f = atom_at(atoms, i);
-        if rejects[f] == 0 {
-            negative[f] = !stands(standing, i);
-        }
-        i += 1;
+impl Setting<'_> {
+    // Whether the i-th branching fact stands.
+    fn stands(self, i: usize) -> bool
+        requires { i < max_branching }
+        ensures { result ≡ eqb (bit_of self.entry.standing i) 1 }
+    {
+        (self.standing >> (i as u32)) & 1 == 1
     }
-}
 
-// Whether all facts that the setting denies are marked.
-fn covers(atoms: &[u32], standing: u32, negative: &[bool]) -> bool
-    requires { Choices atoms.now (length negative.now) }
-    ensures { result ≡ true → Covered atoms.now (denied_of atoms.now standing) negative.now (length atoms.now) }
-{
-    let mut i = 0;
-    while i < atoms.len() {
-        let f = atom_at(atoms, i);
-        if !stands(standing, i) {
-            if !atom_holds(negative, f) {
-                return false;
-            }
-        }
-        i += 1;
-    }
-    true
-}
-
-// Whether a fact that the setting denies is reached.
-fn reaches_denied(atoms: &[u32], standing: u32, positive: &[bool]) -> bool
-    requires { Choices atoms.now (length positive.now) }
-    ensures { result ≡ reaches_denied atoms.now (denied_of atoms.now standing) positive.now }
-{
-    let mut i = 0;
-    while i < atoms.len() {
-        let f = atom_at(atoms, i);
-        if !stands(standing, i) {
-            if atom_holds(positive, f) {
+    // Whether a test says yes of a fact that the setting denies.
+    fn denies_any<F: Fn(usize) -> bool>(self, test: F) -> bool
+        requires choices { Choices self.atoms.now max_atoms }
+        requires callable { F.IsAlwaysCallable test }
+        ensures { (p : ℕ → Bool) → Computes (F.post test) p → result ≡ denies_any self.entry.atoms.now (denied_of self.entry.atoms.now self.entry.standing) p }
+    {
+        for (i, f) in self.atoms.iter().enumerate() {
+            if !self.stands(i) && test(*f as usize) {
                 return true;
             }
         }
-        i += 1;
+        false
     }
-    false
-}
 
-// Marks the facts that the setting denies besides the reached negations.
-fn join(atoms: &[u32], standing: u32, negative: &mut [bool])
-    requires { Choices atoms.now (length negative.old) }
-    ensures { Joined atoms.now (denied_of atoms.now standing) negative.old negative.new (length atoms.now) }
-{
-    let mut i = 0;
-    while i < atoms.len() {
-        let f = atom_at(atoms, i);
-        if !stands(standing, i) {
-            negative[f] = true;
+    // Marks, of the facts that the setting denies, those of which no rule is rejected: they are defaults in whatever the filling leads to.
+    fn assume(self, rejects: &[u32], negative: &mut [bool])
+        requires rejects_len { length rejects.now ≡ max_names }
+        requires choices { Choices self.atoms.now (length negative.old) }
+        ensures { Undisputed rejects.now (denied_of self.entry.atoms.now self.entry.standing) negative.new }
+    {
+        clear_marks(negative);
+        for (i, f) in self.atoms.iter().enumerate() {
+            let f = *f as usize;
+            if rejects[f] == 0 {
+                negative[f] = !self.stands(i);
+            }
         }
-        i += 1;
     }
-}
 
-// Whether a state gives the branching facts as the setting does.
-fn agrees(atoms: &[u32], state: &[bool], standing: u32) -> bool
-    requires { Choices atoms.now (length state.now) }
-    ensures { result ≡ agree_on atoms.now state.now (setting_of atoms.now standing) }
-{
-    let mut i = 0;
-    while i < atoms.len() {
-        let f = atom_at(atoms, i);
-        if atom_holds(state, f) != stands(standing, i) {
-            return false;
+    // Whether all facts that the setting denies are marked.
+    fn covers(self, negative: &[bool]) -> bool
+        requires { Choices self.atoms.now (length negative.now) }
+        ensures { result ≡ true → Covered self.entry.atoms.now (denied_of self.entry.atoms.now self.entry.standing) negative.now (length self.entry.atoms.now) }
+    {
+        !self.denies_any(|f| !atom_holds(negative, f))
+    }
+
+    // Whether a fact that the setting denies is reached.
+    fn reaches_denied(self, positive: &[bool]) -> bool
+        requires { Choices self.atoms.now (length positive.now) }
+        ensures { result ≡ reaches_denied self.entry.atoms.now (denied_of self.entry.atoms.now self.entry.standing) positive.now }
+    {
+        self.denies_any(|f| atom_holds(positive, f))
+    }
+
+    // Marks the facts that the setting denies besides the reached negations.
+    fn join(self, negative: &mut [bool])
+        requires { Choices self.atoms.now (length negative.old) }
+        ensures { Joined self.entry.atoms.now (denied_of self.entry.atoms.now self.entry.standing) negative.old negative.new (length self.entry.atoms.now) }
+    {
+        for (i, f) in self.atoms.iter().enumerate() {
+            if !self.stands(i) {
+                negative[*f as usize] = true;
+            }
         }
-        i += 1;
     }
-    true
-}
 
-// Keeps the marks of one array in another.
-fn copy_marks(marks: &[bool], kept: &mut [bool])
-    requires { length kept.old ≡ length marks.now }
-    ensures { kept.new ≡ marks.now }
-{
-    let mut f = 0;
-    while f < kept.len() {
-        kept[f] = marks[f];
-        f += 1;
+    // Whether a state gives the branching facts as the setting does.
+    fn agrees(self, state: &[bool]) -> bool
+        requires { Choices self.atoms.now (length state.now) }
+        ensures { result ≡ agree_on self.entry.atoms.now state.now (setting_of self.entry.atoms.now self.entry.standing) }
+    {
+        for (i, f) in self.atoms.iter().enumerate() {
+            if atom_holds(state, *f as usize) != self.stands(i) {
+                return false;
+            }
+        }
+        true
     }
 }
 
@@ -146,114 +128,125 @@ pub fn contested(book: &[u8], rows: &[u16], rejects: &[u32], m: &[bool], negativ
     requires rejects_len { length rejects.now ≡ max_names }
     ensures { result ≡ false → Uncontested book.now rows.now rejects.now m.now negative.now (row_count rows.now) }
 {
-    let count = rows.len() / ROW_SIZE;
-    let mut j = 0;
-    while j < count {
-        if !row_alive(book, rows, rejects, j) {
-            if undecided(m, negative, row_head(rows, j)) {
-                if row_holds(book, rows, m, j) {
-                    return true;
-                }
-            }
+    for j in 0..rows.len() / ROW_SIZE {
+        if !row_alive(book, rows, rejects, j)
+            && undecided(m, negative, row_head(rows, j))
+            && row_holds(book, rows, m, j)
+        {
+            return true;
         }
-        j += 1;
     }
     false
 }
 
-// Whether the only state that can be stable at a setting is. It has to agree with the setting, or it would be found under two settings.
-// Then it needs no further test where no rejected rule is contested. The marks that were reached early are read before they are written.
-fn decide(
-    book: &[u8],
-    rows: &[u16],
-    rejects: &[u32],
-    atoms: &[u32],
-    n: usize,
-    standing: u32,
-    state: &[bool],
-    early: &mut [bool],
-    other: &mut [bool],
-    hints: &mut [u16],
-) -> bool
-    requires searchable { Searchable book.now rows.now atoms.now n }
-    requires only_state { OnlyState book.now rows.now rejects.now atoms.now (setting_of atoms.now standing) state.now early.old }
-    requires state_len { (length state.now ≡ n) × (length early.old ≡ n) × (length other.old ≡ n) × (length hints.old ≡ hint_size) }
-    ensures { at_setting (tabled book.now rows.now n) atoms.now (setting_of atoms.now standing) ≡ cons_if result state.now [] }
-{
-    if !agrees(atoms, state, standing) {
-        return false;
-    }
-    if !contested(book, rows, rejects, state, early) {
-        return true;
-    }
-    settles(book, rows, rejects, state, n, early, other, hints)
+// What the stable model of a setting is worked out from: the table of the rules, the masks of those that the setting rejects, and the
+// setting.
+#[derive(Clone, Copy)]
+pub struct Leaf<'a> {
+    pub book: &'a [u8],
+    pub rows: &'a [u16],
+    pub rejects: &'a [u32],
+    pub setting: Setting<'a>,
 }
 
-// The stable model of a setting, if there is one, from all that the setting denies. What was reached early follows from all of it too,
-// so the filling goes on from there, unless a denied fact is among it and so reached both ways. Where it meets no conflict, the facts
-// that are reached are the only state that can be stable.
-fn model_from(
-    book: &[u8],
-    rows: &[u16],
-    rejects: &[u32],
-    atoms: &[u32],
-    n: usize,
-    standing: u32,
-    positive: &mut [bool],
-    negative: &mut [bool],
-    early: &mut [bool],
-    hints: &mut [u16],
-) -> bool
-    requires searchable { Searchable book.now rows.now atoms.now n }
-    requires rejected_masks { RejectedMasks book.now rows.now (setting_of atoms.now standing) rejects.now (row_count rows.now) }
-    requires begun { Begun book.now rows.now rejects.now (denied_of atoms.now standing) positive.old negative.old }
-    requires early { Early book.now rows.now rejects.now (denied_of atoms.now standing) negative.old }
-    requires positive_len { (length positive.old ≡ n) × (length negative.old ≡ n) × (length early.old ≡ n) × (length hints.old ≡ hint_size) }
-    ensures { at_setting (tabled book.now rows.now n) atoms.now (setting_of atoms.now standing) ≡ cons_if result positive.new [] }
-{
-    if reaches_denied(atoms, standing, positive) {
-        return false;
+impl Leaf<'_> {
+    // Whether the only state that can be stable at the setting is. It has to agree with the setting, or it would be found under two
+    // settings. Then it needs no further test where no rejected rule is contested. The marks that were reached early are read before they
+    // are written.
+    fn decide(
+        self,
+        state: &[bool],
+        early: &mut [bool],
+        other: &mut [bool],
+        hints: &mut [u16],
+    ) -> bool
+        requires searchable { Searchable self.book.now self.rows.now self.setting.atoms.now (length state.now) }
+        requires only_state { OnlyState self.book.now self.rows.now self.rejects.now self.setting.atoms.now (setting_of self.setting.atoms.now self.setting.standing) state.now early.old }
+        requires marks_len { (length early.old ≡ length state.now) × (length other.old ≡ length state.now) × (length hints.old ≡ hint_size) }
+        ensures { at_setting (tabled self.entry.book.now self.entry.rows.now (length state.now)) self.entry.setting.atoms.now (setting_of self.entry.setting.atoms.now self.entry.setting.standing) ≡ cons_if result state.now [] }
+    {
+        if !self.setting.agrees(state) {
+            return false;
+        }
+        if !contested(self.book, self.rows, self.rejects, state, early) {
+            return true;
+        }
+        settles(
+            self.book,
+            self.rows,
+            self.rejects,
+            state,
+            state.len(),
+            early,
+            other,
+            hints,
+        )
     }
-    copy_marks(negative, early);
-    join(atoms, standing, negative);
-    if fill_on(book, rows, rejects, positive, negative, hints) {
-        return false;
-    }
-    decide(
-        book, rows, rejects, atoms, n, standing, positive, early, negative, hints,
-    )
-}
 
-// Whether there is a stable model at the setting of a mask, which then stands in the first of the three lent arrays. Filling starts from
-// the undisputed part of what the setting denies: the negations that are reached early, before anything disputed is assumed. Where they
-// come to be all that the setting denies, it need not go on.
-pub fn model_at(
-    book: &[u8],
-    rows: &[u16],
-    rejects: &[u32],
-    atoms: &[u32],
-    n: usize,
-    standing: u32,
-    positive: &mut [bool],
-    negative: &mut [bool],
-    early: &mut [bool],
-    hints: &mut [u16],
-) -> bool
-    requires searchable { Searchable book.now rows.now atoms.now n }
-    requires rejected_masks { RejectedMasks book.now rows.now (setting_of atoms.now standing) rejects.now (row_count rows.now) }
-    requires positive_len { (length positive.old ≡ n) × (length negative.old ≡ n) × (length early.old ≡ n) × (length hints.old ≡ hint_size) }
-    ensures { at_setting (tabled book.now rows.now n) atoms.now (setting_of atoms.now standing) ≡ cons_if result positive.new [] }
-{
-    assume(atoms, standing, rejects, negative);
-    if fill(book, rows, rejects, positive, negative, hints) {
-        return false;
+    // The stable model of the setting, if there is one, from all that the setting denies. What was reached early follows from all of it
+    // too, so the filling goes on from there, unless a denied fact is among it and so reached both ways. Where it meets no conflict, the
+    // facts that are reached are the only state that can be stable.
+    fn model_from(
+        self,
+        positive: &mut [bool],
+        negative: &mut [bool],
+        early: &mut [bool],
+        hints: &mut [u16],
+    ) -> bool
+        requires searchable { Searchable self.book.now self.rows.now self.setting.atoms.now (length positive.old) }
+        requires rejected_masks { RejectedMasks self.book.now self.rows.now (setting_of self.setting.atoms.now self.setting.standing) self.rejects.now (row_count self.rows.now) }
+        requires begun { Begun self.book.now self.rows.now self.rejects.now (denied_of self.setting.atoms.now self.setting.standing) positive.old negative.old }
+        requires early { Early self.book.now self.rows.now self.rejects.now (denied_of self.setting.atoms.now self.setting.standing) negative.old }
+        requires marks_len { (length negative.old ≡ length positive.old) × (length early.old ≡ length positive.old) × (length hints.old ≡ hint_size) }
+        ensures { at_setting (tabled self.entry.book.now self.entry.rows.now (length positive.old)) self.entry.setting.atoms.now (setting_of self.entry.setting.atoms.now self.entry.setting.standing) ≡ cons_if result positive.new [] }
+    {
+        if self.setting.reaches_denied(positive) {
+            return false;
+        }
+        early.copy_from_slice(negative);
+        self.setting.join(negative);
+        if fill_on(
+            self.book,
+            self.rows,
+            self.rejects,
+            positive,
+            negative,
+            hints,
+        ) {
+            return false;
+        }
+        self.decide(positive, early, negative, hints)
     }
-    if covers(atoms, standing, negative) {
-        return decide(
-            book, rows, rejects, atoms, n, standing, positive, negative, early, hints,
-        );
+
+    // Whether there is a stable model at the setting, which then stands in the first of the three lent arrays. Filling starts from the
+    // undisputed part of what the setting denies: the negations that are reached early, before anything disputed is assumed. Where they
+    // come to be all that the setting denies, it need not go on.
+    pub fn model_at(
+        self,
+        positive: &mut [bool],
+        negative: &mut [bool],
+        early: &mut [bool],
+        hints: &mut [u16],
+    ) -> bool
+        requires searchable { Searchable self.book.now self.rows.now self.setting.atoms.now (length positive.old) }
+        requires rejected_masks { RejectedMasks self.book.now self.rows.now (setting_of self.setting.atoms.now self.setting.standing) self.rejects.now (row_count self.rows.now) }
+        requires marks_len { (length negative.old ≡ length positive.old) × (length early.old ≡ length positive.old) × (length hints.old ≡ hint_size) }
+        ensures { at_setting (tabled self.entry.book.now self.entry.rows.now (length positive.old)) self.entry.setting.atoms.now (setting_of self.entry.setting.atoms.now self.entry.setting.standing) ≡ cons_if result positive.new [] }
+    {
+        self.setting.assume(self.rejects, negative);
+        if fill(
+            self.book,
+            self.rows,
+            self.rejects,
+            positive,
+            negative,
+            hints,
+        ) {
+            return false;
+        }
+        if self.setting.covers(negative) {
+            return self.decide(positive, negative, early, hints);
+        }
+        self.model_from(positive, negative, early, hints)
     }
-    model_from(
-        book, rows, rejects, atoms, n, standing, positive, negative, early, hints,
-    )
 }

@@ -33,18 +33,14 @@ use Rattle.search.specs.Visits.{rising, kept_by, RoomFor, Combines}
 pub room_less : (goal : Goal) (n a b : ℕ) (part : List ℕ) → a ≤ b → RoomFor goal n b part → RoomFor goal n a part
 unfolding RoomFor
 room_less goals.List n a b part h r = let q : a * record_size n ≤ b * record_size n = mul-le-mul_right (record_size n) h in omega (arith, q, r)
-room_less (goals.Count most) n a b part h r = tt
-room_less goals.Settle n a b part h r = tt
 room_less goals.Sums n a b part h r = r
-room_less goals.Fit n a b part h r = tt
+room_less _ n a b part h r = tt
 
 pub room-same : (goal : Goal) (n a : ℕ) (part part' : List ℕ) → length part' ≡ length part → RoomFor goal n a part → RoomFor goal n a part'
 unfolding RoomFor
 room-same goals.List n a part part' e r = omega (arith, e, r)
-room-same (goals.Count most) n a part part' e r = tt
-room-same goals.Settle n a part part' e r = tt
 room-same goals.Sums n a part part' e r = omega (arith, e, r)
-room-same goals.Fit n a part part' e r = tt
+room-same _ n a part part' e r = tt
 
 -- a record's place, and the bytes of as many records as there may be, in numbers that fit
 pub times_fit : (count w : ℕ) → count ≤ 4294967296 → w ≤ max_record → count * w ≤ 4294967296 * max_record
@@ -71,10 +67,8 @@ sums_of n s part l = ap (λ (k : ℕ). added_to k part s) l
 pub kept-none : (goal : Goal) (n count : ℕ) (part : List ℕ) → kept_by goal n count [] part ≡ part
 unfolding kept_by sorted insert_all flat summed
 kept-none goals.List n count part = let z : count + 0 ≡ count = omega arith in rw z (take-append-drop (count * record_size n) part)
-kept-none (goals.Count most) n count part = refl
-kept-none goals.Settle n count part = refl
 kept-none goals.Sums n count part = refl
-kept-none goals.Fit n count part = refl
+kept-none _ n count part = refl
 
 -- ---- one model
 module _ (goal : Goal) (n count : ℕ) (m : Interpretation) (part : List ℕ) where
@@ -85,21 +79,15 @@ module _ (goal : Goal) (n count : ℕ) (m : Interpretation) (part : List ℕ) wh
       let z : (count + 1) * record_size n ≡ count * record_size n + record_size n = omega arith in
       f ∙ rw (e, ew, z, append-nil (record_of n m)) refl
 
-  pub keep_count : (most : ℕ) → goal ≡ goals.Count most → part ≡ kept_by goal n count (m ∷ []) part
-  unfolding kept_by
-  keep_count most e = rw e refl
-
-  pub keep_settle : goal ≡ goals.Settle → part ≡ kept_by goal n count (m ∷ []) part
-  unfolding kept_by
-  keep_settle e = rw e refl
-
   pub keep_sums : goal ≡ goals.Sums → (new : List ℕ) → new ≡ added_to n part m → new ≡ kept_by goal n count (m ∷ []) part
   unfolding kept_by summed
   keep_sums e new f = f ∙ rw e refl
 
-  pub keep_fit : goal ≡ goals.Fit → part ≡ kept_by goal n count (m ∷ []) part
-  unfolding kept_by
-  keep_fit e = rw e refl
+pub keep_others : (goal : Goal) (n count : ℕ) (m : Interpretation) (part : List ℕ) → (goal ≡ goals.List → ⊥) → (goal ≡ goals.Sums → ⊥) → part ≡ kept_by goal n count (m ∷ []) part
+unfolding kept_by
+keep_others goals.List n count m part d e = absurd (d refl)
+keep_others goals.Sums n count m part d e = absurd (e refl)
+keep_others _ n count m part d e = refl
 
 -- ---- two runs of models
 sums_append : (n : ℕ) (xs ys : List Interpretation) (part : List ℕ) → summed n (summed n part xs) ys ≡ summed n part (xs ++ ys)
@@ -107,22 +95,12 @@ unfolding summed
 sums_append n [] ys part = refl
 sums_append n (x ∷ xs) ys part = sums_append n xs ys (added_to n part x)
 
-module _ (goal : Goal) (n from mid end : ℕ) (part : List ℕ) where
-  pub combines_count : (most : ℕ) → goal ≡ goals.Count most → Combines goal n from mid end part part
-  unfolding kept_by
-  combines_count most e old xs ys room em ee f = f ∙ rw e refl
-
-  pub combines_settle : goal ≡ goals.Settle → Combines goal n from mid end part part
-  unfolding kept_by
-  combines_settle e old xs ys room em ee f = f ∙ rw e refl
-
-  pub combines_sums : goal ≡ goals.Sums → Combines goal n from mid end part part
-  unfolding kept_by
-  combines_sums e old xs ys room em ee f = f ∙ rw e (sums_append n xs ys old)
-
-  pub combines_fit : goal ≡ goals.Fit → Combines goal n from mid end part part
-  unfolding kept_by
-  combines_fit e old xs ys room em ee f = f ∙ rw e refl
+-- where no records are listed, they are one already
+pub combines_others : (goal : Goal) (n from mid end : ℕ) (part : List ℕ) → (goal ≡ goals.List → ⊥) → Combines goal n from mid end part part
+unfolding kept_by
+combines_others goals.List n from mid end part d = absurd (d refl)
+combines_others goals.Sums n from mid end part d = λ old xs ys room em ee f. f ∙ sums_append n xs ys old
+combines_others _ n from mid end part d = λ old xs ys room em ee f. f
 
 -- ---- two runs of records
 records_wide : (n : ℕ) (ms : List Interpretation) → Wide (record_size n) (map (record_of n) ms)

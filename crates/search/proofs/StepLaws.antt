@@ -1,6 +1,6 @@
 -- One call of the search: a leaf, or two halves with one fact decided each way. Used by visit_setting and search. Assumes nothing.
 use mathlib.Core.Path.{◌≡◌, refl, sym, ap, ap₂, subst, ◌∙◌}
-use mathlib.Core.Bool.{Bool, true, false}
+use mathlib.Core.Bool.{Bool, true, false, not}
 use mathlib.Core.List.{List, [], ◌∷◌, ◌++◌}
 use Prim.Native.Nat.{ℕ, zero, suc, ◌+◌, ◌-◌, ◌/◌, ◌^◌, ◌<◌, ◌≤◌}
 use native.Mathlib.Nat.{pow-suc}
@@ -8,20 +8,28 @@ use native.Mathlib.Omega.{arith}
 use lib.Pow.{pow_pos}
 use lib.ListN.{length, get_or, take, drop, set}
 use lib.Seq.{take_all, set-set}
-use Rattle.base.specs.Lists.{cons_if}
-use Rattle.models.specs.StableModels.{Interpretation}
+use Rattle.base.specs.Lists.{cons_if, all, any}
+use Rattle.format.specs.Book.{Literal}
+use Rattle.models.specs.Program.{Program, constrained}
+use Rattle.models.specs.StableModels.{Interpretation, holds}
+use Rattle.search.specs.declared.Goal.{Goal}
 use Rattle.search.specs.declared.Visit.{Visit}
 use Rattle.leaf.specs.Found.{at_setting, found_by}
 use Rattle.search.specs.Visits.{stopped, kept_by, Kept, visited, Searched}
 use Rattle.table.specs.Rows.{row_count}
-use Rattle.bans.specs.Bans.{barred}
+use Rattle.table.specs.Tabled.{tabled}
+use Rattle.table.proofs.TabledLaws.{tabled-free}
+use Rattle.bans.specs.Bans.{bodies_of, barred}
+use Rattle.plan.specs.Plan.{plan_bans}
+use Rattle.search.specs.declared.Space.{Space}
+use Rattle.search.specs.Space.{space_atoms, models_at}
 use Rattle.tester.specs.Masks.{RejectedMasks}
 use Rattle.setting.specs.Setting.{setting_of}
 use Rattle.rejecting.specs.Rejecting.{Rejecting, RejectsAt}
 use Rattle.rejecting.proofs.RejectedLaws.{rejected_at}
 use Rattle.leaf.specs.Searchable.{Searchable}
 use Rattle.leaf.proofs.FoundLaws.{setting_one}
-use Rattle.search.proofs.AllowedLaws.{barred-formed, barred-listed}
+use Rattle.search.proofs.AllowedLaws.{setting_allowed, setting_without, barred-formed, barred-listed}
 use Rattle.search.proofs.VisitLaws.{searched-none, searched_one}
 
 -- no more than so many models, so that the count fits
@@ -30,14 +38,6 @@ limit = 4294967296
 
 abbrev pub leaf_of : List ℕ → List ℕ → List ℕ → ℕ → List ℕ → Interpretation → List Interpretation
 leaf_of book rows bans n atoms = at_setting (barred book rows bans n) atoms
-
-kept_yes : (ok : Bool) (m : Interpretation) → ok ≡ true → cons_if ok m [] ≡ m ∷ []
-unfolding cons_if
-kept_yes ok m e = rw e refl
-
-kept_no : (ok : Bool) (m : Interpretation) → ok ≡ false → cons_if ok m [] ≡ []
-unfolding cons_if
-kept_no ok m e = rw e refl
 
 at_leaf : (leaf : Interpretation → List Interpretation) (undecided : List ℕ) (o : Interpretation) → length undecided ≡ 0 → found_by leaf undecided o ≡ leaf o
 unfolding found_by
@@ -50,22 +50,41 @@ pub setting_rejects : {book rows atoms rejecting rejects : List ℕ} {n : ℕ} �
 setting_rejects {book} {rows} {rejects = rejects} {n = n} w standing o e d r =
     subst (λ (x : Interpretation). RejectedMasks book rows x rejects (row_count rows)) (sym e) (rejected_at n w.formed (omega (arith, w.size, w.few)) w.table w.listed standing d r)
 
--- a setting whose model is known, or that has none
-module _ (asked : List ℕ) (n : ℕ) (ms : List Interpretation) (ok : Bool) (m : Interpretation) (is : ms ≡ cons_if ok m []) where
-  pub setting_met : ok ≡ true → (v : Visit) (p : List ℕ) (v' : Visit) (p' : List ℕ) → stopped v ≡ false
-      → (v' ≡ visited asked (m ∷ []) v) × (p' ≡ kept_by v.goal n v.count (m ∷ []) p) → Searched asked n ms v p v' p'
-  setting_met y v p v' p' e a = subst (λ (l : List Interpretation). Searched asked n l v p v' p') (sym (is ∙ kept_yes ok m y)) (searched_one asked n m v p v' p' e a)
+-- a setting that has no model but one, as `find_model` has it: k is how many facts the rules' model has, and `state` that model
+module _ (s : Space) (standing k : ℕ) (ek : k ≡ s.sizes.n) (ok : Bool) (m : Interpretation) (is : at_setting (tabled s.book.now s.rows.now k) (space_atoms s) (setting_of (space_atoms s) standing) ≡ cons_if ok m []) where
+  abbrev bodies : List (List Literal)
+  bodies = bodies_of s.book.now (plan_bans s.plan.now s.sizes.bans)
 
-  -- there is room for it
-  pub setting_kept : ok ≡ true → (v : Visit) (p : List ℕ) → Kept asked n (length ms) v p → Kept asked n 1 v p
-  setting_kept y v p k = subst (λ (x : ℕ). Kept asked n x v p) (ap length (is ∙ kept_yes ok m y)) k
+  abbrev P : Program
+  P = tabled s.book.now s.rows.now s.sizes.n
 
-  pub setting_empty : ok ≡ false → (v : Visit) (p : List ℕ) → Searched asked n ms v p v p
-  setting_empty y v p = subst (λ (l : List Interpretation). Searched asked n l v p v p) (sym (is ∙ kept_no ok m y)) (searched-none asked n v p)
+  free : P.constraints ≡ []
+  free = tabled-free s.book.now s.rows.now s.sizes.n
+
+  at_n : at_setting P (space_atoms s) (setting_of (space_atoms s) standing) ≡ cons_if ok m []
+  at_n = subst (λ (x : ℕ). at_setting (tabled s.book.now s.rows.now x) (space_atoms s) (setting_of (space_atoms s) standing) ≡ cons_if ok m []) ek is
+
+  pub found_none : ok ≡ false → models_at s standing ≡ []
+  unfolding cons_if
+  found_none e = setting_without P bodies free (space_atoms s) (setting_of (space_atoms s) standing) ok m at_n e m
+
+  module _ (e : ok ≡ true) (state : Interpretation) (es : state ≡ m) (r : Bool) (er : r ≡ any (all (holds state)) bodies) where
+    allowed : models_at s standing ≡ cons_if (not r) state []
+    allowed =
+        subst (λ (x : Interpretation). at_setting (constrained P bodies) (space_atoms s) (setting_of (space_atoms s) standing) ≡ cons_if (not r) x []) (sym es)
+        (setting_allowed P bodies free (space_atoms s) (setting_of (space_atoms s) standing) ok m at_n e r (er ∙ ap (λ (x : Interpretation). any (all (holds x)) bodies) es))
+
+    pub found_one : r ≡ false → models_at s standing ≡ state ∷ []
+    unfolding cons_if
+    found_one n = allowed ∙ ap (λ (c : Bool). cons_if (not c) state []) n
+
+    pub found_forbidden : r ≡ true → models_at s standing ≡ []
+    unfolding cons_if
+    found_forbidden y = allowed ∙ ap (λ (c : Bool). cons_if (not c) state []) y
 
 -- nothing is to be found
-pub none-searched : (asked : List ℕ) (n : ℕ) (ms : List Interpretation) → ms ≡ [] → (v : Visit) (p : List ℕ) → Searched asked n ms v p v p
-none-searched asked n ms e v p = subst (λ (l : List Interpretation). Searched asked n l v p v p) (sym e) (searched-none asked n v p)
+pub none-searched : (goal : Goal) (n : ℕ) (ms : List Interpretation) → ms ≡ [] → (v : Visit) (p : List ℕ) → Searched goal n ms v p v p
+none-searched goal n ms e v p = subst (λ (l : List Interpretation). Searched goal n l v p v p) (sym e) (searched-none goal n v p)
 
 module _ (leaf : Interpretation → List Interpretation) (undecided : List ℕ) (o : Interpretation) where
   -- no fact is left: the setting itself

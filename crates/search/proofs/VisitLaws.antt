@@ -1,4 +1,4 @@
--- Searches one after the other are one search, what a search leaves behind, and the counters in the code's cases. Assumes nothing.
+-- Searches one after the other are one search, and what a search leaves behind. Assumes nothing.
 use mathlib.Core.Path.{◌≡◌, refl, sym, ap, ap₂, subst, ◌∙◌}
 use mathlib.Core.Bool.{Bool, true, false, false≢true}
 use mathlib.Core.List.{List, [], ◌∷◌, ◌++◌, append_assoc, append-nil}
@@ -6,8 +6,8 @@ use Prim.Native.Nat.{ℕ, ◌+◌, ◌≤◌, ◌<◌}
 use native.Mathlib.Omega.{arith}
 use borrow.Author.Tests.{lt-ltb, le-ltb}
 use lib.Dec.{ltb}
+use mir.Val.{bool_byte}
 use lib.ListN.{length, length-append}
-use Rattle.format.specs.Book.{u16_at}
 use Rattle.models.specs.StableModels.{Interpretation, atom_holds}
 use Rattle.models.specs.Listing.{bit_value}
 use Rattle.records.proofs.PackLaws.{bit_le}
@@ -24,63 +24,61 @@ unfolding total_of
 total_append w [] ys = omega arith
 total_append w (x ∷ xs) ys = omega (arith, total_append w xs ys)
 
-pub weight_le : (goal : Goal) (asked : List ℕ) (m : Interpretation) → weight_of goal asked m ≤ 1
+pub weight_le : (goal : Goal) (m : Interpretation) → weight_of goal m ≤ 1
 unfolding weight_of
-weight_le goals.List asked m = omega arith
-weight_le (goals.Count most) asked m = omega arith
-weight_le goals.Settle asked m = bit_le (atom_holds m (u16_at asked 0))
-weight_le goals.Sums asked m = omega arith
-weight_le goals.Fit asked m = bit_le (code_holds asked m)
+weight_le (goals.Settle fact) m = bit_le (atom_holds m fact)
+weight_le (goals.Fit code) m = bit_le (code_holds code.now m)
+weight_le _ m = omega arith
 
-total_le : (goal : Goal) (asked : List ℕ) (ms : List Interpretation) → total_of (weight_of goal asked) ms ≤ length ms
+total_le : (goal : Goal) (ms : List Interpretation) → total_of (weight_of goal) ms ≤ length ms
 unfolding total_of
-total_le goal asked [] = omega arith
-total_le goal asked (m ∷ ms) = omega (arith, weight_le goal asked m, total_le goal asked ms)
+total_le goal [] = omega arith
+total_le goal (m ∷ ms) = omega (arith, weight_le goal m, total_le goal ms)
 
-module _ (asked : List ℕ) where
-  pub visited-none : (v : Visit) → visited asked [] v ≡ v
+module _ (goal : Goal) where
+  pub visited-none : (v : Visit) → visited goal [] v ≡ v
   unfolding total_of
   visited-none v =
       let c : v.count + 0 ≡ v.count = omega arith in
       let w : v.weight + 0 ≡ v.weight = omega arith in
-      ap₂ (λ (x y : ℕ). record { goal = v.goal; count = x; weight = y }) c w
+      ap₂ (λ (x y : ℕ). record { count = x; weight = y }) c w
 
-  pub visited_one : (m : Interpretation) (v : Visit) (x : ℕ) → x ≡ weight_of v.goal asked m → record { goal = v.goal; count = v.count + 1; weight = v.weight + x } ≡ visited asked (m ∷ []) v
+  pub visited_one : (m : Interpretation) (v : Visit) (x : ℕ) → x ≡ weight_of goal m → record { count = v.count + 1; weight = v.weight + x } ≡ visited goal (m ∷ []) v
   unfolding total_of
-  visited_one m v x e = let z : v.weight + x ≡ v.weight + (weight_of v.goal asked m + 0) = omega (arith, e) in ap (λ (y : ℕ). record { goal = v.goal; count = v.count + 1; weight = y }) z
+  visited_one m v x e = let z : v.weight + x ≡ v.weight + (weight_of goal m + 0) = omega (arith, e) in ap (λ (y : ℕ). record { count = v.count + 1; weight = y }) z
 
-  visited-append : (xs ys : List Interpretation) (v : Visit) → visited asked ys (visited asked xs v) ≡ visited asked (xs ++ ys) v
+  visited-append : (xs ys : List Interpretation) (v : Visit) → visited goal ys (visited goal xs v) ≡ visited goal (xs ++ ys) v
   visited-append xs ys v =
       let c : v.count + length xs + length ys ≡ v.count + length (xs ++ ys) = omega (arith, length-append xs ys) in
-      let w : v.weight + total_of (weight_of v.goal asked) xs + total_of (weight_of v.goal asked) ys ≡ v.weight + total_of (weight_of v.goal asked) (xs ++ ys) = omega (arith, total_append (weight_of v.goal asked) xs ys) in
-      ap₂ (λ (x y : ℕ). record { goal = v.goal; count = x; weight = y }) c w
+      let w : v.weight + total_of (weight_of goal) xs + total_of (weight_of goal) ys ≡ v.weight + total_of (weight_of goal) (xs ++ ys) = omega (arith, total_append (weight_of goal) xs ys) in
+      ap₂ (λ (x y : ℕ). record { count = x; weight = y }) c w
 
 -- ---- what a search leaves behind
-module _ (asked : List ℕ) (n : ℕ) where
-  pub searched-none : (v : Visit) (p : List ℕ) → Searched asked n [] v p v p
+module _ (goal : Goal) (n : ℕ) where
+  pub searched-none : (v : Visit) (p : List ℕ) → Searched goal n [] v p v p
   searched-none v p = record {
     seen = [];
     rest = [];
     split = refl;
-    visit_is = sym (visited-none asked v);
-    part_is = sym (kept-none v.goal n v.count p);
+    visit_is = sym (visited-none goal v);
+    part_is = sym (kept-none goal n v.count p);
     whole = λ _. refl;
     still = λ _. refl;
   }
 
-  pub searched-stopped : (ms : List Interpretation) (v : Visit) (p : List ℕ) → stopped v ≡ true → Searched asked n ms v p v p
+  pub searched-stopped : (ms : List Interpretation) (v : Visit) (p : List ℕ) → stopped goal v ≡ true → Searched goal n ms v p v p
   searched-stopped ms v p e = record {
     seen = [];
     rest = ms;
     split = refl;
-    visit_is = sym (visited-none asked v);
-    part_is = sym (kept-none v.goal n v.count p);
+    visit_is = sym (visited-none goal v);
+    part_is = sym (kept-none goal n v.count p);
     whole = λ f. absurd (false≢true (sym f ∙ e));
     still = λ _. refl;
   }
 
-  pub searched_one : (m : Interpretation) (v : Visit) (p : List ℕ) (v' : Visit) (p' : List ℕ) → stopped v ≡ false
-      → (v' ≡ visited asked (m ∷ []) v) × (p' ≡ kept_by v.goal n v.count (m ∷ []) p) → Searched asked n (m ∷ []) v p v' p'
+  pub searched_one : (m : Interpretation) (v : Visit) (p : List ℕ) (v' : Visit) (p' : List ℕ) → stopped goal v ≡ false
+      → (v' ≡ visited goal (m ∷ []) v) × (p' ≡ kept_by goal n v.count (m ∷ []) p) → Searched goal n (m ∷ []) v p v' p'
   searched_one m v p v' p' e a = record {
     seen = m ∷ [];
     rest = [];
@@ -91,51 +89,47 @@ module _ (asked : List ℕ) (n : ℕ) where
     still = λ f. absurd (false≢true (sym e ∙ f));
   }
 
-  module _ (ms : List Interpretation) (v : Visit) (p : List ℕ) (v₁ : Visit) (p₁ : List ℕ) (a : Searched asked n ms v p v₁ p₁) where
-    pub searched_goal : v₁.goal ≡ v.goal
-    searched_goal = ap (λ (u : Visit). u.goal) a.visit_is
-
+  module _ (ms : List Interpretation) (v : Visit) (p : List ℕ) (v₁ : Visit) (p₁ : List ℕ) (a : Searched goal n ms v p v₁ p₁) where
     pub searched-count : v₁.count ≡ v.count + length a.seen
     searched-count = ap (λ (u : Visit). u.count) a.visit_is
 
-    pub searched_weight : v₁.weight ≡ v.weight + total_of (weight_of v.goal asked) a.seen
+    pub searched_weight : v₁.weight ≡ v.weight + total_of (weight_of goal) a.seen
     searched_weight = ap (λ (u : Visit). u.weight) a.visit_is
 
     pub seen_few : length a.seen ≤ length ms
     seen_few = omega (arith, ap length a.split, length-append a.seen a.rest)
 
     -- what is left to meet is met from there on
-    pub kept-after : (more : ℕ) → length p₁ ≡ length p → Kept asked n (length ms + more) v p → Kept asked n more v₁ p₁
+    pub kept-after : (more : ℕ) → length p₁ ≡ length p → Kept goal n (length ms + more) v p → Kept goal n more v₁ p₁
     kept-after more l k = record {
-      asks = subst (λ (g : Goal). Asks g asked) (sym searched_goal) k.asks;
-      room = subst (λ (g : Goal). RoomFor g n (v₁.count + more) p₁) (sym searched_goal)
-          (room-same v.goal n (v₁.count + more) p p₁ l (room_less v.goal n (v₁.count + more) (v.count + (length ms + more)) p (omega (arith, searched-count, seen_few)) k.room));
-      light = omega (arith, searched-count, searched_weight, k.light, total_le v.goal asked a.seen);
+      asks = k.asks;
+      room = room-same goal n (v₁.count + more) p p₁ l (room_less goal n (v₁.count + more) (v.count + (length ms + more)) p (omega (arith, searched-count, seen_few)) k.room);
+      light = omega (arith, searched-count, searched_weight, k.light, total_le goal a.seen);
     }
 
   -- a search, then another, then the two runs made one
-  module _ (ms ns : List Interpretation) (v : Visit) (p : List ℕ) (v₁ : Visit) (p₁ : List ℕ) (v₂ : Visit) (p₂ p₃ : List ℕ) (a : Searched asked n ms v p v₁ p₁) (b : Searched asked n ns v₁ p₁ v₂ p₂) where
-    both_visited : v₂ ≡ visited asked (a.seen ++ b.seen) v
-    both_visited = b.visit_is ∙ ap (visited asked b.seen) a.visit_is ∙ visited-append asked a.seen b.seen v
+  module _ (ms ns : List Interpretation) (v : Visit) (p : List ℕ) (v₁ : Visit) (p₁ : List ℕ) (v₂ : Visit) (p₂ p₃ : List ℕ) (a : Searched goal n ms v p v₁ p₁) (b : Searched goal n ns v₁ p₁ v₂ p₂) where
+    both_visited : v₂ ≡ visited goal (a.seen ++ b.seen) v
+    both_visited = b.visit_is ∙ ap (visited goal b.seen) a.visit_is ∙ visited-append goal a.seen b.seen v
 
-    both_kept : RoomFor v.goal n v₂.count p → Combines v.goal n v.count v₁.count v₂.count p₂ p₃ → p₃ ≡ kept_by v.goal n v.count (a.seen ++ b.seen) p
+    both_kept : RoomFor goal n v₂.count p → Combines goal n v.count v₁.count v₂.count p₂ p₃ → p₃ ≡ kept_by goal n v.count (a.seen ++ b.seen) p
     both_kept r j =
         j p a.seen b.seen r (searched-count ms v p v₁ p₁ a) (searched-count ns v₁ p₁ v₂ p₂ b)
-        (b.part_is ∙ ap₂ (λ (g : Goal) (q : List ℕ). kept_by g n v₁.count b.seen q) (searched_goal ms v p v₁ p₁ a) a.part_is)
+        (b.part_is ∙ ap (kept_by goal n v₁.count b.seen) a.part_is)
 
-    none_after : stopped v₁ ≡ true → v₂ ≡ v₁
-    none_after e = b.visit_is ∙ ap (λ (l : List Interpretation). visited asked l v₁) (b.still e) ∙ visited-none asked v₁
+    none_after : stopped goal v₁ ≡ true → v₂ ≡ v₁
+    none_after e = b.visit_is ∙ ap (λ (l : List Interpretation). visited goal l v₁) (b.still e) ∙ visited-none goal v₁
 
-    none_at_all : stopped v ≡ true → a.seen ++ b.seen ≡ []
+    none_at_all : stopped goal v ≡ true → a.seen ++ b.seen ≡ []
     none_at_all e =
         let s : a.seen ≡ [] = a.still e in
-        let u : v₁ ≡ v = a.visit_is ∙ ap (λ (l : List Interpretation). visited asked l v) s ∙ visited-none asked v in
-        ap₂ (λ (x y : List Interpretation). x ++ y) s (b.still (ap stopped u ∙ e))
+        let u : v₁ ≡ v = a.visit_is ∙ ap (λ (l : List Interpretation). visited goal l v) s ∙ visited-none goal v in
+        ap₂ (λ (x y : List Interpretation). x ++ y) s (b.still (ap (stopped goal) u ∙ e))
 
-    pub searched_combined : RoomFor v.goal n v₂.count p → Combines v.goal n v.count v₁.count v₂.count p₂ p₃ → Searched asked n (ms ++ ns) v p v₂ p₃
-    searched_combined r j = go (stopped v₁) refl
+    pub searched_combined : RoomFor goal n v₂.count p → Combines goal n v.count v₁.count v₂.count p₂ p₃ → Searched goal n (ms ++ ns) v p v₂ p₃
+    searched_combined r j = go (stopped goal v₁) refl
       where
-        go : (c : Bool) → stopped v₁ ≡ c → Searched asked n (ms ++ ns) v p v₂ p₃
+        go : (c : Bool) → stopped goal v₁ ≡ c → Searched goal n (ms ++ ns) v p v₂ p₃
         go false e = record {
           seen = a.seen ++ b.seen;
           rest = b.rest;
@@ -153,73 +147,25 @@ module _ (asked : List ℕ) (n : ℕ) where
               ∙ ap (λ (x : List Interpretation). x ++ (a.rest ++ ns)) (sym (ap (λ (y : List Interpretation). a.seen ++ y) (b.still e) ∙ append-nil a.seen));
           visit_is = both_visited;
           part_is = both_kept r j;
-          whole = λ f. absurd (false≢true (sym f ∙ ap stopped (none_after e) ∙ e));
+          whole = λ f. absurd (false≢true (sym f ∙ ap (stopped goal) (none_after e) ∙ e));
           still = none_at_all;
         }
 
--- whether the goal is reached, as the code tests it
-module _ (v : Visit) where
-  pub list_stops : v.goal ≡ goals.List → false ≡ stopped v
-  unfolding reaches
-  list_stops e = rw e refl
+-- ---- the goals that nothing reaches, and those for which no model weighs
+pub goes_on : (goal : Goal) (v : Visit) → ((most : ℕ) → goal ≡ goals.Count most → ⊥) → ((fact : ℕ) → goal ≡ goals.Settle fact → ⊥) → false ≡ stopped goal v
+unfolding reaches
+goes_on (goals.Count most) v d e = absurd (d most refl)
+goes_on (goals.Settle fact) v d e = absurd (e fact refl)
+goes_on _ v d e = refl
 
-  pub count_stops : (most : ℕ) → v.goal ≡ goals.Count most → ltb most v.count ≡ stopped v
-  unfolding reaches
-  count_stops most e = rw e refl
-
-  pub settle_stops : v.goal ≡ goals.Settle → 0 < v.weight → ltb v.weight v.count ≡ stopped v
-  unfolding reaches
-  settle_stops e h = rw (e, lt-ltb 0 v.weight h) refl
-
-  pub settle_goes_on : v.goal ≡ goals.Settle → v.weight ≤ 0 → false ≡ stopped v
-  unfolding reaches
-  settle_goes_on e h = rw (e, le-ltb 0 v.weight h) refl
-
-  pub sums_stop : v.goal ≡ goals.Sums → false ≡ stopped v
-  unfolding reaches
-  sums_stop e = rw e refl
-
-  pub fit_stops : v.goal ≡ goals.Fit → false ≡ stopped v
-  unfolding reaches
-  fit_stops e = rw e refl
-
--- the question of a goal, and what a model weighs, in the code's cases
-module _ (goal : Goal) (asked : List ℕ) (m : Interpretation) where
-  pub asked_two : goal ≡ goals.Settle → Asks goal asked → 0 + 2 ≤ length asked
-  unfolding Asks
-  asked_two e a = subst (λ (g : Goal). Asks g asked) e a
-
-  pub weigh_list : goal ≡ goals.List → (0 ≡ weight_of goal asked m) × (0 ≤ 1)
-  unfolding weight_of
-  weigh_list e = (rw e refl, omega arith)
-
-  pub weigh_count : (most : ℕ) → goal ≡ goals.Count most → (0 ≡ weight_of goal asked m) × (0 ≤ 1)
-  unfolding weight_of
-  weigh_count most e = (rw e refl, omega arith)
-
-  pub weigh_sums : goal ≡ goals.Sums → (0 ≡ weight_of goal asked m) × (0 ≤ 1)
-  unfolding weight_of
-  weigh_sums e = (rw e refl, omega arith)
-
-  pub weigh_settle : goal ≡ goals.Settle → (x b f : ℕ) → x ≡ b → b ≡ bit_value (atom_holds m f) 1 → f ≡ u16_at asked 0 → (x ≡ weight_of goal asked m) × (x ≤ 1)
-  unfolding weight_of
-  weigh_settle e x b f ex eb ef =
-      let q : x ≡ weight_of goal asked m = ex ∙ eb ∙ ap (λ (k : ℕ). bit_value (atom_holds m k) 1) ef ∙ sym (ap (λ (g : Goal). weight_of g asked m) e) in
-      (q, omega (arith, q, weight_le goal asked m))
-
-  pub asked_code : goal ≡ goals.Fit → Asks goal asked → StackFits asked
-  unfolding Asks
-  asked_code e a = subst (λ (g : Goal). Asks g asked) e a
-
-  pub weigh_fit : goal ≡ goals.Fit → (x : ℕ) → x ≡ bit_value (code_holds asked m) 1 → (x ≡ weight_of goal asked m) × (x ≤ 1)
-  unfolding weight_of
-  weigh_fit e x ex = let q : x ≡ weight_of goal asked m = ex ∙ sym (ap (λ (g : Goal). weight_of g asked m) e) in (q, omega (arith, q, weight_le goal asked m))
-
--- a bit by its test
-pub bit-set : (b : Bool) → b ≡ true → 1 ≡ bit_value b 1
+-- what a model weighs, as the code has it
+pub weighs_bit : (goal : Goal) (m : Interpretation) (x : ℕ) (b : Bool) → x ≡ bool_byte b → bit_value b 1 ≡ weight_of goal m → (x ≡ weight_of goal m) × (x ≤ 1)
 unfolding bit_value
-bit-set b e = rw e refl
+weighs_bit goal m x true e w = let q : x ≡ weight_of goal m = e ∙ w in (q, omega (arith, q, weight_le goal m))
+weighs_bit goal m x false e w = let q : x ≡ weight_of goal m = e ∙ w in (q, omega (arith, q, weight_le goal m))
 
-pub bit-clear : (b : Bool) → b ≡ false → 0 ≡ bit_value b 1
-unfolding bit_value
-bit-clear b e = rw e refl
+pub weighs_none : (goal : Goal) (m : Interpretation) → ((fact : ℕ) → goal ≡ goals.Settle fact → ⊥) → ((code : _) → goal ≡ goals.Fit code → ⊥) → (0 ≡ weight_of goal m) × (0 ≤ 1)
+unfolding weight_of
+weighs_none (goals.Settle fact) m d e = absurd (d fact refl)
+weighs_none (goals.Fit code) m d e = absurd (e code refl)
+weighs_none _ m d e = (refl, omega arith)

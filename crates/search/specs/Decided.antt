@@ -5,6 +5,7 @@ use Rattle.base.specs.Bounds.{max_atoms}
 use Rattle.layers.specs.Masks.{bit_of}
 use Rattle.models.specs.StableModels.{Interpretation, atom_holds}
 use Rattle.setting.specs.Setting.{setting_of}
+use Rattle.search.specs.declared.Turn.{Turn}
 
 -- the i-th atom is decided
 abbrev pub DecidedAt : List ℕ → List ℕ → ℕ → Type 0
@@ -24,6 +25,6 @@ abbrev pub undecided : List ℕ → ℕ → List ℕ
 undecided atoms left = drop (length atoms - left) atoms
 
 -- how far the recursion is: so many atoms are left, and the masks have the others as the setting of `standing` decides them
-pub record Turned (atoms : List ℕ) (left standing denied : ℕ) : Type 0 where
-  pub few : left ≤ length atoms
-  pub decided : Decided atoms (undecided atoms left) (setting_of atoms standing) standing denied
+pub record Turned (atoms : List ℕ) (turn : Turn) : Type 0 where
+  pub few : turn.left ≤ length atoms
+  pub decided : Decided atoms (undecided atoms turn.left) (setting_of atoms turn.standing) turn.standing turn.denied

@@ -1,3 +1,3 @@
+pub mod Space
 pub mod Visits
 pub mod Decided
-pub mod Lent

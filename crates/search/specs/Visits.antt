@@ -3,7 +3,6 @@
 -- Assumes nothing.
 use Rattle.std.specs.Prelude.{◌≡◌, Bool, true, false, ◌&&◌, List, [], ◌∷◌, ◌++◌, map, ℕ, ◌+◌, ◌*◌, ◌≤◌, ltb, length, take, drop}
 use Rattle.base.specs.Lists.{flat}
-use Rattle.format.specs.Book.{u16_at}
 use Rattle.models.specs.StableModels.{Interpretation, atom_holds}
 use Rattle.models.specs.Listing.{bit_value, record_size, record_of}
 use Rattle.records.specs.Written.{sorted, summed}
@@ -12,21 +11,16 @@ use Rattle.search.specs.declared.Goal.{Goal}
 use Rattle.search.specs.declared.Goal.TheVariants as goals
 use Rattle.search.specs.declared.Visit.{Visit}
 
--- the bytes that a goal is asked with: a fact's place, with the fact's number; states that fit a condition, with its code
-unfoldable pub Asks : Goal → List ℕ → Type 0
-Asks goals.List asked = Unit {0}
-Asks (goals.Count most) asked = Unit {0}
-Asks goals.Settle asked = 2 ≤ length asked
-Asks goals.Sums asked = Unit {0}
-Asks goals.Fit asked = StackFits asked
+-- what a goal carries can be asked: a condition's code fits the stack
+unfoldable pub Asks : Goal → Type 0
+Asks (goals.Fit code) = StackFits code.now
+Asks _ = Unit {0}
 
 -- what a model weighs: for a fact's place 1 where the fact stands, for a condition 1 where it holds
-unfoldable pub weight_of : Goal → List ℕ → Interpretation → ℕ
-weight_of goals.List asked m = 0
-weight_of (goals.Count most) asked m = 0
-weight_of goals.Settle asked m = bit_value (atom_holds m (u16_at asked 0)) 1
-weight_of goals.Sums asked m = 0
-weight_of goals.Fit asked m = bit_value (code_holds asked m) 1
+unfoldable pub weight_of : Goal → Interpretation → ℕ
+weight_of (goals.Settle fact) m = bit_value (atom_holds m fact) 1
+weight_of (goals.Fit code) m = bit_value (code_holds code.now m) 1
+weight_of _ m = 0
 
 -- what models weigh together
 unfoldable pub total_of : (Interpretation → ℕ) → List Interpretation → ℕ
@@ -41,49 +35,43 @@ rising n ms = flat (map (record_of n) (sorted n ms))
 -- front, and behind them those of these models, rising.
 unfoldable pub kept_by : Goal → ℕ → ℕ → List Interpretation → List ℕ → List ℕ
 kept_by goals.List n count ms part = take (count * record_size n) part ++ (rising n ms ++ drop ((count + length ms) * record_size n) part)
-kept_by (goals.Count most) n count ms part = part
-kept_by goals.Settle n count ms part = part
 kept_by goals.Sums n count ms part = summed n part ms
-kept_by goals.Fit n count ms part = part
+kept_by _ n count ms part = part
 
 -- the part has the room that the goal needs for so many models in all
 unfoldable pub RoomFor : Goal → ℕ → ℕ → List ℕ → Type 0
 RoomFor goals.List n count part = count * record_size n ≤ length part
-RoomFor (goals.Count most) n count part = Unit {0}
-RoomFor goals.Settle n count part = Unit {0}
 RoomFor goals.Sums n count part = 4 * n ≤ length part
-RoomFor goals.Fit n count part = Unit {0}
+RoomFor _ n count part = Unit {0}
 
 -- the goal is reached: of a count, once it is past its most; of a fact's place, once it stands in some but not in all
 unfoldable pub reaches : Goal → ℕ → ℕ → Bool
-reaches goals.List count weight = false
 reaches (goals.Count most) count weight = ltb most count
-reaches goals.Settle count weight = ltb 0 weight && ltb weight count
-reaches goals.Sums count weight = false
-reaches goals.Fit count weight = false
+reaches (goals.Settle fact) count weight = ltb 0 weight && ltb weight count
+reaches _ count weight = false
 
-abbrev pub stopped : Visit → Bool
-stopped v = reaches v.goal v.count v.weight
+abbrev pub stopped : Goal → Visit → Bool
+stopped goal v = reaches goal v.count v.weight
 
--- what the question, the counters and the part have to say of each other before a search that meets no more than so many models
-pub record Kept (asked : List ℕ) (n more : ℕ) (v : Visit) (part : List ℕ) : Type 0 where
-  pub asks : Asks v.goal asked
-  pub room : RoomFor v.goal n (v.count + more) part
+-- what the goal, the counters and the part have to say of each other before a search that meets no more than so many models
+pub record Kept (goal : Goal) (n more : ℕ) (v : Visit) (part : List ℕ) : Type 0 where
+  pub asks : Asks goal
+  pub room : RoomFor goal n (v.count + more) part
   pub light : v.weight ≤ v.count
 
 -- these models are counted and weighed
-abbrev pub visited : List ℕ → List Interpretation → Visit → Visit
-visited asked ms v = record { goal = v.goal; count = v.count + length ms; weight = v.weight + total_of (weight_of v.goal asked) ms }
+abbrev pub visited : Goal → List Interpretation → Visit → Visit
+visited goal ms v = record { count = v.count + length ms; weight = v.weight + total_of (weight_of goal) ms }
 
 -- Of the models of a list the first were met, and all of them unless the goal was reached before; none where it was reached already.
-pub record Searched (asked : List ℕ) (n : ℕ) (ms : List Interpretation) (v : Visit) (part : List ℕ) (v' : Visit) (part' : List ℕ) : Type 0 where
+pub record Searched (goal : Goal) (n : ℕ) (ms : List Interpretation) (v : Visit) (part : List ℕ) (v' : Visit) (part' : List ℕ) : Type 0 where
   pub seen : List Interpretation
   pub rest : List Interpretation
   pub split : ms ≡ seen ++ rest
-  pub visit_is : v' ≡ visited asked seen v
-  pub part_is : part' ≡ kept_by v.goal n v.count seen part
-  pub whole : stopped v' ≡ false → rest ≡ []
-  pub still : stopped v ≡ true → seen ≡ []
+  pub visit_is : v' ≡ visited goal seen v
+  pub part_is : part' ≡ kept_by goal n v.count seen part
+  pub whole : stopped goal v' ≡ false → rest ≡ []
+  pub still : stopped goal v ≡ true → seen ≡ []
 
 -- Models were met in two runs, one after the other: the part is what it would be had they been met in one.
 abbrev pub Combines : Goal → ℕ → ℕ → ℕ → ℕ → List ℕ → List ℕ → Type 0

@@ -1,0 +1,38 @@
+-- A denied fact that was reached is a conflict, and so is what the filling meets: then no stable model agrees with the setting. Else the
+-- facts that are reached are the only state that can be one, as the marks gone on from follow from the start and have it among them.
+use Rattle.std.proofs.Common.{rules, refl, sym, subst}
+use Rattle.tester.proofs.TestLaws.{room_for}
+use Rattle.leaf.specs.Searchable.{Early}
+use Rattle.leaf.proofs.ModelLaws.{choices, denied_of_lem, model_conflict, filled-candidate}
+use Rattle.leaf.proofs.GoingOnLaws.{denied_conflict, going_on}
+use Rattle.leaf.proofs.Leaf.model_from.Goals as goal
+
+pub reaches_denied-requires : goal.reaches_denied-requires
+reaches_denied-requires c =
+    choices c.requires.searchable _ refl
+
+pub returns-then-reaches_denied : goal.returns-then-reaches_denied
+returns-then-reaches_denied c =
+    let d = denied_of_lem (choices c.requires.searchable _ refl) c.args.self.setting.standing in
+    model_conflict c.requires.searchable _ c.requires.rejected_masks d (denied_conflict c.requires.begun d c.reaches_denied.result c.reaches_denied.ensures c.requires.searchable c.if-reaches_denied.true) _
+
+pub join-requires : goal.join-requires
+join-requires c =
+    choices c.requires.searchable _ c.requires.marks_len.0
+
+pub fill_on-requires-clause-room : goal.fill_on-requires-clause-room
+fill_on-requires-clause-room c =
+    room_for c.requires.searchable.table c.requires.searchable.formed c.requires.searchable.size c.requires.searchable.few _ _ refl (search rules)
+
+pub returns-then-fill_on : goal.returns-then-fill_on
+returns-then-fill_on c =
+    let d = denied_of_lem (choices c.requires.searchable _ refl) c.args.self.setting.standing in
+    let grown = going_on c.requires.begun d c.reaches_denied.result c.reaches_denied.ensures c.if-reaches_denied.false c.join.ensures c.fill_on.ensures in
+    model_conflict c.requires.searchable _ c.requires.rejected_masks d (grown.clash c.if-fill_on.true) _
+
+pub decide-requires-clause-only_state : goal.decide-requires-clause-only_state
+decide-requires-clause-only_state c =
+    let d = denied_of_lem (choices c.requires.searchable _ refl) c.args.self.setting.standing in
+    let filled = going_on c.requires.begun d c.reaches_denied.result c.reaches_denied.ensures c.if-reaches_denied.false c.join.ensures c.fill_on.ensures in
+    let before = subst (Early _ _ _ _) (sym c.copy_from_slice.ensures.after) c.requires.early in
+    filled-candidate c.requires.rejected_masks d before filled c.if-fill_on.false

@@ -1,0 +1,33 @@
+-- What a search goes through: a table of rules and a plan of it, the program that these stand for, and its models, at one setting and at
+-- all settings that a turn leaves. Assumes nothing.
+use Rattle.std.specs.Prelude.{List, ℕ}
+use Rattle.models.specs.Program.{Program}
+use Rattle.models.specs.StableModels.{Interpretation}
+use Rattle.plan.specs.Plan.{plan_atoms, planned_program, Planned}
+use Rattle.setting.specs.Setting.{setting_of}
+use Rattle.leaf.specs.Found.{at_setting, found_by}
+use Rattle.leaf.specs.Searchable.{Searchable}
+use Rattle.search.specs.declared.Space.{Space}
+use Rattle.search.specs.declared.Turn.{Turn}
+use Rattle.search.specs.Decided.{undecided}
+
+-- the branching facts
+abbrev pub space_atoms : Space → List ℕ
+space_atoms s = plan_atoms s.plan.now s.sizes.branching
+
+-- the program that the table and the plan stand for
+abbrev pub space_program : Space → Program
+space_program s = planned_program s.book.now s.rows.now s.plan.now s.sizes
+
+-- the table and the plan can be searched
+pub record Ready (s : Space) : Type 0 where
+  pub table : Searchable s.book.now s.rows.now (space_atoms s) s.sizes.n
+  pub planned : Planned s.book.now s.rows.now (space_atoms s) s.plan.now s.sizes
+
+-- the stable models of the setting of a mask: there is at most one
+abbrev pub models_at : Space → ℕ → List Interpretation
+models_at s standing = at_setting (space_program s) (space_atoms s) (setting_of (space_atoms s) standing)
+
+-- the stable models of all settings that a turn leaves
+abbrev pub models_left : Space → Turn → List Interpretation
+models_left s turn = found_by (at_setting (space_program s) (space_atoms s)) (undecided (space_atoms s) turn.left) (setting_of (space_atoms s) turn.standing)

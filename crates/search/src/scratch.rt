@@ -1,0 +1,29 @@
+// The arrays that a search works in.
+ghost use Rattle.std.specs.Prelude.{◌≡◌, replicate};
+ghost use Rattle.base.specs.Bounds.{max_names};
+
+use base::{MAX_ATOMS, MAX_NAMES};
+use filling::HINTS;
+
+// What a search works in at every setting, made once a pass: the masks of the rules that a setting rejects, of which there are none between
+// settings; three arrays of marks; and what one filling leaves for the next.
+pub struct Scratch {
+    pub rejects: [u32; MAX_NAMES],
+    pub positive: [bool; MAX_ATOMS],
+    pub negative: [bool; MAX_ATOMS],
+    pub early: [bool; MAX_ATOMS],
+    pub hints: [u16; HINTS],
+    ghost blank: { rejects ≡ replicate max_names 0 },
+}
+
+impl Scratch {
+    pub fn new() -> Scratch {
+        Scratch {
+            rejects: [0; MAX_NAMES],
+            positive: [false; MAX_ATOMS],
+            negative: [false; MAX_ATOMS],
+            early: [false; MAX_ATOMS],
+            hints: [0; HINTS],
+        }
+    }
+}
