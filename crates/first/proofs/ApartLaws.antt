@@ -4,31 +4,34 @@ use mathlib.Core.Path.{◌≡◌, refl, sym, ap, ap₂, subst, ◌∙◌}
 use mathlib.Core.Bool.{Bool, true, false, not, ◌&&◌, beq}
 use mathlib.Core.List.Memᴰ
 use mathlib.Core.List.{List, [], ◌∷◌, ◌++◌}
-use Prim.Native.Nat.{ℕ, zero, suc, ◌+◌, ◌-◌, ◌<◌, ◌≤◌}
+use Prim.Native.Nat.{ℕ, zero, suc, ◌+◌, ◌-◌, ◌^◌, ◌<◌, ◌≤◌}
 use native.Mathlib.Decide.{dec_lt}
 use native.Mathlib.Omega.{arith}
 use borrow.Author.Tests.{lt-ltb, le-ltb}
 use lib.Bits.{bit_or}
 use lib.Dec.{T, ltb}
+use mir.Val.{bool_byte}
 use lib.ListN.{length, get_or, drop}
 use lib.Seq.{drop-cons, get_or-take}
 use native.Mathlib.Numerals.{add-one}
 use Rattle.base.specs.Lists.{cons_if, filter, up_to}
 use Rattle.base.proofs.Members.{◌∈◌}
 use Rattle.base.proofs.UpTo.{passed}
-use Rattle.layers.proofs.BitLaws.{or_right}
+use Rattle.layers.specs.Masks.{bit_of}
+use Rattle.layers.proofs.BitLaws.{bit-same, or_right}
 use Rattle.models.specs.StableModels.{Interpretation, atom_holds}
 use Rattle.models.specs.Branching.{branching, branching_atoms}
 use Rattle.models.specs.Listing.{bit_value}
 use Rattle.bans.specs.Bans.{barred}
 use Rattle.setting.specs.Setting.{setting_of}
-use Rattle.setting.proofs.BitMaskLaws.{single, single_has}
-use Rattle.plan.specs.Plan.{plan_atoms}
-use Rattle.leaf.specs.Found.{at_setting, found_by}
+use Rattle.plan.specs.Plan.{plan_atoms, plan_bans}
 use Rattle.leaf.specs.Searchable.{Searchable}
+use Rattle.search.specs.declared.Space.{Space}
+use Rattle.search.specs.declared.Turn.{Turn}
 use Rattle.search.specs.Decided.{undecided, Turned}
+use Rattle.search.specs.Space.{space_atoms, Ready, models_left}
 use Rattle.search.proofs.AllowedLaws.{barred-listed, barred-size}
-use Rattle.search.proofs.TurnLaws.{turned_first, turned_second, halves_are}
+use Rattle.search.proofs.TurnLaws.{atoms-count, turned_first, turned_second, halves_are}
 use Rattle.first.specs.Nearest.{differs, distance}
 use Rattle.first.specs.InHand.{far, apart_at, Apart}
 use Rattle.first.proofs.LaterLaws.{group_has, group_lacks}
@@ -116,22 +119,11 @@ module _ (c m : Interpretation) where
     distance-same e = omega (arith, is, next f, ap (λ (b : Bool). bit_value b 1) e)
 
 -- ---- one fact, as the code counts it
-module _ (f k : ℕ) (b : Bool) where
-  pub step_one : f < k → b ≡ true → 1 ≡ bit_value (ltb f k && b) 1
-  unfolding bit_value
-  step_one h e = rw (lt-ltb f k h, e) refl
-
-  pub step-none : b ≡ false → 0 ≡ bit_value (ltb f k && b) 1
-  unfolding bit_value
-  step-none e = go (ltb f k)
-    where
-      go : (c : Bool) → 0 ≡ bit_value (c && b) 1
-      go true = sym (ap (λ (d : Bool). bit_value d 1) e)
-      go false = refl
-
-  pub step_past : k ≤ f → 0 ≡ bit_value (ltb f k && b) 1
-  unfolding bit_value
-  step_past h = rw (le-ltb f k h) refl
+-- a bit of a test, as a number is made of it
+pub bit_byte : (b : Bool) → bool_byte b ≡ bit_value b 1
+unfolding bit_value
+bit_byte true = refl
+bit_byte false = refl
 
 pub step_small : (r : ℕ) (b : Bool) → r ≡ bit_value b 1 → r ≤ 1
 step_small r b e = omega (arith, e, bit_le b)
@@ -153,43 +145,43 @@ module _ {book rows atoms : List ℕ} {n : ℕ} (w : Searchable book rows atoms 
     at_least = λ m k. let z : apart_at wanted m (undecided atoms left) ≡ apart_at wanted m atoms = ap (λ (i : ℕ). apart_at wanted m (drop i atoms)) {x = length atoms - left} {y = 0} (omega arith) in omega (arith, z, branching-apart m);
   }
 
--- the first of the facts that are left is decided each way
-module _ {book rows atoms : List ℕ} {n : ℕ} (w : Searchable book rows atoms n) (bans : List ℕ) {left standing denied : ℕ} (t : Turned atoms left standing denied)
-    (some : left ≡ 0 → ⊥) (i : ℕ) (ei : i ≡ length atoms - left) (wanted : Interpretation) {apart : ℕ}
-    (away : Apart wanted (undecided atoms left) (found_by (at_setting (barred book rows bans n) atoms) (undecided atoms left) (setting_of atoms standing)) left apart) where
-  abbrev rest : List ℕ
-  rest = undecided atoms (left - 1)
+-- the first of the facts that are left, the i-th of all, is decided each way
+module _ {s : Space} (ready : Ready s) {turn : Turn} (t : Turned (space_atoms s) turn) (some : turn.left ≡ 0 → ⊥) (i : ℕ) (ei : i ≡ s.sizes.branching - turn.left) (wanted : Interpretation) {apart : ℕ}
+    (away : Apart wanted (undecided (space_atoms s) turn.left) (models_left s turn) turn.left apart)
+    {first second : Turn} (e₁ : first ≡ record turn { left = turn.left - 1; denied = bit_or turn.denied (2 ^ i) }) (e₂ : second ≡ record turn { left = turn.left - 1; standing = bit_or turn.standing (2 ^ i) }) where
+  abbrev atoms : List ℕ
+  atoms = space_atoms s
 
-  abbrev found : Interpretation → List Interpretation
-  found o = found_by (at_setting (barred book rows bans n) atoms) rest o
-
-  small : i < 32
-  small = omega (arith, t.few, w.atoms_few)
+  count : length atoms ≡ s.sizes.branching
+  count = atoms-count ready.planned
 
   inside_atoms : i < length atoms
-  inside_atoms = omega (arith, t.few)
+  inside_atoms = omega (arith, t.few, ei, count)
 
-  opened : undecided atoms left ≡ get_or atoms i 0 ∷ rest
+  opened : undecided atoms turn.left ≡ get_or atoms i 0 ∷ undecided atoms (turn.left - 1)
   opened =
-      ap (λ (k : ℕ). drop k atoms) (sym ei) ∙ drop-cons atoms i 0 inside_atoms
-      ∙ ap (λ (k : ℕ). get_or atoms i 0 ∷ drop k atoms) (let z : suc i ≡ length atoms - (left - 1) = omega (arith, t.few) in z)
+      ap (λ (k : ℕ). drop k atoms) {x = length atoms - turn.left} {y = i} (omega (arith, ei, count)) ∙ drop-cons atoms i 0 inside_atoms
+      ∙ ap (λ (k : ℕ). get_or atoms i 0 ∷ drop k atoms) (let z : suc i ≡ length atoms - (turn.left - 1) = omega (arith, t.few, ei, count) in z)
 
   -- of a half, in which the fact is decided so
-  module _ (f : ℕ) (is : f ≡ get_or atoms i 0) (stands : Bool) (r : ℕ) (step : r ≡ bit_value (ltb f (length wanted) && not (beq (atom_holds wanted f) stands)) 1) (o : Interpretation)
-      (inside : (m : Interpretation) → m ∈ found o → m ∈ found_by (at_setting (barred book rows bans n) atoms) (undecided atoms left) (setting_of atoms standing))
-      (decides : (m : Interpretation) → m ∈ found o → atom_holds m (get_or atoms i 0) ≡ stands) where
-    half_at : (m : Interpretation) → m ∈ found o → apart_at wanted m (undecided atoms left) ≡ r + apart_at wanted m rest
+  module _ (f : ℕ) (is : f ≡ get_or atoms i 0) (stands : Bool) (r : ℕ) (step : r ≡ bit_value (ltb f (length wanted) && not (beq (atom_holds wanted f) stands)) 1) (h : Turn) (left : h.left ≡ turn.left - 1)
+      (inside : (m : Interpretation) → m ∈ models_left s h → m ∈ models_left s turn)
+      (decides : (m : Interpretation) → m ∈ models_left s h → atom_holds m (get_or atoms i 0) ≡ stands) where
+    rest_is : undecided atoms (turn.left - 1) ≡ undecided atoms h.left
+    rest_is = ap (undecided atoms) (sym left)
+
+    half_at : (m : Interpretation) → m ∈ models_left s h → apart_at wanted m (undecided atoms turn.left) ≡ r + apart_at wanted m (undecided atoms h.left)
     unfolding apart_at
     half_at m k =
-        let a : apart_at wanted m (undecided atoms left) ≡ apart_at wanted m (get_or atoms i 0 ∷ rest) = ap (apart_at wanted m) opened in
-        let b = count_cons (λ (g : ℕ). ltb g (length wanted) && differs wanted m g) (get_or atoms i 0) rest in
+        let a : apart_at wanted m (undecided atoms turn.left) ≡ apart_at wanted m (get_or atoms i 0 ∷ undecided atoms h.left) = ap (apart_at wanted m) (opened ∙ ap (λ (l : List ℕ). get_or atoms i 0 ∷ l) rest_is) in
+        let b = count_cons (λ (g : ℕ). ltb g (length wanted) && differs wanted m g) (get_or atoms i 0) (undecided atoms h.left) in
         let c : r ≡ bit_value (ltb (get_or atoms i 0) (length wanted) && differs wanted m (get_or atoms i 0)) 1 =
         step ∙ ap₂ (λ (g : ℕ) (v : Bool). bit_value (ltb g (length wanted) && not (beq (atom_holds wanted g) v)) 1) is (sym (decides m k)) in
         omega (arith, a, b, c)
 
-    half_apart : Apart wanted rest (found o) (left - 1) (apart + r)
+    half_apart : Apart wanted (undecided atoms h.left) (models_left s h) h.left (apart + r)
     half_apart = record {
-      few = omega (arith, away.few, step, bit_le (ltb f (length wanted) && not (beq (atom_holds wanted f) stands)));
+      few = omega (arith, away.few, left, some, step, bit_le (ltb f (length wanted) && not (beq (atom_holds wanted f) stands)));
       at_least = λ m k. omega (arith, half_at m k, away.at_least m (inside m k));
     }
 
@@ -198,15 +190,19 @@ module _ {book rows atoms : List ℕ} {n : ℕ} (w : Searchable book rows atoms 
   not_held true h = absurd h
 
   module _ (f : ℕ) (is : f ≡ get_or atoms i 0) (r : ℕ) where
-    pub apart_first : r ≡ bit_value (ltb f (length wanted) && not (beq (atom_holds wanted f) false)) 1 → Apart wanted rest (found (setting_of atoms standing)) (left - 1) (apart + r)
-    apart_first step = half_apart f is false r step (setting_of atoms standing)
-        (λ m k. subst (λ (l : List Interpretation). m ∈ l) (sym (halves_are w bans t some i ei)) (Memᴰ.append_left _ k))
-        (λ m k. not_held (atom_holds m (get_or atoms i 0)) (group_lacks w bans (setting_of atoms standing) (turned_first w bans t some i ei).decided m k i (or_right denied (single i) i (single_has i small))))
+    pub apart_first : r ≡ bit_value (ltb f (length wanted) && not (beq (atom_holds wanted f) false)) 1 → Apart wanted (undecided atoms first.left) (models_left s first) first.left (apart + r)
+    apart_first step =
+        half_apart f is false r step first (ap (λ (h : Turn). h.left) e₁)
+        (λ m k. subst (λ (l : List Interpretation). m ∈ l) (sym (halves_are ready t some i ei e₁ e₂)) (Memᴰ.append_left _ k))
+        (λ m k. not_held (atom_holds m (get_or atoms i 0)) (group_lacks ready.table (plan_bans s.plan.now s.sizes.bans) (setting_of atoms first.standing) (turned_first ready t some i ei e₁ e₂).decided m k i
+        (subst (λ (x : ℕ). bit_of x i ≡ 1) (sym (ap (λ (h : Turn). h.denied) e₁)) (or_right turn.denied (2 ^ i) i (bit-same i)))))
 
-    pub apart_second : r ≡ bit_value (ltb f (length wanted) && not (beq (atom_holds wanted f) true)) 1 → Apart wanted rest (found (setting_of atoms (bit_or standing (single i)))) (left - 1) (apart + r)
-    apart_second step = half_apart f is true r step (setting_of atoms (bit_or standing (single i)))
-        (λ m k. subst (λ (l : List Interpretation). m ∈ l) (sym (halves_are w bans t some i ei)) (Memᴰ.append_right (found (setting_of atoms standing)) k))
-        (λ m k. passed (atom_holds m (get_or atoms i 0)) (group_has w bans (setting_of atoms (bit_or standing (single i))) (turned_second w bans t some i ei).decided m k i (or_right standing (single i) i (single_has i small))))
+    pub apart_second : r ≡ bit_value (ltb f (length wanted) && not (beq (atom_holds wanted f) true)) 1 → Apart wanted (undecided atoms second.left) (models_left s second) second.left (apart + r)
+    apart_second step =
+        half_apart f is true r step second (ap (λ (h : Turn). h.left) e₂)
+        (λ m k. subst (λ (l : List Interpretation). m ∈ l) (sym (halves_are ready t some i ei e₁ e₂)) (Memᴰ.append_right (models_left s first) k))
+        (λ m k. passed (atom_holds m (get_or atoms i 0)) (group_has ready.table (plan_bans s.plan.now s.sizes.bans) (setting_of atoms second.standing) (turned_second ready t some i ei e₁ e₂).decided m k i
+        (subst (λ (x : ℕ). bit_of x i ≡ 1) (sym (ap (λ (h : Turn). h.standing) e₂)) (or_right turn.standing (2 ^ i) i (bit-same i)))))
 
 -- a fact of the plan, as the code reads it
 pub atom_read : (plan : List ℕ) (g i : ℕ) → i < g → get_or plan i 0 ≡ get_or (plan_atoms plan g) i 0

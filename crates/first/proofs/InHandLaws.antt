@@ -16,6 +16,7 @@ use Rattle.insertion.proofs.SortedLaws.{insert_all-append}
 use Rattle.models.specs.StableModels.{Interpretation}
 use Rattle.models.specs.Listing.{record_size, record_of}
 use Rattle.models.proofs.RecordLaws.{record_length}
+use Rattle.std.specs.Prelude.{Option, Some, None}
 use Rattle.first.specs.declared.Held.{Held}
 use Rattle.first.specs.InHand.{far, closer, first_among, record_held, Outlined, InHand, Takes}
 
@@ -62,86 +63,73 @@ among-append wanted n xs ys hand =
     ∙ sym (ap (take 1) (insert_all-append (closer wanted n) xs ys hand))
 
 module _ (atoms : List ℕ) (sure : List Bool) (wanted : Interpretation) (n : ℕ) where
-  pub takes_none : (ms : List Interpretation) → ms ≡ [] → (held : Held) (part : List ℕ) → Takes atoms sure wanted n ms held part held part
+  pub takes_none : (ms : List Interpretation) → ms ≡ [] → (held : Option Held) (part : List ℕ) → Takes atoms sure wanted n ms held part held part
   takes_none ms e held part old hand h =
       subst (λ (l : List Interpretation). InHand atoms sure wanted n old l held part) (sym (among_none wanted n hand h.few) ∙ ap (λ (l : List Interpretation). first_among wanted n l hand) (sym e)) h
 
-  pub takes_both : (ms xs ys : List Interpretation) → ms ≡ xs ++ ys → {held held₁ held₂ : Held} {part part₁ part₂ : List ℕ}
+  pub takes_both : (ms xs ys : List Interpretation) → ms ≡ xs ++ ys → {held held₁ held₂ : Option Held} {part part₁ part₂ : List ℕ}
       → Takes atoms sure wanted n xs held part held₁ part₁ → Takes atoms sure wanted n ys held₁ part₁ held₂ part₂ → Takes atoms sure wanted n ms held part held₂ part₂
   takes_both ms xs ys e {held₂ = held₂} {part₂ = part₂} a b old hand h =
       subst (λ (l : List Interpretation). InHand atoms sure wanted n old l held₂ part₂) (among-append wanted n xs ys hand ∙ ap (λ (l : List Interpretation). first_among wanted n l hand) (sym e))
       (b old (first_among wanted n xs hand) (a old hand h))
 
-  pub takes_same : (ms ns : List Interpretation) → ms ≡ ns → {held held' : Held} {part part' : List ℕ} → Takes atoms sure wanted n ns held part held' part' → Takes atoms sure wanted n ms held part held' part'
+  pub takes_same : (ms ns : List Interpretation) → ms ≡ ns → {held held' : Option Held} {part part' : List ℕ} → Takes atoms sure wanted n ns held part held' part' → Takes atoms sure wanted n ms held part held' part'
   takes_same ms ns e {held} {held'} {part} {part'} a = subst (λ (l : List Interpretation). Takes atoms sure wanted n l held part held' part') (sym e) a
 
 -- ---- one model
-module _ (atoms : List ℕ) (sure : List Bool) (wanted : Interpretation) (n : ℕ) (m : Interpretation) (held : Held) (part : List ℕ) (d : ℕ) (far_is : d ≡ far wanted m) (stays : Bool)
-    (is : stays ≡ (held.found && bytes_before (held.distance ∷ part) (d ∷ record_of n m))) where
+-- its record, as the code takes it
+pub record_taken : (n w : ℕ) (m : Interpretation) (r : List ℕ) → w ≡ record_size n → take (record_size n) r ≡ record_of n m → (new : List ℕ) → new ≡ take w r → new ≡ record_of n m
+record_taken n w m r e f new is = is ∙ ap (λ (k : ℕ). take k r) e ∙ f
+
+module _ (atoms : List ℕ) (sure : List Bool) (wanted : Interpretation) (n : ℕ) (m : Interpretation) (part : List ℕ) (d : ℕ) (far_is : d ≡ far wanted m) where
   -- the order as the code reads it from what is in hand
-  read : {old : List ℕ} (b : Interpretation) → InHand atoms sure wanted n old (b ∷ []) held part → bytes_before (held.distance ∷ part) (d ∷ record_of n m) ≡ closer wanted n b m
+  read : {old : List ℕ} (held : Held) (b : Interpretation) → InHand atoms sure wanted n old (b ∷ []) (Some held) part → bytes_before (held.distance ∷ part) (d ∷ record_of n m) ≡ closer wanted n b m
   unfolding record_held
-  read b h =
-      ap₂ (λ (k : ℕ) (p : List ℕ). bytes_before (k ∷ p) (d ∷ record_of n m)) (h.known b (Memᴰ.head refl)).1 h.part_is
+  read held b h =
+      ap₂ (λ (k : ℕ) (p : List ℕ). bytes_before (k ∷ p) (d ∷ record_of n m)) h.held_is.1 h.part_is
       ∙ ap (λ (k : ℕ). bytes_before (far wanted b ∷ record_of n b) (k ∷ record_of n m)) far_is
 
-  both : (a b : Bool) → true ≡ (a && b) → (a ≡ true) × (b ≡ true)
-  both true true e = (refl, refl)
-  both true false e = absurd (false≢true (sym e))
-  both false b e = absurd (false≢true (sym e))
-
   -- it comes after the one in hand
-  pub takes_later : stays ≡ true → Takes atoms sure wanted n (m ∷ []) held part held part
+  stays_held : (held : Held) (stays : Bool) → stays ≡ bytes_before (held.distance ∷ part) (d ∷ record_of n m) → stays ≡ true → Takes atoms sure wanted n (m ∷ []) (Some held) part (Some held) part
   unfolding first_among insert_all insert_by insert_past record_held
-  takes_later y old hand h = go hand h
+  stays_held held stays is y old hand h = go hand h
     where
-      t : (held.found ≡ true) × (bytes_before (held.distance ∷ part) (d ∷ record_of n m) ≡ true)
-      t = both held.found (bytes_before (held.distance ∷ part) (d ∷ record_of n m)) (sym y ∙ is)
-
-      go : (hand : List Interpretation) → InHand atoms sure wanted n old hand held part → InHand atoms sure wanted n old (first_among wanted n (m ∷ []) hand) held part
-      go [] h = absurd (false≢true (sym h.found_is ∙ t.0))
-      go (b ∷ []) h = subst (λ (c : Bool). InHand atoms sure wanted n old (take 1 (insert_past c m b (m ∷ []) [])) held part) (sym (sym (read b h) ∙ t.1)) h
+      go : (hand : List Interpretation) → InHand atoms sure wanted n old hand (Some held) part → InHand atoms sure wanted n old (first_among wanted n (m ∷ []) hand) (Some held) part
+      go [] h = absurd h.held_is
+      go (b ∷ []) h = subst (λ (c : Bool). InHand atoms sure wanted n old (take 1 (insert_past c m b (m ∷ []) [])) (Some held) part) (sym (sym (read held b h) ∙ sym is ∙ y)) h
       go (b ∷ c ∷ hand) h = absurd (omega (arith, h.few))
+
+  pub takes_later : {held : Option Held} {kept : Held} → held ≡ Some kept → (stays : Bool) → stays ≡ bytes_before (kept.distance ∷ part) (d ∷ record_of n m) → stays ≡ true → Takes atoms sure wanted n (m ∷ []) held part (Some kept) part
+  takes_later {kept = kept} e stays is y = subst (λ (x : Option Held). Takes atoms sure wanted n (m ∷ []) x part (Some kept) part) (sym e) (stays_held kept stays is y)
 
   -- it does not: its record is the part
-  pub takes_first : stays ≡ false → (held' : Held) → (held'.found ≡ true) × (held'.distance ≡ d) × Outlined atoms sure m held' → length m ≡ n → (part' : List ℕ) → part' ≡ record_of n m → Takes atoms sure wanted n (m ∷ []) held part held' part'
-  unfolding first_among insert_all insert_by insert_past record_held
-  takes_first y held' f l part' e old hand h = go hand h
-    where
-      made : InHand atoms sure wanted n old (m ∷ []) held' part'
-      made = record { few = omega arith; found_is = f.0; part_is = e; known = λ x k. only x (Memᴰ.cases_cons k) }
-        where
-          only : (x : Interpretation) → (x ≡ m) ⊎ Memᴰ x [] → (length x ≡ n) × (held'.distance ≡ far wanted x) × Outlined atoms sure x held'
-          only x (inl q) = subst (λ (z : Interpretation). (length z ≡ n) × (held'.distance ≡ far wanted z) × Outlined atoms sure z held') (sym q) (l, f.1 ∙ far_is, f.2)
-          only x (inr q) = absurd (Memᴰ.not-nil q)
+  module _ (first : Held) (f : (first.distance ≡ d) × Outlined atoms sure m first) (l : length m ≡ n) (part' : List ℕ) (e : part' ≡ record_of n m) where
+    made : {old : List ℕ} → InHand atoms sure wanted n old (m ∷ []) (Some first) part'
+    unfolding record_held
+    made = record { few = omega arith; part_is = e; held_is = (l, f.0 ∙ far_is, f.1) }
 
-      go : (hand : List Interpretation) → InHand atoms sure wanted n old hand held part → InHand atoms sure wanted n old (first_among wanted n (m ∷ []) hand) held' part'
-      go [] h = made
-      go (b ∷ []) h =
-          let z : bytes_before (held.distance ∷ part) (d ∷ record_of n m) ≡ false = sym (ap (λ (c : Bool). c && bytes_before (held.distance ∷ part) (d ∷ record_of n m)) h.found_is) ∙ sym is ∙ y in
-          subst (λ (c : Bool). InHand atoms sure wanted n old (take 1 (insert_past c m b (m ∷ []) [])) held' part') (sym (sym (read b h) ∙ z)) made
-      go (b ∷ c ∷ hand) h = absurd (omega (arith, h.few))
+    goes_first : (held : Held) (stays : Bool) → stays ≡ bytes_before (held.distance ∷ part) (d ∷ record_of n m) → stays ≡ false → Takes atoms sure wanted n (m ∷ []) (Some held) part (Some first) part'
+    unfolding first_among insert_all insert_by insert_past
+    goes_first held stays is y old hand h = go hand h
+      where
+        go : (hand : List Interpretation) → InHand atoms sure wanted n old hand (Some held) part → InHand atoms sure wanted n old (first_among wanted n (m ∷ []) hand) (Some first) part'
+        go [] h = absurd h.held_is
+        go (b ∷ []) h = subst (λ (c : Bool). InHand atoms sure wanted n old (take 1 (insert_past c m b (m ∷ []) [])) (Some first) part') (sym (sym (read held b h) ∙ sym is ∙ y)) made
+        go (b ∷ c ∷ hand) h = absurd (omega (arith, h.few))
 
--- a record as wide as the part takes all of it
-pub whole_put : (n w : ℕ) (m : Interpretation) (r part : List ℕ) → w ≡ record_size n → take (record_size n) r ≡ record_of n m → length part ≡ record_size n
-    → take 0 part ++ (take (w - 0) (drop 0 r) ++ drop (0 + length (take (w - 0) (drop 0 r))) part) ≡ record_of n m
-whole_put n w m r part e f l =
-    let z : w - 0 ≡ record_size n = omega (arith, e) in
-    let q : take (w - 0) (drop 0 r) ≡ record_of n m = ap (λ (k : ℕ). take k r) z ∙ f in
-    rw q (ap (λ (p : List ℕ). record_of n m ++ p) (drop_of_length-le part {i = 0 + length (record_of n m)} (omega (arith, l, record_length n m))) ∙ append-nil (record_of n m))
+    takes_only : Takes atoms sure wanted n (m ∷ []) None part (Some first) part'
+    unfolding first_among insert_all insert_by insert_past
+    takes_only old hand h = go hand h
+      where
+        go : (hand : List Interpretation) → InHand atoms sure wanted n old hand None part → InHand atoms sure wanted n old (first_among wanted n (m ∷ []) hand) (Some first) part'
+        go [] h = made
+        go (b ∷ []) h = absurd h.held_is
+        go (b ∷ c ∷ hand) h = absurd (omega (arith, h.few))
 
-pub put_fits : (n w : ℕ) (m : Interpretation) (r part : List ℕ) → w ≡ record_size n → take (record_size n) r ≡ record_of n m → length part ≡ record_size n → 0 + length (take (w - 0) (drop 0 r)) ≤ length part
-put_fits n w m r part e f l =
-    let z : w - 0 ≡ record_size n = omega (arith, e) in
-    omega (arith, l, record_length n m, ap length (ap (λ (k : ℕ). take k r) z ∙ f))
+    pub takes_first : {held : Option Held} {kept : Held} → held ≡ Some kept → (stays : Bool) → stays ≡ bytes_before (kept.distance ∷ part) (d ∷ record_of n m) → stays ≡ false → Takes atoms sure wanted n (m ∷ []) held part (Some first) part'
+    takes_first {kept = kept} e stays is y = subst (λ (x : Option Held). Takes atoms sure wanted n (m ∷ []) x part (Some first) part') (sym e) (goes_first kept stays is y)
 
--- ---- a setting's model, if there is one
-module _ (atoms : List ℕ) (sure : List Bool) (wanted : Interpretation) (n : ℕ) (ms : List Interpretation) (ok : Bool) (m : Interpretation) (is : ms ≡ cons_if ok m []) where
-  pub takes_found : ok ≡ true → (k : ℕ) → k ≡ n → {held held' : Held} {part part' : List ℕ} → Takes atoms sure wanted k (m ∷ []) held part held' part' → Takes atoms sure wanted n ms held part held' part'
-  unfolding cons_if
-  takes_found y k ek {held} {held'} {part} {part'} b =
-      takes_same atoms sure wanted n ms (m ∷ []) (is ∙ ap (λ (c : Bool). cons_if c m []) y) (subst (λ (x : ℕ). Takes atoms sure wanted x (m ∷ []) held part held' part') ek b)
-
-  pub takes_missed : ok ≡ false → (held : Held) (part : List ℕ) → Takes atoms sure wanted n ms held part held part
-  unfolding cons_if
-  takes_missed y held part = takes_none atoms sure wanted n ms (is ∙ ap (λ (c : Bool). cons_if c m []) y) held part
+    -- nothing is in hand
+    pub takes_new : (held : Option Held) → ((kept : Held) → held ≡ Some kept → ⊥) → Takes atoms sure wanted n (m ∷ []) held part (Some first) part'
+    takes_new None none = takes_only
+    takes_new (Some kept) none = absurd (none kept refl)

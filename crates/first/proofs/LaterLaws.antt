@@ -30,6 +30,7 @@ use Rattle.leaf.specs.Searchable.{Searchable}
 use Rattle.leaf.proofs.FoundLaws.{found_decided}
 use Rattle.search.specs.Decided.{DecidedAt, Decided}
 use Rattle.search.proofs.AllowedLaws.{barred-formed, barred-listed, barred-size}
+use Rattle.std.specs.Prelude.{Option, Some, None, MatchOption}
 use Rattle.first.specs.declared.Held.{Held}
 use Rattle.first.specs.InHand.{far, closer, first_among, Sure, Known, Outlined, InHand, Takes, Apart, SameBefore, Later, at_a_fact, at_the_end, Behind, farther, as_far}
 use Rattle.first.proofs.LowestLaws.{Lowest, lowest, xor_same, xor_first}
@@ -213,11 +214,15 @@ module _ {book rows atoms : List ℕ} {n : ℕ} (w : Searchable book rows atoms 
         go (farther h) = inl (closer_by_distance wanted n b v.0 m size' (omega (arith, v.1, at_least)))
         go (as_far h later) = not-later wanted n b v.0 m size' (omega (arith, v.1, at_least)) (never-before v.2 standing m (group_has m k) (certain.stands m (decided_model m k).0) later)
 
-    pub takes_skipped : (held : Held) → held.found ≡ true → Behind held standing apart → (part : List ℕ) → Takes atoms sure wanted n group held part held part
-    takes_skipped held f behind part old hand h = go hand h
+    skips : (held : Held) → Behind held standing apart → (part : List ℕ) → Takes atoms sure wanted n group (Some held) part (Some held) part
+    skips held behind part old hand h = go hand h
       where
-        go : (hand : List Interpretation) → InHand atoms sure wanted n old hand held part → InHand atoms sure wanted n old (first_among wanted n group hand) held part
-        go [] h = absurd (false≢true (sym h.found_is ∙ f))
+        go : (hand : List Interpretation) → InHand atoms sure wanted n old hand (Some held) part → InHand atoms sure wanted n old (first_among wanted n group hand) (Some held) part
+        go [] h = absurd h.held_is
         go (b ∷ []) h =
-            subst (λ (l : List Interpretation). InHand atoms sure wanted n old l held part) (sym (none_first wanted n b group (not_after (h.known b (Memᴰ.head refl)) behind))) h
+            subst (λ (l : List Interpretation). InHand atoms sure wanted n old l (Some held) part) (sym (none_first wanted n b group (not_after h.held_is behind))) h
         go (b ∷ c ∷ hand) h = absurd (omega (arith, h.few))
+
+    pub takes_skipped : (held : Option Held) (r : Bool) → MatchOption held (r ≡ false) (λ kept. r ≡ true → Behind kept standing apart) → r ≡ true → (part : List ℕ) → Takes atoms sure wanted n group held part held part
+    takes_skipped None r told e part = absurd (false≢true (sym told ∙ e))
+    takes_skipped (Some kept) r told e part = skips kept (told e) part

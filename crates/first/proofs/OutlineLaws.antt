@@ -125,13 +125,9 @@ module _ {book rows atoms : List ℕ} {n : ℕ} (w : Searchable book rows atoms 
       let s : SetAt atoms standing (length atoms) (get_or atoms i 0) = stands_at atoms standing (get_or atoms i 0) low (subst T (v.2 (get_or atoms i 0) inside) t) in
       subst (λ (x : ℕ). bit_of standing x ≡ 1) (once_at atoms (listed-once w) s.place i s.before h s.atom_is) s.bit
 
-  module _ (ok : Bool) (m : Interpretation) (e : at_setting B atoms (setting_of atoms standing) ≡ cons_if ok m []) (y : ok ≡ true) where
+  module _ (m : Interpretation) (e : at_setting B atoms (setting_of atoms standing) ≡ m ∷ []) where
     found_in : m ∈ at_setting B atoms (setting_of atoms standing)
-    unfolding cons_if
-    found_in = subst (λ (l : List Interpretation). m ∈ l) (sym (e ∙ ap (λ (c : Bool). cons_if c m []) y)) (Memᴰ.head refl)
+    found_in = subst (λ (l : List Interpretation). m ∈ l) (sym e) (Memᴰ.head refl)
 
     pub found_has : StandingHas atoms m standing
     found_has = setting_has m found_in
-
-    pub found_size : length m ≡ n
-    found_size = (setting_from B (barred-formed w bans) (setting_of atoms standing) m (subst (λ (l : List ℕ). m ∈ at_setting B l (setting_of atoms standing)) (barred-listed w bans) found_in)).0 ∙ sym (barred-size w bans)

@@ -56,30 +56,32 @@ module _ (n : ℕ) (m : Interpretation) (part : List ℕ) (size : length part �
     part_at : get_or part (0 + j) 0 ≡ get_or part j 0
     part_at = let z : 0 + j ≡ j = omega arith in ap (λ (i : ℕ). get_or part i 0) z
 
-    pub precedes_here : get_or part j 0 < byte → true ≡ bytes_before part rec
+    precedes_here : get_or part j 0 < byte → true ≡ bytes_before part rec
     precedes_here l = sym (f ∙ subst (λ (a : List ℕ). bytes_before (drop j a) (drop j rec) ≡ true) whole (before_here part rec 0 j low (omega (arith, wide)) (omega (arith, part_at, byte_at))))
 
-    pub follows_here : byte < get_or part j 0 → false ≡ bytes_before part rec
+    follows_here : byte < get_or part j 0 → false ≡ bytes_before part rec
     follows_here l = sym (f ∙ subst (λ (a : List ℕ). bytes_before (drop j a) (drop j rec) ≡ false) whole (not-before_here part rec 0 j low (omega (arith, wide)) (omega (arith, part_at, byte_at))))
 
-    pub goes_on : byte ≤ get_or part j 0 → get_or part j 0 ≤ byte → From n m part (j + 1)
-    goes_on l k =
+    -- where the bytes differ they decide
+    pub decides_here : (get_or part j 0 ≡ byte → ⊥) → ltb (get_or part j 0) byte ≡ bytes_before part rec
+    decides_here d = go (dec_lt (get_or part j 0) byte)
+      where
+        go : Dec (get_or part j 0 < byte) → ltb (get_or part j 0) byte ≡ bytes_before part rec
+        go (yes l) = lt-ltb (get_or part j 0) byte l ∙ precedes_here l
+        go (no l) = le-ltb (get_or part j 0) byte (omega arith) ∙ follows_here (omega arith)
+
+    pub goes_on : get_or part j 0 ≡ byte → From n m part (j + 1)
+    goes_on k =
         f ∙ subst (λ (a : List ℕ). bytes_before (drop j a) (drop j rec) ≡ bytes_before (drop (j + 1) a) (drop (j + 1) rec)) whole
         (before-later part rec 0 j low (omega (arith, wide)) (omega (arith, part_at, byte_at)) (omega (arith, part_at, byte_at)))
 
 -- ---- with the distances in front
-module _ (found : Bool) (d e : ℕ) (part rec : List ℕ) where
-  pub none_stays : not found ≡ true → false ≡ (found && bytes_before (d ∷ part) (e ∷ rec))
-  none_stays h = sym (ap (λ (c : Bool). c && bytes_before (d ∷ part) (e ∷ rec)) (not-true found h))
+module _ (d e : ℕ) (part rec : List ℕ) where
+  pub stays_as_far : d ≡ e → (r : Bool) → r ≡ bytes_before part rec → r ≡ bytes_before (d ∷ part) (e ∷ rec)
+  stays_as_far k r q = q ∙ sym (before_by_rest d e part rec k)
 
-  held : not found ≡ false → (found && bytes_before (d ∷ part) (e ∷ rec)) ≡ bytes_before (d ∷ part) (e ∷ rec)
-  held h = ap (λ (c : Bool). c && bytes_before (d ∷ part) (e ∷ rec)) (not-false found h)
-
-  pub stays_as_far : not found ≡ false → d ≡ e → (r : Bool) → r ≡ bytes_before part rec → r ≡ (found && bytes_before (d ∷ part) (e ∷ rec))
-  stays_as_far h k r q = q ∙ sym (held h ∙ before_by_rest d e part rec k)
-
-  pub stays_by_distance : not found ≡ false → (d ≡ e → ⊥) → ltb d e ≡ (found && bytes_before (d ∷ part) (e ∷ rec))
-  stays_by_distance h k = go (dec_lt d e) ∙ sym (held h)
+  pub stays_by_distance : (d ≡ e → ⊥) → ltb d e ≡ bytes_before (d ∷ part) (e ∷ rec)
+  stays_by_distance k = go (dec_lt d e)
     where
       go : Dec (d < e) → ltb d e ≡ bytes_before (d ∷ part) (e ∷ rec)
       go (yes l) = lt-ltb d e l ∙ sym (before_by_first d e part rec l)

@@ -1,6 +1,6 @@
 -- The search for the state that is closest to a wanted one, and of equals the first: what is in hand while it goes on, and what the models
 -- that it meets make of it. Where nothing is wanted, the wanted state has no facts, so that all are equally close. Assumes nothing.
-use Rattle.std.specs.Prelude.{◌≡◌, ◌⊎◌, Bool, true, ◌&&◌, ℕ, ◌+◌, ◌<◌, ◌≤◌, T, ltb, length, get_or, take}
+use Rattle.std.specs.Prelude.{◌≡◌, ◌⊎◌, Bool, true, ◌&&◌, ℕ, ◌+◌, ◌<◌, ◌≤◌, T, ltb, length, get_or, take, Option, Some, None}
 use mathlib.Core.List.{List, [], ◌∷◌, Memᴰ}
 use Rattle.base.specs.Bounds.{max_atoms, max_branching}
 use Rattle.base.specs.Lists.{filter}
@@ -63,15 +63,20 @@ pub record Outlined (atoms : List ℕ) (sure : List Bool) (m : Interpretation) (
   pub ahead_in : (i : ℕ) → bit_of held.ahead i ≡ 1 → (i < length atoms) × ((f : ℕ) → f < get_or atoms i 0 → T (atom_holds m f) → Known atoms sure held.ahead i f)
   pub alone_in : held.alone ≡ true → (f : ℕ) → T (atom_holds m f) → Known atoms sure held.ahead (length atoms) f
 
+-- what is kept of the state in hand, if there is one
+abbrev pub HeldOf : List ℕ → List Bool → Interpretation → ℕ → List Interpretation → Option Held → Type 0
+HeldOf atoms sure wanted n [] None = Unit {0}
+HeldOf atoms sure wanted n (m ∷ []) (Some held) = (length m ≡ n) × (held.distance ≡ far wanted m) × Outlined atoms sure m held
+HeldOf atoms sure wanted n _ _ = ⊥
+
 -- at most one state is in hand, its record is the part, and its distance and its outline are kept
-pub record InHand (atoms : List ℕ) (sure : List Bool) (wanted : Interpretation) (n : ℕ) (old : List ℕ) (hand : List Interpretation) (held : Held) (part : List ℕ) : Type 0 where
+pub record InHand (atoms : List ℕ) (sure : List Bool) (wanted : Interpretation) (n : ℕ) (old : List ℕ) (hand : List Interpretation) (held : Option Held) (part : List ℕ) : Type 0 where
   pub few : length hand ≤ 1
-  pub found_is : held.found ≡ ltb 0 (length hand)
   pub part_is : part ≡ record_held n hand old
-  pub known : (m : Interpretation) → Memᴰ m hand → (length m ≡ n) × (held.distance ≡ far wanted m) × Outlined atoms sure m held
+  pub held_is : HeldOf atoms sure wanted n hand held
 
 -- Whatever was in hand, the first of it and of these models is in hand afterwards. It says nothing of which models were looked at.
-abbrev pub Takes : List ℕ → List Bool → Interpretation → ℕ → List Interpretation → Held → List ℕ → Held → List ℕ → Type 0
+abbrev pub Takes : List ℕ → List Bool → Interpretation → ℕ → List Interpretation → Option Held → List ℕ → Option Held → List ℕ → Type 0
 Takes atoms sure wanted n ms held part held' part' =
     (old : List ℕ) (hand : List Interpretation) → InHand atoms sure wanted n old hand held part → InHand atoms sure wanted n old (first_among wanted n ms hand) held' part'
 

@@ -1,20 +1,16 @@
 -- One fact is compared, where the wanted state has it.
-use lib.ListN.{length}
+use Rattle.std.proofs.Common.{refl, ◌∙◌}
+use borrow.Author.Tests.{lt-ltb, le-ltb}
 use Rattle.models.specs.StableModels.{atom_holds}
-use Rattle.first.proofs.ApartLaws.{step_one, step-none, step_past}
-use native.Mathlib.Omega.{arith}
+use Rattle.models.specs.Listing.{bit_value}
+use Rattle.first.proofs.ApartLaws.{bit_byte}
 use Rattle.first.proofs.step_apart.Goals as goal
+use Rattle.first.proofs.step_apart.Goals.{then-f-wanted, else-f-wanted}
 
-pub returns-then-wanted-f : goal.returns-then-wanted-f
+pub returns : goal.returns
 unfolding atom_holds
-returns-then-wanted-f c =
-    step_one c.args.f (length c.args.wanted.now) _ c.if-f-wanted.true c.if-wanted-f.true
-
-pub returns-else-wanted-f : goal.returns-else-wanted-f
-unfolding atom_holds
-returns-else-wanted-f c =
-    step-none c.args.f (length c.args.wanted.now) _ c.if-wanted-f.false
-
-pub returns-else-f-wanted : goal.returns-else-f-wanted
-returns-else-f-wanted c =
-    step_past c.args.f (length c.args.wanted.now) _ (omega (arith, c.if-f-wanted.false))
+returns c =
+    c.from.ensures ∙ elim c.if-f-wanted.branch [
+      | then-f-wanted w ↦ rw (w.from-is, lt-ltb _ _ w.if-f-wanted.true) (bit_byte _)
+      | else-f-wanted w ↦ rw (w.from-is, le-ltb _ _ w.if-f-wanted.false) (bit_byte _)
+    ]

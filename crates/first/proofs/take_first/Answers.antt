@@ -1,29 +1,18 @@
--- The state met leaves the one in hand (`takes_later`) or takes its place (`takes_first`).
-use mathlib.Core.Path.{refl, ◌∙◌}
-use lib.ListN.{length}
-use Rattle.first.proofs.InHandLaws.{takes_later, takes_first, put_fits, whole_put}
+-- The state met leaves the one in hand (`takes_later`) or takes its place (`takes_first`, `takes_new`).
+use Rattle.std.proofs.Common.{refl, ap, ◌∙◌, ◌≡◌, length}
+use Rattle.models.specs.Listing.{record_of}
+use Rattle.first.proofs.InHandLaws.{takes_later, takes_first, takes_new, record_taken}
 use Rattle.first.proofs.take_first.Goals as goal
-
-pub distance-d-requires : goal.distance-d-requires
-distance-d-requires c =
-    (c.requires.m_len_bound.3, c.requires.m_len_bound.0)
-
-pub stays-requires : goal.stays-requires
-stays-requires c =
-    (c.requires.m_len_bound.0, c.requires.part_len)
+use Rattle.first.proofs.take_first.Goals.{in-Some+else-stays, in_default}
 
 pub returns-then-stays : goal.returns-then-stays
 returns-then-stays c =
-    takes_later c.args.atoms.now c.args.sure.now c.args.wanted.now (length c.args.m.now) _ c.args.held c.args.part.now c.distance-d.result c.distance-d.ensures c.stays.result c.stays.ensures c.if-stays.true
-
-pub put_record-requires : goal.put_record-requires
-put_record-requires c =
-    put_fits (length c.args.m.now) c.record_size-w.result c.args.m.now c.record_of-rec.result c.args.part.now c.record_size-w.ensures.0 c.record_of-rec.ensures c.requires.part_len
-
-pub outline-requires : goal.outline-requires
-outline-requires c =
-    record { m_len_bound = (c.requires.m_len_bound.0, c.requires.m_len_bound.1, c.requires.m_len_bound.2); standing_has = c.requires.standing_has }
+    takes_later c.args.atoms.now c.args.wish.now.sure.now c.args.wish.now.wanted.now _ c.args.m.now c.args.part.now c.distance-d.result c.distance-d.ensures c.in-Some.is c.stays.result c.stays.ensures c.if-stays.true
 
 pub returns : goal.returns
 returns c =
-    takes_first c.args.atoms.now c.args.sure.now c.args.wanted.now (length c.args.m.now) _ c.args.held c.args.part.now c.distance-d.result c.distance-d.ensures c.stays.result c.stays.ensures c.if-stays.false _ c.outline.ensures refl _ (c.put_record.ensures ∙ whole_put (length c.args.m.now) c.record_size-w.result c.args.m.now c.record_of-rec.result c.args.part.now c.record_size-w.ensures.0 c.record_of-rec.ensures c.requires.part_len)
+    let e : c.copy_from_slice.new.self ≡ record_of (length c.args.m.now) c.args.m.now = record_taken _ c.record_size-w.result _ _ c.record_size-w.ensures.0 c.record_of-rec.ensures _ c.copy_from_slice.ensures.after in
+    elim c.match-held.branch [
+      | in-Some+else-stays w ↦ takes_first c.args.atoms.now c.args.wish.now.sure.now c.args.wish.now.wanted.now _ c.args.m.now c.args.part.now c.distance-d.result c.distance-d.ensures _ c.outline.ensures refl _ e w.in-Some.is w.stays.result w.stays.ensures w.if-stays.false
+      | in_default w ↦ takes_new c.args.atoms.now c.args.wish.now.sure.now c.args.wish.now.wanted.now _ c.args.m.now c.args.part.now c.distance-d.result c.distance-d.ensures _ c.outline.ensures refl _ e c.args.held w.in_default.not-Some
+    ]

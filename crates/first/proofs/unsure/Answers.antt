@@ -1,5 +1,5 @@
 -- A fact that stands is looked up among those that are sure.
-use mathlib.Core.Path.{subst}
+use Rattle.std.proofs.Common.{subst}
 use lib.Dec.{T}
 use Rattle.first.proofs.OutlineLaws.{not_unsure}
 use Rattle.models.specs.StableModels.{atom_holds}
@@ -10,7 +10,7 @@ unfolding atom_holds
 returns-then-m-f c =
     λ e t. not_unsure (atom_holds c.args.sure.now c.args.f) e
 
-pub returns : goal.returns
+pub returns-else-m-f : goal.returns-else-m-f
 unfolding atom_holds
-returns c =
-    λ e t. absurd (subst T c.if-m-f.false t)
+returns-else-m-f c =
+    λ e t. absurd (subst T e t)
