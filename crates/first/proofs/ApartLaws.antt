@@ -35,6 +35,8 @@ use Rattle.search.proofs.TurnLaws.{atoms-count, turned_first, turned_second, hal
 use Rattle.first.specs.Nearest.{differs, distance}
 use Rattle.first.specs.InHand.{far, apart_at, Apart}
 use Rattle.first.proofs.LaterLaws.{group_has, group_lacks}
+use Rattle.table.specs.declared.Row.{Row}
+use Rattle.table.specs.declared.Span.{Span}
 
 -- ---- counting
 count_cons : {A : Type 0} (p : A → Bool) (x : A) (xs : List A) → length (filter p (x ∷ xs)) ≡ bit_value (p x) 1 + length (filter p xs)
@@ -130,7 +132,7 @@ step_small r b e = omega (arith, e, bit_le b)
 
 -- ---- what the decided facts say
 -- nothing is decided at first
-module _ {book rows atoms : List ℕ} {n : ℕ} (w : Searchable book rows atoms n) (bans : List ℕ) (wanted : Interpretation) (low : length wanted ≤ n) where
+module _ {book : List ℕ} {rows : List Row} {atoms : List ℕ} {n : ℕ} (w : Searchable book rows atoms n) (bans : List Span) (wanted : Interpretation) (low : length wanted ≤ n) where
   branching-apart : (m : Interpretation) → apart_at wanted m atoms ≤ far wanted m
   unfolding apart_at distance branching_atoms
   branching-apart m =

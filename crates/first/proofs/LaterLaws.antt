@@ -35,6 +35,8 @@ use Rattle.first.specs.declared.Held.{Held}
 use Rattle.first.specs.InHand.{far, closer, first_among, Sure, Known, Outlined, InHand, Takes, Apart, SameBefore, Later, at_a_fact, at_the_end, Behind, farther, as_far}
 use Rattle.first.proofs.LowestLaws.{Lowest, lowest, xor_same, xor_first}
 use Rattle.first.proofs.InHandLaws.{insert_all_first}
+use Rattle.table.specs.declared.Row.{Row}
+use Rattle.table.specs.declared.Span.{Span}
 
 -- ---- the test by masks
 pub not-zero : (x : ℕ) → not (eqb x 0) ≡ true → x ≡ 0 → ⊥
@@ -179,7 +181,7 @@ module _ (wanted : Interpretation) (n : ℕ) (b : Interpretation) where
         go (no l) (inr (inr p)) = absurd (f p)
 
 -- ---- the models of a group
-module _ {book rows atoms : List ℕ} {n : ℕ} (w : Searchable book rows atoms n) (bans : List ℕ) {undecided : List ℕ} (o : Interpretation) {standing denied : ℕ} (s : Decided atoms undecided o standing denied) where
+module _ {book : List ℕ} {rows : List Row} {atoms : List ℕ} {n : ℕ} (w : Searchable book rows atoms n) (bans : List Span) {undecided : List ℕ} (o : Interpretation) {standing denied : ℕ} (s : Decided atoms undecided o standing denied) where
   abbrev B : Program
   B = barred book rows bans n
 

@@ -32,6 +32,8 @@ use Rattle.search.proofs.AllowedLaws.{barred-formed, barred-listed, barred-size}
 use Rattle.search.proofs.QuickLaws.{listed-once}
 use Rattle.first.specs.declared.Held.{Held}
 use Rattle.first.specs.InHand.{Known, StandingHas, Outlined}
+use Rattle.table.specs.declared.Row.{Row}
+use Rattle.table.specs.declared.Span.{Span}
 
 -- i branching facts and f facts are passed
 pub record OutlinedTo (atoms : List ℕ) (sure : List Bool) (m : Interpretation) (ahead i f : ℕ) : Type 0 where
@@ -112,7 +114,7 @@ once_at (x ∷ xs) o zero (suc j) h k e = absurd (o.0 (subst (λ (y : ℕ). y �
 once_at (x ∷ xs) o (suc i) zero h k e = absurd (o.0 (subst (λ (y : ℕ). y ∈ xs) e (get_d_member xs i 0 (omega arith))))
 once_at (x ∷ xs) o (suc i) (suc j) h k e = ap suc (once_at xs o.1 i j (omega arith) (omega arith) e)
 
-module _ {book rows atoms : List ℕ} {n : ℕ} (w : Searchable book rows atoms n) (bans : List ℕ) (standing : ℕ) where
+module _ {book : List ℕ} {rows : List Row} {atoms : List ℕ} {n : ℕ} (w : Searchable book rows atoms n) (bans : List Span) (standing : ℕ) where
   abbrev B : Program
   B = barred book rows bans n
 

@@ -21,13 +21,15 @@ use Rattle.leaf.specs.Searchable.{Searchable}
 use Rattle.search.proofs.AllowedLaws.{barred-size, barred_model}
 use Rattle.search.proofs.RejectableLaws.{never-rejected}
 use Rattle.first.specs.InHand.{Sure, SureOf}
+use Rattle.table.specs.declared.Row.{Row}
+use Rattle.table.specs.declared.Span.{Span}
 
 -- nothing is marked
 unmarked : (k f : ℕ) → T (atom_holds (replicate k false) f) → ⊥
 unfolding atom_holds
 unmarked k f t = subst T (constant_at false k f) t
 
-module _ {book rows atoms : List ℕ} {n : ℕ} (w : Searchable book rows atoms n) {rejectable : List ℕ} (q : Rejectable rows rejectable (row_count rows)) (k : ℕ) (m : Interpretation) where
+module _ {book : List ℕ} {rows : List Row} {atoms : List ℕ} {n : ℕ} (w : Searchable book rows atoms n) {rejectable : List ℕ} (q : Rejectable rows rejectable (row_count rows)) (k : ℕ) (m : Interpretation) where
   abbrev P : Program
   P = tabled book rows n
 
@@ -54,9 +56,9 @@ module _ {book rows atoms : List ℕ} {n : ℕ} (w : Searchable book rows atoms 
       let y : FollowsFrom book rows rejectable (replicate k false) (positive f) = x.sound (positive f) t in
       (sm.exact (positive f) (follows-low (positive f) y)).0 (follows_derived (positive f) y)
 
-pub sure_of : (book rows rejectable : List ℕ) → Rejectable rows rejectable (row_count rows) → (k : ℕ) (start : List Bool) → start ≡ replicate k false → (p o : List Bool) (conflict : Bool) → Fills book rows rejectable start p o conflict → SureOf book rows p
+pub sure_of : (book : List ℕ) (rows : List Row) (rejectable : List ℕ) → Rejectable rows rejectable (row_count rows) → (k : ℕ) (start : List Bool) → start ≡ replicate k false → (p o : List Bool) (conflict : Bool) → Fills book rows rejectable start p o conflict → SureOf book rows p
 sure_of book rows rejectable q k start e p o conflict x = record { stands = λ atoms n w m sm f t. sure_stands w q k m (subst (λ (s : List Bool). Fills book rows rejectable s p o conflict) e x) sm f t }
 
 -- with constraints there are no other stable models
-pub sure_barred : {book rows atoms : List ℕ} {n : ℕ} → Searchable book rows atoms n → (bans : List ℕ) {sure : List Bool} → length sure ≡ n → SureOf book rows sure → Sure (barred book rows bans n) sure
+pub sure_barred : {book : List ℕ} {rows : List Row} {atoms : List ℕ} {n : ℕ} → Searchable book rows atoms n → (bans : List Span) {sure : List Bool} → length sure ≡ n → SureOf book rows sure → Sure (barred book rows bans n) sure
 sure_barred {atoms = atoms} {n = n} w bans l s = record { size = l ∙ barred-size w bans; stands = λ m sm f t. s.stands atoms n w m (barred_model w bans m sm) f t }

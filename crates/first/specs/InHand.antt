@@ -14,6 +14,7 @@ use Rattle.table.specs.Tabled.{tabled}
 use Rattle.leaf.specs.Searchable.{Searchable}
 use Rattle.first.specs.declared.Held.{Held}
 use Rattle.first.specs.Nearest.{differs, distance}
+use Rattle.table.specs.declared.Row.{Row}
 
 -- the distance to a wanted state, over the facts that it has
 abbrev pub far : Interpretation → Interpretation → ℕ
@@ -38,7 +39,7 @@ pub record Sure (P : Program) (sure : List Bool) : Type 0 where
   pub stands : (m : Interpretation) → StableModel P m → (f : ℕ) → T (atom_holds sure f) → T (atom_holds m f)
 
 -- of the rules of a table, whatever the constraints are
-pub record SureOf (book rows : List ℕ) (sure : List Bool) : Type 0 where
+pub record SureOf (book : List ℕ) (rows : List Row) (sure : List Bool) : Type 0 where
   pub stands : (atoms : List ℕ) (n : ℕ) → Searchable book rows atoms n → (m : Interpretation) → StableModel (tabled book rows n) m → (f : ℕ) → T (atom_holds sure f) → T (atom_holds m f)
 
 -- f is one of the first k branching facts, and its bit is ahead

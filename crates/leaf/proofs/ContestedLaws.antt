@@ -14,8 +14,9 @@ use Rattle.table.specs.Names.{literal_named}
 use Rattle.table.specs.Rows.{head_name, row_at, alive}
 use Rattle.table.proofs.NameLaws.{name_low, name-high}
 use Rattle.leaf.specs.Contested.{Answered, Uncontested}
+use Rattle.table.specs.declared.Row.{Row}
 
-module _ {book rows rejects : List ℕ} {m : Interpretation} where
+module _ {book : List ℕ} {rows : List Row} {rejects : List ℕ} {m : Interpretation} where
   -- one row on, where row j is not contested
   module _ {q : List Bool} {j : ℕ} (w : Uncontested book rows rejects m q j) where
     uncontested_more : (alive rejects (row_at book rows j) ≡ false → T (body_holds m (row_at book rows j)) → Answered m q (row_at book rows j).head) → Uncontested book rows rejects m q (j + 1)

@@ -23,6 +23,7 @@ use Rattle.insertion.proofs.SortedLaws.{get_d_member}
 use Rattle.leaf.proofs.UncontestedLaws.{follows_wider}
 use Rattle.leaf.specs.Searchable.{Searchable, Denied, Undisputed, Covered, denies_any, reaches_denied, Joined, Begun}
 use Rattle.leaf.proofs.ModelLaws.{setting_start, covered_start, covered_more}
+use Rattle.table.specs.declared.Row.{Row}
 
 -- ---- whether a denied fact passes a test
 and-off : (a b : Bool) → b ≡ false → (a && b) ≡ false
@@ -101,10 +102,10 @@ module _ (atoms : List ℕ) (start q : List Bool) where
 
 -- ---- the filling from all of the start
 -- what was reached from a part of it
-pub early_begun : {book rows rejects : List ℕ} {start assumed : List Bool} → Undisputed rejects start assumed → {p q : List Bool} {c : Bool} → Fills book rows rejects assumed p q c → c ≡ false → Begun book rows rejects start p q
+pub early_begun : {book : List ℕ} {rows : List Row} {rejects : List ℕ} {start assumed : List Bool} → Undisputed rejects start assumed → {p q : List Bool} {c : Bool} → Fills book rows rejects assumed p q c → c ≡ false → Begun book rows rejects start p q
 early_begun u filled e = record { sound = λ l t. follows_wider u.among l (filled.sound l t); apart = filled.apart e }
 
-module _ {book rows rejects : List ℕ} {start p q : List Bool} (b : Begun book rows rejects start p q) {atoms : List ℕ} {o : Interpretation} (d : Denied atoms o start) (r : Bool) (er : r ≡ reaches_denied atoms start p) where
+module _ {book : List ℕ} {rows : List Row} {rejects : List ℕ} {start p q : List Bool} (b : Begun book rows rejects start p q) {atoms : List ℕ} {o : Interpretation} (d : Denied atoms o start) (r : Bool) (er : r ≡ reaches_denied atoms start p) where
   -- a denied fact that is reached follows both ways
   pub denied_conflict : {n : ℕ} → Searchable book rows atoms n → r ≡ true → Conflict book rows rejects start
   unfolding reaches_denied literal_marked

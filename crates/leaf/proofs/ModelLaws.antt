@@ -45,6 +45,7 @@ use Rattle.setting.proofs.SettingLaws.{SetAt, stands_at, at_stands}
 use Rattle.leaf.specs.Found.{agree_on, fits, at_setting}
 use Rattle.leaf.specs.Searchable.{Searchable, Choices, Denied, denied_of, Undisputed, Covered, Early, OnlyState}
 use Rattle.leaf.proofs.FoundLaws.{branching-listed, branching-small, branching-once, setting_is, setting_none}
+use Rattle.table.specs.declared.Row.{Row}
 
 -- ---- the setting of a mask, and what it denies
 index_of : (l : List ℕ) (f : ℕ) → f ∈ l → (k : ℕ) × (k < length l) × (get_or l k 0 ≡ f)
@@ -199,7 +200,7 @@ module _ (atoms : List ℕ) (m o : Interpretation) where
   agree_end i h w = sym (w ∙ ap (λ (l : List ℕ). agree_on l m o) (drop_of_length-le atoms {i = i} h))
 
 -- ---- what is rejected: interpretations that agree on the branching atoms reject the same rules
-module _ {P : Program} {book rows : List ℕ} (lw : WellFormed P) (table : Tabulates P book rows) where
+module _ {P : Program} {book : List ℕ} {rows : List Row} (lw : WellFormed P) (table : Tabulates P book rows) where
   -- all atoms of a row that overrides a rule branch
   body_same : (m o : Interpretation) → ((f : ℕ) → T (branching P f) → atom_holds m f ≡ atom_holds o f) → (j i : ℕ) → j < row_count rows → bit_of (overridden rows j) i ≡ 1 → T (body_holds m (row_at book rows j)) → T (body_holds o (row_at book rows j))
   unfolding body_holds holds can_reject
@@ -218,7 +219,7 @@ module _ {P : Program} {book rows : List ℕ} (lw : WellFormed P) (table : Tabul
   }
 
 -- ---- the model
-module _ {book rows atoms : List ℕ} {n : ℕ} (w : Searchable book rows atoms n) (o : Interpretation) where
+module _ {book : List ℕ} {rows : List Row} {atoms : List ℕ} {n : ℕ} (w : Searchable book rows atoms n) (o : Interpretation) where
   abbrev P : Program
   P = tabled book rows n
 
@@ -303,7 +304,7 @@ module _ {book rows atoms : List ℕ} {n : ℕ} (w : Searchable book rows atoms 
                 (er (not-true r tr)) (tabled-free book rows n)
 
 -- ---- the filling from the undisputed part of the start
-module _ {book rows rejects : List ℕ} {start assumed : List Bool} (u : Undisputed rejects start assumed) {p q : List Bool} {c : Bool} (filled : Fills book rows rejects assumed p q c) where
+module _ {book : List ℕ} {rows : List Row} {rejects : List ℕ} {start assumed : List Bool} (u : Undisputed rejects start assumed) {p q : List Bool} {c : Bool} (filled : Fills book rows rejects assumed p q c) where
   -- a conflict from the part is one from all of it
   pub early_conflict : c ≡ true → Conflict book rows rejects start
   early_conflict e = (fills_wider u.among filled (λ f. absurd (true≢false (sym e ∙ f)))).clash e
@@ -325,7 +326,7 @@ module _ {book rows rejects : List ℕ} {start assumed : List Bool} (u : Undispu
   }
 
 -- the filling from all of the start
-pub filled-candidate : {book rows rejects atoms : List ℕ} {o : Interpretation} {start early p q : List Bool} {c : Bool} → RejectedMasks book rows o rejects (row_count rows) → Denied atoms o start → Early book rows rejects start early
+pub filled-candidate : {book : List ℕ} {rows : List Row} {rejects atoms : List ℕ} {o : Interpretation} {start early p q : List Bool} {c : Bool} → RejectedMasks book rows o rejects (row_count rows) → Denied atoms o start → Early book rows rejects start early
     → Fills book rows rejects start p q c → c ≡ false → OnlyState book rows rejects atoms o p early
 filled-candidate {book} {rows} {rejects} {atoms} {o} {start} {early} {p} {q} {c} g d b filled e = record {
   masks = g;
@@ -337,7 +338,7 @@ filled-candidate {book} {rows} {rejects} {atoms} {o} {start} {early} {p} {q} {c}
 }
 
 -- the branching facts, as the functions of a setting ask for them
-pub choices : {book rows atoms : List ℕ} {n : ℕ} → Searchable book rows atoms n → (m : ℕ) → m ≡ n → Choices atoms m
+pub choices : {book : List ℕ} {rows : List Row} {atoms : List ℕ} {n : ℕ} → Searchable book rows atoms n → (m : ℕ) → m ≡ n → Choices atoms m
 unfolding branching_atoms
 choices {book} {rows} {atoms} {n} w m e = record {
   few = w.atoms_few;
@@ -347,7 +348,7 @@ choices {book} {rows} {atoms} {n} w m e = record {
 }
 
 -- every branching fact is one that there may be
-pub atoms-low : {book rows atoms : List ℕ} {n : ℕ} → Searchable book rows atoms n → Low atoms
+pub atoms-low : {book : List ℕ} {rows : List Row} {atoms : List ℕ} {n : ℕ} → Searchable book rows atoms n → Low atoms
 unfolding branching_atoms
 atoms-low {atoms = atoms} w i h =
     let k : get_or atoms i 0 ∈ branching_atoms (tabled _ _ _) = subst (λ (fs : List ℕ). get_or atoms i 0 ∈ fs) w.listed (get_d_member atoms i 0 h) in

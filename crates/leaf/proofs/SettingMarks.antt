@@ -16,13 +16,14 @@ use Rattle.table.specs.Table.{Tabulates}
 use Rattle.filling.specs.Marks.{literal_marked, FollowsFrom, from_start, by_row, Conflict, Fills}
 use Rattle.tester.specs.Masks.{RejectedMasks}
 use Rattle.tester.proofs.TestLaws.{holds_one, derived_lt, rule_in_lem, in_rule, unrejected_alive, alive_unrejected}
+use Rattle.table.specs.declared.Row.{Row}
 
 -- the negations to start from: the branching atoms that the setting denies
 pub record SettingStart (P : Program) (o : Interpretation) (start : List Bool) : Type 0 where
   pub sound : (f : ℕ) → T (atom_holds start f) → (f < P.atoms) × T (branching P f) × T (not (atom_holds o f))
   pub full : (f : ℕ) → f < P.atoms → T (branching P f) → T (not (atom_holds o f)) → T (atom_holds start f)
 
-module _ {P : Program} {book rows rejects : List ℕ} {o : Interpretation} {start : List Bool} (lw : WellFormed P) (w : Tabulates P book rows)
+module _ {P : Program} {book : List ℕ} {rows : List Row} {rejects : List ℕ} {o : Interpretation} {start : List Bool} (lw : WellFormed P) (w : Tabulates P book rows)
     (g : RejectedMasks book rows o rejects (row_count rows)) (s : SettingStart P o start)
     {m : Interpretation} (sm : StableModel P m) (same : (f : ℕ) → T (branching P f) → atom_holds m f ≡ atom_holds o f) where
   flipped : (f : ℕ) → T (branching P f) → atom_holds o f ≡ atom_holds m f

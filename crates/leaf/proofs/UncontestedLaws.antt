@@ -27,10 +27,11 @@ use Rattle.tester.specs.Masks.{RejectedMasks}
 use Rattle.leaf.specs.Contested.{Uncontested}
 use Rattle.tester.proofs.TestLaws.{rule_in_lem, in_rule, unrejected_alive, alive_unrejected}
 use Rattle.leaf.proofs.SettingMarks.{SettingStart}
+use Rattle.table.specs.declared.Row.{Row}
 
 -- What follows from part of a start follows from the whole, and a filling from part of it that comes to mark the whole is a filling
 -- from the whole.
-module _ {book rows rejects : List ℕ} {assumed start : List Bool} (under : (f : ℕ) → T (atom_holds assumed f) → T (atom_holds start f)) where
+module _ {book : List ℕ} {rows : List Row} {rejects : List ℕ} {assumed start : List Bool} (under : (f : ℕ) → T (atom_holds assumed f) → T (atom_holds start f)) where
   pub follows_wider : (l : Literal) → FollowsFrom book rows rejects assumed l → FollowsFrom book rows rejects start l
   follows_wider l (from_start f t) = from_start f (under f t)
   follows_wider l (by_row r k a below) = by_row r k a (λ x i. follows_wider x (below x i))
@@ -48,7 +49,7 @@ module _ {book rows rejects : List ℕ} {assumed start : List Bool} (under : (f 
       marked e l (from_start f t) = over e f t
       marked e l (by_row r k a below) = w.full e r.head (by_row r k a (λ x i. w.sound x (marked e x (below x i))))
 
-module _ {P : Program} {book rows rejects : List ℕ} {o : Interpretation} {assumed start : List Bool} (lw : WellFormed P) (w : Tabulates P book rows)
+module _ {P : Program} {book : List ℕ} {rows : List Row} {rejects : List ℕ} {o : Interpretation} {assumed start : List Bool} (lw : WellFormed P) (w : Tabulates P book rows)
     (g : RejectedMasks book rows o rejects (row_count rows)) (s : SettingStart P o start)
     (under : (f : ℕ) → T (atom_holds assumed f) → T (atom_holds start f)) (clear : (f : ℕ) → T (atom_holds assumed f) → get_or rejects f 0 ≡ 0)
     {q₁ : List Bool} (early : (f : ℕ) → T (atom_holds q₁ f) → FollowsFrom book rows rejects assumed (negative f))

@@ -1,3 +1,4 @@
 pub mod Found
 pub mod Searchable
 pub mod Contested
+pub mod Leaf

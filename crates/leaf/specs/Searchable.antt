@@ -13,8 +13,9 @@ use Rattle.table.specs.Tabled.{tabled}
 use Rattle.filling.specs.Marks.{literal_marked, FollowsFrom, Apart, Fills}
 use Rattle.tester.specs.Masks.{RejectedMasks}
 use Rattle.setting.specs.Setting.{setting_of}
+use Rattle.table.specs.declared.Row.{Row}
 
-pub record Searchable (book rows atoms : List ℕ) (n : ℕ) : Type 0 where
+pub record Searchable (book : List ℕ) (rows : List Row) (atoms : List ℕ) (n : ℕ) : Type 0 where
   pub formed : WellFormed (tabled book rows n)
   pub table : Tabulates (tabled book rows n) book rows
   pub listed : atoms ≡ branching_atoms (tabled book rows n)
@@ -68,19 +69,19 @@ pub record Joined (atoms : List ℕ) (start q joined : List Bool) (n : ℕ) : Ty
   pub full : Covered atoms start joined n
 
 -- marks from which the filling from a start may go on: they follow from it, and no fact is marked both ways
-pub record Begun (book rows rejects : List ℕ) (start p q : List Bool) : Type 0 where
+pub record Begun (book : List ℕ) (rows : List Row) (rejects : List ℕ) (start p q : List Bool) : Type 0 where
   pub sound : (l : Literal) → T (literal_marked p q l) → FollowsFrom book rows rejects start l
   pub apart : Apart p q
 
 -- Negations that are reached before anything disputed is assumed: they follow from a part of the start of whose facts no rule is
 -- rejected.
-pub record Early (book rows rejects : List ℕ) (start early : List Bool) : Type 0 where
+pub record Early (book : List ℕ) (rows : List Row) (rejects : List ℕ) (start early : List Bool) : Type 0 where
   pub assumed : List Bool
   pub undisputed : Undisputed rejects start assumed
   pub follows : (f : ℕ) → T (atom_holds early f) → FollowsFrom book rows rejects assumed (negative f)
 
 -- The only state that can be stable at a setting: the facts that are reached from all that the setting denies, without a conflict.
-pub record OnlyState (book rows rejects atoms : List ℕ) (setting : Interpretation) (state early : List Bool) : Type 0 where
+pub record OnlyState (book : List ℕ) (rows : List Row) (rejects atoms : List ℕ) (setting : Interpretation) (state early : List Bool) : Type 0 where
   pub masks : RejectedMasks book rows setting rejects (row_count rows)
   pub start : List Bool
   pub denied : Denied atoms setting start

@@ -3,22 +3,20 @@
 #![tactic(auto)]
 
 ghost use Rattle.std.specs.Prelude.{◌≡◌, true, false, [], ℕ, Bool, ◌<◌, eqb, length};
-ghost use Rattle.filling.specs.Marks.{hint_size};
 ghost use Rattle.base.specs.Bounds.{max_atoms, max_names, max_branching};
 ghost use Rattle.base.specs.Lists.{cons_if};
 ghost use Rattle.layers.specs.Masks.{bit_of};
 ghost use Rattle.table.specs.Names.{literal_named};
-ghost use Rattle.table.specs.Rows.{row_count, RowsFit};
-ghost use Rattle.table.specs.Tabled.{tabled};
-ghost use Rattle.tester.specs.Masks.{RejectedMasks};
+ghost use Rattle.table.specs.Rows.{row_count};
 ghost use Rattle.setting.specs.Setting.{setting_of};
-ghost use Rattle.leaf.specs.Found.{agree_on, at_setting};
+ghost use Rattle.leaf.specs.Found.{agree_on};
 ghost use Rattle.leaf.specs.Searchable.{Searchable, Choices, denied_of, Undisputed, Covered, Computes, denies_any, reaches_denied, Joined, Begun, Early, OnlyState};
+ghost use Rattle.leaf.specs.Leaf.{LeafReady, leaf_models};
 ghost use Rattle.leaf.specs.Contested.{Answered, Uncontested};
 
 use base::MAX_ATOMS;
-use filling::{clear_marks, fill, fill_on};
-use table::{ROW_SIZE, atom_holds, row_alive, row_head, row_holds};
+use filling::{Hints, Rules, clear_marks};
+use table::atom_holds;
 use tester::settles;
 
 // A setting of the branching facts: of these the i-th stands where bit i of the mask is set.
@@ -123,15 +121,14 @@ fn undecided(m: &[bool], negative: &[bool], h: usize) -> bool
 
 // Whether a rejected row's body holds, but not its plain head, whose negation is not marked either. Where none is so, marks that were
 // filled from a setting need no second filling from the defaults.
-pub fn contested(book: &[u8], rows: &[u16], rejects: &[u32], m: &[bool], negative: &[bool]) -> bool
-    requires rows_fit { RowsFit book.now rows.now }
-    requires rejects_len { length rejects.now ≡ max_names }
-    ensures { result ≡ false → Uncontested book.now rows.now rejects.now m.now negative.now (row_count rows.now) }
+pub fn contested(rules: &Rules, m: &[bool], negative: &[bool]) -> bool
+    ensures { result ≡ false → Uncontested rules.now.table.book.now rules.now.table.rows.now rules.now.rejects.now m.now negative.now (row_count rules.now.table.rows.now) }
 {
-    for j in 0..rows.len() / ROW_SIZE {
-        if !row_alive(book, rows, rejects, j)
-            && undecided(m, negative, row_head(rows, j))
-            && row_holds(book, rows, m, j)
+    let table = rules.table;
+    for j in 0..table.len() {
+        if !table.alive(rules.rejects, j)
+            && undecided(m, negative, table.head(j))
+            && table.holds(m, j)
         {
             return true;
         }
@@ -139,13 +136,11 @@ pub fn contested(book: &[u8], rows: &[u16], rejects: &[u32], m: &[bool], negativ
     false
 }
 
-// What the stable model of a setting is worked out from: the table of the rules, the masks of those that the setting rejects, and the
+// What the stable model of a setting is worked out from: the rules of the table with the masks of those that the setting rejects, and the
 // setting.
 #[derive(Clone, Copy)]
 pub struct Leaf<'a> {
-    pub book: &'a [u8],
-    pub rows: &'a [u16],
-    pub rejects: &'a [u32],
+    pub rules: Rules<'a>,
     pub setting: Setting<'a>,
 }
 
@@ -154,65 +149,46 @@ impl Leaf<'_> {
     // settings. Then it needs no further test where no rejected rule is contested. The marks that were reached early are read before they
     // are written.
     fn decide(
-        self,
+        &self,
         state: &[bool],
         early: &mut [bool],
         other: &mut [bool],
-        hints: &mut [u16],
+        hints: &mut Hints,
     ) -> bool
-        requires searchable { Searchable self.book.now self.rows.now self.setting.atoms.now (length state.now) }
-        requires only_state { OnlyState self.book.now self.rows.now self.rejects.now self.setting.atoms.now (setting_of self.setting.atoms.now self.setting.standing) state.now early.old }
-        requires marks_len { (length early.old ≡ length state.now) × (length other.old ≡ length state.now) × (length hints.old ≡ hint_size) }
-        ensures { at_setting (tabled self.entry.book.now self.entry.rows.now (length state.now)) self.entry.setting.atoms.now (setting_of self.entry.setting.atoms.now self.entry.setting.standing) ≡ cons_if result state.now [] }
+        requires searchable { Searchable self.now.rules.table.book.now self.now.rules.table.rows.now self.now.setting.atoms.now (length state.now) }
+        requires only_state { OnlyState self.now.rules.table.book.now self.now.rules.table.rows.now self.now.rules.rejects.now self.now.setting.atoms.now (setting_of self.now.setting.atoms.now self.now.setting.standing) state.now early.old }
+        requires marks_len { (length early.old ≡ length state.now) × (length other.old ≡ length state.now) }
+        ensures { leaf_models self.now (length state.now) ≡ cons_if result state.now [] }
     {
         if !self.setting.agrees(state) {
             return false;
         }
-        if !contested(self.book, self.rows, self.rejects, state, early) {
-            return true;
-        }
-        settles(
-            self.book,
-            self.rows,
-            self.rejects,
-            state,
-            state.len(),
-            early,
-            other,
-            hints,
-        )
+        !contested(&self.rules, state, early)
+            || settles(&self.rules, state, state.len(), early, other, hints)
     }
 
     // The stable model of the setting, if there is one, from all that the setting denies. What was reached early follows from all of it
     // too, so the filling goes on from there, unless a denied fact is among it and so reached both ways. Where it meets no conflict, the
     // facts that are reached are the only state that can be stable.
     fn model_from(
-        self,
+        &self,
         positive: &mut [bool],
         negative: &mut [bool],
         early: &mut [bool],
-        hints: &mut [u16],
+        hints: &mut Hints,
     ) -> bool
-        requires searchable { Searchable self.book.now self.rows.now self.setting.atoms.now (length positive.old) }
-        requires rejected_masks { RejectedMasks self.book.now self.rows.now (setting_of self.setting.atoms.now self.setting.standing) self.rejects.now (row_count self.rows.now) }
-        requires begun { Begun self.book.now self.rows.now self.rejects.now (denied_of self.setting.atoms.now self.setting.standing) positive.old negative.old }
-        requires early { Early self.book.now self.rows.now self.rejects.now (denied_of self.setting.atoms.now self.setting.standing) negative.old }
-        requires marks_len { (length negative.old ≡ length positive.old) × (length early.old ≡ length positive.old) × (length hints.old ≡ hint_size) }
-        ensures { at_setting (tabled self.entry.book.now self.entry.rows.now (length positive.old)) self.entry.setting.atoms.now (setting_of self.entry.setting.atoms.now self.entry.setting.standing) ≡ cons_if result positive.new [] }
+        requires ready { LeafReady self.now (length positive.old) }
+        requires begun { Begun self.now.rules.table.book.now self.now.rules.table.rows.now self.now.rules.rejects.now (denied_of self.now.setting.atoms.now self.now.setting.standing) positive.old negative.old }
+        requires early { Early self.now.rules.table.book.now self.now.rules.table.rows.now self.now.rules.rejects.now (denied_of self.now.setting.atoms.now self.now.setting.standing) negative.old }
+        requires marks_len { (length negative.old ≡ length positive.old) × (length early.old ≡ length positive.old) }
+        ensures { leaf_models self.now (length positive.old) ≡ cons_if result positive.new [] }
     {
         if self.setting.reaches_denied(positive) {
             return false;
         }
         early.copy_from_slice(negative);
         self.setting.join(negative);
-        if fill_on(
-            self.book,
-            self.rows,
-            self.rejects,
-            positive,
-            negative,
-            hints,
-        ) {
+        if self.rules.fill_on(positive, negative, hints).is_err() {
             return false;
         }
         self.decide(positive, early, negative, hints)
@@ -222,26 +198,18 @@ impl Leaf<'_> {
     // undisputed part of what the setting denies: the negations that are reached early, before anything disputed is assumed. Where they
     // come to be all that the setting denies, it need not go on.
     pub fn model_at(
-        self,
+        &self,
         positive: &mut [bool],
         negative: &mut [bool],
         early: &mut [bool],
-        hints: &mut [u16],
+        hints: &mut Hints,
     ) -> bool
-        requires searchable { Searchable self.book.now self.rows.now self.setting.atoms.now (length positive.old) }
-        requires rejected_masks { RejectedMasks self.book.now self.rows.now (setting_of self.setting.atoms.now self.setting.standing) self.rejects.now (row_count self.rows.now) }
-        requires marks_len { (length negative.old ≡ length positive.old) × (length early.old ≡ length positive.old) × (length hints.old ≡ hint_size) }
-        ensures { at_setting (tabled self.entry.book.now self.entry.rows.now (length positive.old)) self.entry.setting.atoms.now (setting_of self.entry.setting.atoms.now self.entry.setting.standing) ≡ cons_if result positive.new [] }
+        requires ready { LeafReady self.now (length positive.old) }
+        requires marks_len { (length negative.old ≡ length positive.old) × (length early.old ≡ length positive.old) }
+        ensures { leaf_models self.now (length positive.old) ≡ cons_if result positive.new [] }
     {
-        self.setting.assume(self.rejects, negative);
-        if fill(
-            self.book,
-            self.rows,
-            self.rejects,
-            positive,
-            negative,
-            hints,
-        ) {
+        self.setting.assume(self.rules.rejects, negative);
+        if self.rules.fill(positive, negative, hints).is_err() {
             return false;
         }
         if self.setting.covers(negative) {

@@ -38,6 +38,8 @@ use Rattle.passes.specs.Tallied.{searched}
 use Rattle.passes.specs.Nearest.{chosen, Nearest}
 use Rattle.passes.proofs.PassLaws.{found_is}
 use Rattle.passes.proofs.StateLaws.{models_from, models_into, searched-from, searched_into}
+use Rattle.table.specs.declared.Row.{Row}
+use Rattle.table.specs.declared.Span.{Span}
 
 -- ---- the first in the order of distances and records is the first of those whose distance is least
 module _ (wanted : Interpretation) (n : ℕ) where
@@ -179,7 +181,7 @@ nothing-held : (atoms : List ℕ) (sure : List Bool) (wanted : Interpretation) (
 unfolding record_held
 nothing-held atoms sure wanted n part held e = record { few = omega arith; found_is = e; part_is = refl; known = λ m k. absurd (Memᴰ.not-nil k) }
 
-module _ {book rows atoms : List ℕ} {n : ℕ} (w : Searchable book rows atoms n) (bans : List ℕ) where
+module _ {book : List ℕ} {rows : List Row} {atoms : List ℕ} {n : ℕ} (w : Searchable book rows atoms n) (bans : List Span) where
   abbrev P : Program
   P = barred book rows bans n
 

@@ -33,6 +33,8 @@ use Rattle.search.proofs.AllowedLaws.{barred-formed, barred-listed, barred-size}
 use Rattle.search.proofs.KeptLaws.{room_less}
 use Rattle.search.proofs.VisitLaws.{searched_goal, searched-count, searched_weight}
 use Rattle.passes.specs.Tallied.{searched, Passed, Tallied, Bounds}
+use Rattle.table.specs.declared.Row.{Row}
+use Rattle.table.specs.declared.Span.{Span}
 
 pub empty : {A : Type 0} (l : List A) → length l ≡ 0 → l ≡ []
 empty [] e = refl
@@ -89,7 +91,7 @@ from_all P atoms left e {asked} {n} o {v} {p} {v'} {p'} s =
     subst (λ (k : ℕ). Searched asked n (found_by (at_setting P atoms) (drop k atoms) o) v p v' p') {x = length atoms - left} {y = 0} (omega arith) s
 
 -- the call of the search
-module _ {book rows atoms : List ℕ} {n : ℕ} (w : Searchable book rows atoms n) (bans : List ℕ) where
+module _ {book : List ℕ} {rows : List Row} {atoms : List ℕ} {n : ℕ} (w : Searchable book rows atoms n) (bans : List Span) where
   abbrev P : Program
   P = barred book rows bans n
 

@@ -11,9 +11,10 @@ use Rattle.plan.specs.Plan.{plan_size, plan_atoms, plan_bans, planned_program, P
 use Rattle.plan.specs.declared.Sizes.{Sizes}
 use Rattle.leaf.specs.Searchable.{Searchable}
 use Rattle.passes.specs.Limit.{has_too_many_branching}
+use Rattle.table.specs.declared.Row.{Row}
 
 -- a table and a plan of it that can be searched
-pub record Ready (book rows plan : List ℕ) (s : Sizes) : Type 0 where
+pub record Ready (book : List ℕ) (rows : List Row) (plan : List ℕ) (s : Sizes) : Type 0 where
   pub table : Searchable book rows (plan_atoms plan s.branching) s.n
   pub planned : Planned book rows (plan_atoms plan s.branching) plan s
 
@@ -30,7 +31,7 @@ lent_rows rows rules = take (row_size * rules - 0) rows
 
 -- Where no more facts branch than a search goes through, the plan is made, and the program that table and plan stand for is alike to the
 -- driven layer's.
-pub record SetUp (P : Program) (book rows plan : List ℕ) (rules : ℕ) (few : Bool) (s : Sizes) : Type 0 where
+pub record SetUp (P : Program) (book : List ℕ) (rows : List Row) (plan : List ℕ) (rules : ℕ) (few : Bool) (s : Sizes) : Type 0 where
   pub room : rules ≤ max_rules
   pub row_size_lem : length rows ≡ row_size * max_rules
   pub plan_size_lem : length plan ≡ plan_size

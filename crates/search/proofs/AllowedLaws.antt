@@ -17,6 +17,8 @@ use Rattle.table.proofs.TabledLaws.{tabled-free}
 use Rattle.bans.specs.Bans.{bodies_of, barred}
 use Rattle.leaf.specs.Found.{agree_on, fits, at_setting}
 use Rattle.leaf.specs.Searchable.{Searchable}
+use Rattle.table.specs.declared.Row.{Row}
+use Rattle.table.specs.declared.Span.{Span}
 
 filter_twice : {A : Type 0} (p q : A → Bool) (xs : List A) → filter (λ x. p x && q x) xs ≡ filter q (filter p xs)
 unfolding filter cons_if
@@ -55,7 +57,7 @@ module _ (P : Program) (bodies : List (List Literal)) (free : P.constraints ≡ 
     setting_without y s = setting_filtered ∙ ap (filter (λ m. not (any (all (holds m)) bodies))) (is ∙ ap (λ (c : Bool). cons_if c m []) y)
 
 -- what a search asks of the table holds with constraints too
-module _ {book rows atoms : List ℕ} {n : ℕ} (w : Searchable book rows atoms n) (bans : List ℕ) where
+module _ {book : List ℕ} {rows : List Row} {atoms : List ℕ} {n : ℕ} (w : Searchable book rows atoms n) (bans : List Span) where
   pub barred-formed : WellFormed (barred book rows bans n)
   barred-formed = constrained-formed (tabled book rows n) (bodies_of book bans) w.formed
 

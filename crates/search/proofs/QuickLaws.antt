@@ -25,9 +25,11 @@ use Rattle.table.specs.Tabled.{tabled}
 use Rattle.bans.specs.Bans.{body_of, bodies_of, barred}
 use Rattle.table.proofs.RowLaws.{row_in, row_of}
 use Rattle.setting.specs.Setting.{setting_of}
-use Rattle.setting.specs.RuleMasks.{AtomBits, RuleMask, plain_mask, negated_mask, head_mask, MaskOf, RuleMasks, Open, Headed}
+use Rattle.setting.specs.RuleMasks.{AtomBits, RuleMask, MaskOf, RuleMasks, Open, Headed}
+use Rattle.setting.specs.declared.HeadMasks.{HeadMasks}
 use Rattle.setting.proofs.BitMaskLaws.{single, single_only}
 use Rattle.setting.proofs.SettingLaws.{setting_size, setting_false, setting_true}
+use Rattle.nogoods.specs.declared.Nogood.{Nogood}
 use Rattle.nogoods.specs.Nogoods.{Rejectable, Within, NogoodOf, NogoodAt, of_row, of_ban, Nogoods, Violated}
 use Rattle.insertion.proofs.Once.{Once}
 use Rattle.insertion.proofs.SortedLaws.{get_d_member}
@@ -37,6 +39,8 @@ use Rattle.search.proofs.AllowedLaws.{barred-formed, barred-listed, barred_model
 use Rattle.search.proofs.RejectableLaws.{never-rejected}
 use Rattle.leaf.specs.Searchable.{Searchable}
 use Rattle.leaf.proofs.FoundLaws.{branching-small, branching-once, found_decided}
+use Rattle.table.specs.declared.Row.{Row}
+use Rattle.table.specs.declared.Span.{Span}
 
 -- a mask with no bit
 none-set : (a : ℕ) → ((i : ℕ) → bit_of a i ≡ 1 → ⊥) → a ≡ 0
@@ -46,7 +50,7 @@ none-set a none = go (ℕ_discrete a 0)
     go (yes e) = e
     go (no n) = let x : (i : ℕ) × (bit_of a i ≡ 1) = some-bit (suc a) a (omega arith) (omega arith) in absurd (none x.0 x.1)
 
-module _ {book rows atoms : List ℕ} {n : ℕ} (w : Searchable book rows atoms n) (bans : List ℕ) {masks : List ℕ}
+module _ {book : List ℕ} {rows : List Row} {atoms : List ℕ} {n : ℕ} (w : Searchable book rows atoms n) (bans : List Span) {masks : List HeadMasks}
     (k : RuleMasks book rows atoms masks) {undecided : List ℕ} (o : Interpretation) {standing denied : ℕ} (s : Decided atoms undecided o standing denied) where
   -- the rules alone, and with the constraints
   abbrev P : Program
@@ -90,20 +94,20 @@ module _ {book rows atoms : List ℕ} {n : ℕ} (w : Searchable book rows atoms 
     unfolding holds signed
     negated-holds f t = t
 
-    -- a row whose body holds in the model is open, in its entry p
-    open_row : (j p : ℕ) → RuleMask atoms (row_at book rows j) (plain_mask masks p) (negated_mask masks p) (head_mask masks p) → ((x : Literal) → x ∈ (row_at book rows j).body → T (holds m x)) → Open masks standing denied p
+    -- a row whose body holds in the model is open, in the masks of its entry
+    open_row : (j : ℕ) (p : HeadMasks) → RuleMask atoms (row_at book rows j) p → ((x : Literal) → x ∈ (row_at book rows j).body → T (holds m x)) → Open p standing denied
     open_row j p r body_holds_lem =
-        none-set (bit_or (bit_and (plain_mask masks p) denied) (bit_and (negated_mask masks p) standing))
+        none-set (bit_or (bit_and p.plain denied) (bit_and p.negated standing))
         (λ i z. ⊎_elim
         (λ c.
-        let d = s.denied_in i (and_second (plain_mask masks p) denied i c) in
-        T_not (atom_holds o (get_or atoms i 0)) d.1 (subst T (agrees_at_lem i d.0) (plain_holds (get_or atoms i 0) (body_holds_lem (positive (get_or atoms i 0)) (r.plain_in i (and_first (plain_mask masks p) denied i c))))))
+        let d = s.denied_in i (and_second p.plain denied i c) in
+        T_not (atom_holds o (get_or atoms i 0)) d.1 (subst T (agrees_at_lem i d.0) (plain_holds (get_or atoms i 0) (body_holds_lem (positive (get_or atoms i 0)) (r.plain_in i (and_first p.plain denied i c))))))
         (λ c.
-        let d = s.standing_in i (and_second (negated_mask masks p) standing i c) in
-        T_not (atom_holds m (get_or atoms i 0)) (negated-holds (get_or atoms i 0) (body_holds_lem (negative (get_or atoms i 0)) (r.negated_in i (and_first (negated_mask masks p) standing i c)))) (subst T (sym (agrees_at_lem i d.0)) d.1))
-        (or_cases (bit_and (plain_mask masks p) denied) (bit_and (negated_mask masks p) standing) i z))
+        let d = s.standing_in i (and_second p.negated standing i c) in
+        T_not (atom_holds m (get_or atoms i 0)) (negated-holds (get_or atoms i 0) (body_holds_lem (negative (get_or atoms i 0)) (r.negated_in i (and_first p.negated standing i c)))) (subst T (sym (agrees_at_lem i d.0)) d.1))
+        (or_cases (bit_and p.plain denied) (bit_and p.negated standing) i z))
 
-    all_headed : Headed masks (length masks / 3) standing denied
+    all_headed : Headed masks standing denied
     all_headed i z =
         let d = s.standing_in i z in
         let f : ℕ = get_or atoms i 0 in
@@ -112,30 +116,30 @@ module _ {book rows atoms : List ℕ} {n : ℕ} (w : Searchable book rows atoms 
         let x : Supporter (positive f) = supporter (positive f) y (λ j. false) in
         let v : (j : ℕ) × (j < row_count rows) × (row_at book rows j ≡ x.rule) = row_of book rows x.rule (subst (λ (rs : List Rule). x.rule ∈ rs) (sym w.table.rules) x.inside) in
         let h : (row_at book rows v.0).head ≡ positive f = ap (λ (r : Rule). r.head) v.2 ∙ x.head_is in
-        let e : MaskOf book rows atoms masks (length masks / 3) v.0 = k.each v.0 i v.1 d.0.0 h in (
-          e.place,
-          e.before,
-          open_row v.0 e.place e.mask (λ l q. x.body_holds_lem l (subst (λ (r : Rule). l ∈ r.body) v.2 q)),
+        let e : MaskOf book rows atoms masks v.0 = k.each v.0 i v.1 d.0.0 h in (
+          e.entry,
+          e.listed,
+          open_row v.0 e.entry e.mask (λ l q. x.body_holds_lem l (subst (λ (r : Rule). l ∈ r.body) v.2 q)),
           e.mask.head_in i d.0.0 h,
         )
 
     -- what the masks of a nogood have, decided so, holds in the model
-    module _ {bits : List ℕ} (ab : AtomBits atoms bits (length atoms)) (stand deny : ℕ) (es : bit_and stand standing ≡ stand) (ed : bit_and deny denied ≡ deny) where
-      within-holds : (l : Literal) → Within bits stand deny l → T (holds m l)
+    module _ {bits : List ℕ} (ab : AtomBits atoms bits (length atoms)) (ng : Nogood) (es : bit_and ng.standing standing ≡ ng.standing) (ed : bit_and ng.denied denied ≡ ng.denied) where
+      within-holds : (l : Literal) → Within bits ng l → T (holds m l)
       unfolding holds signed
       within-holds l x = subst (λ (f : ℕ). T (signed l.negated (atom_holds m f))) (ab.sound l.atom x.place x.atom_bit).1 (go l.negated x.bit)
         where
           i : ℕ
           i = x.place
 
-          go : (c : Bool) → bit_of (cond c deny stand) i ≡ 1 → T (signed c (atom_holds m (get_or atoms i 0)))
-          go true z = let d = s.denied_in i (and_second deny denied i (subst (λ (y : ℕ). bit_of y i ≡ 1) (sym ed) z)) in subst (λ (y : Bool). T (not y)) (sym (agrees_at_lem i d.0)) d.1
-          go false z = let d = s.standing_in i (and_second stand standing i (subst (λ (y : ℕ). bit_of y i ≡ 1) (sym es) z)) in subst T (sym (agrees_at_lem i d.0)) d.1
+          go : (c : Bool) → bit_of (cond c ng.denied ng.standing) i ≡ 1 → T (signed c (atom_holds m (get_or atoms i 0)))
+          go true z = let d = s.denied_in i (and_second ng.denied denied i (subst (λ (y : ℕ). bit_of y i ≡ 1) (sym ed) z)) in subst (λ (y : Bool). T (not y)) (sym (agrees_at_lem i d.0)) d.1
+          go false z = let d = s.standing_in i (and_second ng.standing standing i (subst (λ (y : ℕ). bit_of y i ≡ 1) (sym es) z)) in subst T (sym (agrees_at_lem i d.0)) d.1
 
     -- so no nogood of a row is decided
-    no_row_nogood : {rejectable bits : List ℕ} → Rejectable rows rejectable (row_count rows) → (stand deny j : ℕ) → ((l : Literal) → Within bits stand deny l → T (holds m l)) → NogoodOf book rows rejectable bits j stand deny → ⊥
+    no_row_nogood : {rejectable bits : List ℕ} → Rejectable rows rejectable (row_count rows) → (ng : Nogood) (j : ℕ) → ((l : Literal) → Within bits ng l → T (holds m l)) → NogoodOf book rows rejectable bits j ng → ⊥
     unfolding row_at holds signed complement
-    no_row_nogood all stand deny j inside y =
+    no_row_nogood all ng j inside y =
         let r : Rule = row_at book rows j in
         let i : r ∈ P.rules = subst (λ (rs : List Rule). r ∈ rs) w.table.rules (row_in book rows j y.before) in
         let derived : Derived P m r.head =
@@ -152,16 +156,16 @@ module _ {book rows atoms : List ℕ} {n : ℕ} (w : Searchable book rows atoms 
         apart l = go l.negated (atom_holds m l.atom)
 
     -- nor one of a constraint
-    no_nogood : {nogoods : List ℕ} {n : ℕ} → StableModel B m → Nogoods book rows bans atoms nogoods n → Violated nogoods n standing denied → ⊥
+    no_nogood : {nogoods : List Nogood} → StableModel B m → Nogoods book rows bans atoms nogoods → Violated nogoods standing denied → ⊥
     unfolding constrained bodies_of
-    no_nogood {nogoods} bm g x = go (g.each x.place x.before)
+    no_nogood bm g x = go (g.each x.nogood x.listed)
       where
-        inside : (l : Literal) → Within g.bits (get_or nogoods (2 * x.place) 0) (get_or nogoods (2 * x.place + 1) 0) l → T (holds m l)
-        inside = within-holds g.bits_of (get_or nogoods (2 * x.place) 0) (get_or nogoods (2 * x.place + 1) 0) x.stand x.deny
+        inside : (l : Literal) → Within g.bits x.nogood l → T (holds m l)
+        inside = within-holds g.bits_of x.nogood x.stand x.deny
 
-        go : NogoodAt book rows bans g.rejectable g.bits (get_or nogoods (2 * x.place) 0) (get_or nogoods (2 * x.place + 1) 0) → ⊥
-        go (of_row j y) = no_row_nogood g.rejects_all (get_or nogoods (2 * x.place) 0) (get_or nogoods (2 * x.place + 1) 0) j inside y
-        go (of_ban b h y) = bm.allowed (body_of book (get_or bans b 0)) (Memᴰ.map (body_of book) (get_d_member bans b 0 h)) (λ l q. inside l (y l q))
+        go : NogoodAt book rows bans g.rejectable g.bits x.nogood → ⊥
+        go (of_row j y) = no_row_nogood g.rejects_all x.nogood j inside y
+        go (of_ban ban k y) = bm.allowed (body_of book ban) (Memᴰ.map (body_of book) k) (λ l q. inside l (y l q))
 
   -- where no model agrees with what is decided there is nothing to find
   nothing_found : ((m : Interpretation) → StableModel B m → ((f : ℕ) → f ∈ branching_atoms P → (f ∈ undecided → ⊥) → atom_holds m f ≡ atom_holds o f) → ⊥) → found_by (at_setting B atoms) undecided o ≡ []
@@ -177,14 +181,14 @@ module _ {book rows atoms : List ℕ} {n : ℕ} (w : Searchable book rows atoms 
       empty (m ∷ ms) h = absurd (h m (Memᴰ.head refl))
 
   -- a test failed: there is nothing to find
-  pub none_headed : (r : Bool) → (Headed masks (length masks / 3) standing denied → r ≡ true) → not r ≡ true → found_by (at_setting B atoms) undecided o ≡ []
-  none_headed r told e = nothing_found (λ m sm same. false≢true (subst (λ (c : Bool). not c ≡ true) (told (all_headed m (barred_model w bans m sm) same)) e))
+  pub none_headed : (Headed masks standing denied → ⊥) → found_by (at_setting B atoms) undecided o ≡ []
+  none_headed told = nothing_found (λ m sm same. told (all_headed m (barred_model w bans m sm) same))
 
-  pub none_allowed : {nogoods : List ℕ} → Nogoods book rows bans atoms nogoods (length nogoods / 2) → (r : Bool) → (r ≡ true → Violated nogoods (length nogoods / 2) standing denied) → r ≡ true → found_by (at_setting B atoms) undecided o ≡ []
-  none_allowed g r told e = nothing_found (λ m sm same. no_nogood m (barred_model w bans m sm) same sm g (told e))
+  pub none_allowed : {nogoods : List Nogood} → Nogoods book rows bans atoms nogoods → Violated nogoods standing denied → found_by (at_setting B atoms) undecided o ≡ []
+  none_allowed g x = nothing_found (λ m sm same. no_nogood m (barred_model w bans m sm) same sm g x)
 
 -- ---- what is decided, from call to call
-pub listed-once : {book rows atoms : List ℕ} {n : ℕ} → Searchable book rows atoms n → Once atoms
+pub listed-once : {book : List ℕ} {rows : List Row} {atoms : List ℕ} {n : ℕ} → Searchable book rows atoms n → Once atoms
 listed-once {book} {rows} {n = n} w = subst Once (sym w.listed) (branching-once (tabled book rows n) w.formed)
 
 pub decided-start : (atoms : List ℕ) → Decided atoms atoms (setting_of atoms 0) 0 0
@@ -316,7 +320,7 @@ module _ (atoms : List ℕ) (once : Once atoms) (few : length atoms ≤ max_bran
       (decided_true atoms once few undecided X standing denied s some f refl bf)
 
 -- an undecided atom is one that there may be
-pub first_small : {book rows atoms : List ℕ} {n : ℕ} (w : Searchable book rows atoms n) (undecided : List ℕ) (o : Interpretation) (standing denied : ℕ)
+pub first_small : {book : List ℕ} {rows : List Row} {atoms : List ℕ} {n : ℕ} (w : Searchable book rows atoms n) (undecided : List ℕ) (o : Interpretation) (standing denied : ℕ)
     → Decided atoms undecided o standing denied → (length undecided ≡ 0 → ⊥) → get_or undecided 0 0 < max_atoms
 first_small {book} {rows} {atoms = atoms} {n = n} w undecided o standing denied s some =
     let h : length atoms - length undecided < length atoms = omega (arith, s.few) in

@@ -19,8 +19,9 @@ use Rattle.table.proofs.NameLaws.{name_back, complement_twice}
 use Rattle.table.proofs.RowLaws.{row_of}
 use Rattle.table.proofs.NamedLaws.{overrides-named}
 use Rattle.nogoods.specs.Nogoods.{Rejectable}
+use Rattle.table.specs.declared.Row.{Row}
 
-module _ {book rows : List ℕ} (n : ℕ) (table : Tabulates (tabled book rows n) book rows) (m : Interpretation) where
+module _ {book : List ℕ} {rows : List Row} (n : ℕ) (table : Tabulates (tabled book rows n) book rows) (m : Interpretation) where
   abbrev P : Program
   P = tabled book rows n
 

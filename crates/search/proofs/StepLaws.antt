@@ -20,67 +20,79 @@ use Rattle.table.specs.Rows.{row_count}
 use Rattle.table.specs.Tabled.{tabled}
 use Rattle.table.proofs.TabledLaws.{tabled-free}
 use Rattle.bans.specs.Bans.{bodies_of, barred}
-use Rattle.plan.specs.Plan.{plan_bans}
+use Rattle.plan.specs.Plan.{plan_rejecting, plan_bans}
 use Rattle.search.specs.declared.Space.{Space}
-use Rattle.search.specs.Space.{space_atoms, models_at}
+use Rattle.search.specs.Space.{space_atoms, Ready, models_at}
 use Rattle.tester.specs.Masks.{RejectedMasks}
 use Rattle.setting.specs.Setting.{setting_of}
-use Rattle.rejecting.specs.Rejecting.{Rejecting, RejectsAt}
+use Rattle.rejecting.specs.declared.RejectingMasks.{RejectingMasks}
+use Rattle.rejecting.specs.Rejecting.{RejectsAt}
 use Rattle.rejecting.proofs.RejectedLaws.{rejected_at}
 use Rattle.leaf.specs.Searchable.{Searchable}
 use Rattle.leaf.proofs.FoundLaws.{setting_one}
 use Rattle.search.proofs.AllowedLaws.{setting_allowed, setting_without, barred-formed, barred-listed}
 use Rattle.search.proofs.VisitLaws.{searched-none, searched_one}
+use Rattle.table.specs.declared.Row.{Row}
+use Rattle.table.specs.declared.Span.{Span}
 
 -- no more than so many models, so that the count fits
 abbrev pub limit : ℕ
 limit = 4294967296
-
-abbrev pub leaf_of : List ℕ → List ℕ → List ℕ → ℕ → List ℕ → Interpretation → List Interpretation
-leaf_of book rows bans n atoms = at_setting (barred book rows bans n) atoms
 
 at_leaf : (leaf : Interpretation → List Interpretation) (undecided : List ℕ) (o : Interpretation) → length undecided ≡ 0 → found_by leaf undecided o ≡ leaf o
 unfolding found_by
 at_leaf leaf [] o e = refl
 at_leaf leaf (f ∷ fs) o e = absurd (omega arith)
 
--- what the masks of the rows that reject say of the setting of a mask
-pub setting_rejects : {book rows atoms rejecting rejects : List ℕ} {n : ℕ} → Searchable book rows atoms n → (standing : ℕ) (o : Interpretation) → o ≡ setting_of atoms standing
-    → Rejecting book rows atoms rejecting → RejectsAt rejecting standing rejects (length rejecting / 4) → RejectedMasks book rows o rejects (row_count rows)
-setting_rejects {book} {rows} {rejects = rejects} {n = n} w standing o e d r =
-    subst (λ (x : Interpretation). RejectedMasks book rows x rejects (row_count rows)) (sym e) (rejected_at n w.formed (omega (arith, w.size, w.few)) w.table w.listed standing d r)
+-- ---- a setting, with what the plan lends: its facts, its rows that reject and its constraints
+module _ {s : Space} (ready : Ready s) (standing : ℕ) {atoms : List ℕ} (ea : atoms ≡ space_atoms s) where
+  abbrev book : List ℕ
+  book = s.table.book.now
 
--- a setting that has no model but one, as `find_model` has it: k is how many facts the rules' model has, and `state` that model
-module _ (s : Space) (standing k : ℕ) (ek : k ≡ s.sizes.n) (ok : Bool) (m : Interpretation) (is : at_setting (tabled s.book.now s.rows.now k) (space_atoms s) (setting_of (space_atoms s) standing) ≡ cons_if ok m []) where
-  abbrev bodies : List (List Literal)
-  bodies = bodies_of s.book.now (plan_bans s.plan.now s.sizes.bans)
+  abbrev rows : List Row
+  rows = s.table.rows.now
 
-  abbrev P : Program
-  P = tabled s.book.now s.rows.now s.sizes.n
+  pub leaf_table : (k : ℕ) → k ≡ s.plan.now.n → Searchable book rows atoms k
+  leaf_table k ek = subst (λ (l : List ℕ). Searchable book rows l k) (sym ea) (subst (Searchable book rows (space_atoms s)) (sym ek) ready.table)
 
-  free : P.constraints ≡ []
-  free = tabled-free s.book.now s.rows.now s.sizes.n
+  pub leaf_masks : {rejecting : List RejectingMasks} → rejecting ≡ plan_rejecting s.plan.now → {rejects : List ℕ} → RejectsAt rejecting standing rejects → RejectedMasks book rows (setting_of atoms standing) rejects (row_count rows)
+  leaf_masks er {rejects} r =
+      subst (λ (l : List ℕ). RejectedMasks book rows (setting_of l standing) rejects (row_count rows)) (sym ea)
+      (rejected_at s.plan.now.n ready.table.formed (omega (arith, ready.table.size, ready.table.few)) ready.table.table ready.table.listed standing ready.planned.rejecting_masks
+      (subst (λ (l : List RejectingMasks). RejectsAt l standing rejects) er r))
 
-  at_n : at_setting P (space_atoms s) (setting_of (space_atoms s) standing) ≡ cons_if ok m []
-  at_n = subst (λ (x : ℕ). at_setting (tabled s.book.now s.rows.now x) (space_atoms s) (setting_of (space_atoms s) standing) ≡ cons_if ok m []) ek is
+  -- the model of the rules alone over k facts is `m`, if there is one, and stands as `state`
+  module _ (k : ℕ) (ek : k ≡ s.plan.now.n) (ok : Bool) (m : Interpretation) (is : at_setting (tabled book rows k) atoms (setting_of atoms standing) ≡ cons_if ok m []) where
+    abbrev bodies : List (List Literal)
+    bodies = bodies_of book (plan_bans s.plan.now)
 
-  pub found_none : ok ≡ false → models_at s standing ≡ []
-  unfolding cons_if
-  found_none e = setting_without P bodies free (space_atoms s) (setting_of (space_atoms s) standing) ok m at_n e m
+    abbrev P : Program
+    P = tabled book rows s.plan.now.n
 
-  module _ (e : ok ≡ true) (state : Interpretation) (es : state ≡ m) (r : Bool) (er : r ≡ any (all (holds state)) bodies) where
-    allowed : models_at s standing ≡ cons_if (not r) state []
-    allowed =
-        subst (λ (x : Interpretation). at_setting (constrained P bodies) (space_atoms s) (setting_of (space_atoms s) standing) ≡ cons_if (not r) x []) (sym es)
-        (setting_allowed P bodies free (space_atoms s) (setting_of (space_atoms s) standing) ok m at_n e r (er ∙ ap (λ (x : Interpretation). any (all (holds x)) bodies) es))
+    free : P.constraints ≡ []
+    free = tabled-free book rows s.plan.now.n
 
-    pub found_one : r ≡ false → models_at s standing ≡ state ∷ []
+    at_n : at_setting P (space_atoms s) (setting_of (space_atoms s) standing) ≡ cons_if ok m []
+    at_n = subst (λ (l : List ℕ). at_setting P l (setting_of l standing) ≡ cons_if ok m []) ea (subst (λ (x : ℕ). at_setting (tabled book rows x) atoms (setting_of atoms standing) ≡ cons_if ok m []) ek is)
+
+    pub found_none : ok ≡ false → models_at s standing ≡ []
     unfolding cons_if
-    found_one n = allowed ∙ ap (λ (c : Bool). cons_if (not c) state []) n
+    found_none e = setting_without P bodies free (space_atoms s) (setting_of (space_atoms s) standing) ok m at_n e m
 
-    pub found_forbidden : r ≡ true → models_at s standing ≡ []
-    unfolding cons_if
-    found_forbidden y = allowed ∙ ap (λ (c : Bool). cons_if (not c) state []) y
+    module _ (e : ok ≡ true) (state : Interpretation) (es : state ≡ m) {bans : List Span} (eb : bans ≡ plan_bans s.plan.now) (r : Bool) (er : r ≡ any (all (holds state)) (bodies_of book bans)) where
+      allowed : models_at s standing ≡ cons_if (not r) state []
+      allowed =
+          subst (λ (x : Interpretation). at_setting (constrained P bodies) (space_atoms s) (setting_of (space_atoms s) standing) ≡ cons_if (not r) x []) (sym es)
+          (setting_allowed P bodies free (space_atoms s) (setting_of (space_atoms s) standing) ok m at_n e r
+          (er ∙ ap₂ (λ (x : Interpretation) (l : List Span). any (all (holds x)) (bodies_of book l)) es eb))
+
+      pub found_one : r ≡ false → models_at s standing ≡ state ∷ []
+      unfolding cons_if
+      found_one n = allowed ∙ ap (λ (c : Bool). cons_if (not c) state []) n
+
+      pub found_forbidden : r ≡ true → models_at s standing ≡ []
+      unfolding cons_if
+      found_forbidden y = allowed ∙ ap (λ (c : Bool). cons_if (not c) state []) y
 
 -- nothing is to be found
 pub none-searched : (goal : Goal) (n : ℕ) (ms : List Interpretation) → ms ≡ [] → (v : Visit) (p : List ℕ) → Searched goal n ms v p v p
@@ -120,9 +132,9 @@ module _ (leaf : Interpretation → List Interpretation) (undecided : List ℕ) 
     both_halves o₁ e₁ o₂ e₂ = halves (get_or undecided 0 0) refl ∙ ap₂ (λ (x y : Interpretation). found_by leaf later x ++ found_by leaf later y) e₁ e₂
 
 -- at most one model for each setting, in the code's words
-pub leaf_one : (book rows bans atoms : List ℕ) (n : ℕ) → Searchable book rows atoms n → (o : Interpretation) → length (leaf_of book rows bans n atoms o) ≤ 1
-leaf_one book rows bans atoms n w o =
-    subst (λ (fs : List ℕ). length (at_setting (barred book rows bans n) fs o) ≤ 1) (sym (barred-listed w bans)) (setting_one (barred book rows bans n) (barred-formed w bans) o)
+pub leaf_one : (b : List ℕ) (rs : List Row) (bans : List Span) (atoms : List ℕ) (n : ℕ) → Searchable b rs atoms n → (o : Interpretation) → length (at_setting (barred b rs bans n) atoms o) ≤ 1
+leaf_one b rs bans atoms n w o =
+    subst (λ (fs : List ℕ). length (at_setting (barred b rs bans n) fs o) ≤ 1) (sym (barred-listed w bans)) (setting_one (barred b rs bans n) (barred-formed w bans) o)
 
 pub count_fits : (c k : ℕ) → c + 2 ^ k ≤ limit → c < limit
 count_fits c k h = omega (arith, pow_pos k)

@@ -11,13 +11,12 @@ use lib.ListN.{length, get_or, set, take, drop, length-drop, length-append}
 use Rattle.base.specs.Bounds.{max_atoms, max_branching}
 use Rattle.layers.proofs.BitLaws.{pow-fits}
 use Rattle.models.specs.StableModels.{Interpretation}
+use Rattle.table.specs.declared.Span.{Span}
 use Rattle.setting.specs.Setting.{setting_of}
 use Rattle.setting.specs.RuleMasks.{Headed}
 use Rattle.setting.proofs.BitMaskLaws.{single}
 use Rattle.nogoods.specs.Nogoods.{Violated}
-use Rattle.plan.specs.Plan.{plan_atoms, plan_masks, plan_nogoods, plan_bans, Planned}
-use Rattle.plan.specs.declared.Sizes.{Sizes}
-use Rattle.plan.proofs.PartLaws.{part_length}
+use Rattle.plan.specs.Plan.{plan_heads, plan_nogoods, plan_bans}
 use Rattle.leaf.specs.Found.{at_setting, found_by}
 use Rattle.leaf.proofs.FoundLaws.{found_le}
 use Rattle.search.specs.declared.Goal.{Goal}
@@ -31,13 +30,10 @@ use Rattle.search.proofs.QuickLaws as quick
 use Rattle.search.proofs.KeptLaws.{room_less, room-same}
 use Rattle.search.proofs.VisitLaws.{searched-count, seen_few, kept-after, searched_combined}
 use Rattle.search.proofs.StepLaws as steps
+use Rattle.table.specs.declared.Row.{Row}
 
 pub undecided-length : (atoms : List ℕ) (left : ℕ) → left ≤ length atoms → length (undecided atoms left) ≡ left
 undecided-length atoms left h = length-drop (length atoms - left) atoms ∙ omega arith
-
--- a plan's atoms are as many as it says
-pub atoms-count : {book rows atoms plan : List ℕ} {s : Sizes} → Planned book rows atoms plan s → length (plan_atoms plan s.branching) ≡ s.branching
-atoms-count {plan = plan} {s = s} p = part_length 0 s.branching plan (omega (arith, p.size, p.few)) ∙ omega arith
 
 -- nothing is decided at first
 pub turned_start : (atoms : List ℕ) (left : ℕ) → left ≡ length atoms → Turned atoms (record { left = left; standing = 0; denied = 0 })
@@ -50,8 +46,8 @@ module _ {s : Space} (ready : Ready s) {turn : Turn} (t : Turned (space_atoms s)
   abbrev atoms : List ℕ
   atoms = space_atoms s
 
-  abbrev bans : List ℕ
-  bans = plan_bans s.plan.now s.sizes.bans
+  abbrev bans : List Span
+  bans = plan_bans s.plan.now
 
   abbrev U : List ℕ
   U = undecided atoms turn.left
@@ -64,34 +60,31 @@ module _ {s : Space} (ready : Ready s) {turn : Turn} (t : Turned (space_atoms s)
 
   -- the quick tests failed: there is nothing to find
   pub none_promised : (r : Bool)
-      → (r ≡ false → (Headed (plan_masks s.plan.now s.sizes.heads) (length (plan_masks s.plan.now s.sizes.heads) / 3) turn.standing turn.denied → ⊥) ⊎ Violated (plan_nogoods s.plan.now s.sizes.nogoods) (length (plan_nogoods s.plan.now s.sizes.nogoods) / 2) turn.standing turn.denied)
+      → (r ≡ false → (Headed (plan_heads s.plan.now) turn.standing turn.denied → ⊥) ⊎ Violated (plan_nogoods s.plan.now) turn.standing turn.denied)
       → r ≡ false → models_left s turn ≡ []
   none_promised r told e = go (told e)
     where
-      go : (Headed (plan_masks s.plan.now s.sizes.heads) (length (plan_masks s.plan.now s.sizes.heads) / 3) turn.standing turn.denied → ⊥) ⊎ Violated (plan_nogoods s.plan.now s.sizes.nogoods) (length (plan_nogoods s.plan.now s.sizes.nogoods) / 2) turn.standing turn.denied
+      go : (Headed (plan_heads s.plan.now) turn.standing turn.denied → ⊥) ⊎ Violated (plan_nogoods s.plan.now) turn.standing turn.denied
           → models_left s turn ≡ []
-      go (inl f) = quick.none_headed ready.table bans ready.planned.rule_masks O t.decided false (λ h. absurd (f h)) refl
-      go (inr m) = quick.none_allowed ready.table bans ready.planned.rule_masks O t.decided ready.planned.nogood_masks true (λ h. m) refl
+      go (inl f) = quick.none_headed ready.table bans ready.planned.rule_masks O t.decided f
+      go (inr x) = quick.none_allowed ready.table bans ready.planned.rule_masks O t.decided ready.planned.nogood_masks x
 
   -- no fact is left: the setting itself
   pub leaf_is : turn.left ≡ 0 → models_left s turn ≡ models_at s turn.standing
   leaf_is e = steps.found_at_leaf leaf U O (undecided-length atoms turn.left t.few ∙ e)
 
   module _ (e : turn.left ≡ 0) (goal : Goal) (v : Visit) (p : List ℕ) where
-    pub leaf_kept : Kept goal s.sizes.n (length (models_left s turn)) v p → Kept goal s.sizes.n (length (models_at s turn.standing)) v p
-    leaf_kept k = subst (λ (ms : List Interpretation). Kept goal s.sizes.n (length ms) v p) (leaf_is e) k
+    pub leaf_kept : Kept goal s.plan.now.n (length (models_left s turn)) v p → Kept goal s.plan.now.n (length (models_at s turn.standing)) v p
+    leaf_kept k = subst (λ (ms : List Interpretation). Kept goal s.plan.now.n (length ms) v p) (leaf_is e) k
 
-    pub leaf_searched : (v' : Visit) (p' : List ℕ) → Searched goal s.sizes.n (models_at s turn.standing) v p v' p' → Searched goal s.sizes.n (models_left s turn) v p v' p'
-    leaf_searched v' p' k = subst (λ (ms : List Interpretation). Searched goal s.sizes.n ms v p v' p') (sym (leaf_is e)) k
+    pub leaf_searched : (v' : Visit) (p' : List ℕ) → Searched goal s.plan.now.n (models_at s turn.standing) v p v' p' → Searched goal s.plan.now.n (models_left s turn) v p v' p'
+    leaf_searched v' p' k = subst (λ (ms : List Interpretation). Searched goal s.plan.now.n ms v p v' p') (sym (leaf_is e)) k
 
   -- a fact is left, the i-th
-  module _ (some : turn.left ≡ 0 → ⊥) (i : ℕ) (ei : i ≡ s.sizes.branching - turn.left) where
-    at : i ≡ length atoms - turn.left
-    at = ei ∙ ap (λ (k : ℕ). k - turn.left) (sym (atoms-count ready.planned))
-
+  module _ (some : turn.left ≡ 0 → ⊥) (i : ℕ) (ei : i ≡ length (space_atoms s) - turn.left) where
     -- which there is
     pub at_small : i < max_branching
-    at_small = omega (arith, at, t.few, ready.table.atoms_few)
+    at_small = omega (arith, ei, some, t.few, ready.table.atoms_few)
 
     size : length U ≡ turn.left
     size = undecided-length atoms turn.left t.few
@@ -109,7 +102,7 @@ module _ {s : Space} (ready : Ready s) {turn : Turn} (t : Turned (space_atoms s)
     later-size = omega (arith, steps.later-length leaf U O not_none, size)
 
     shift : length atoms - length U ≡ i
-    shift = ap (λ (k : ℕ). length atoms - k) size ∙ sym at
+    shift = ap (λ (k : ℕ). length atoms - k) size ∙ sym ei
 
     bit_is : single (length atoms - length U) ≡ 2 ^ i
     bit_is = ap single shift ∙ pow-fits i (omega (arith, at_small))
@@ -150,7 +143,7 @@ module _ {s : Space} (ready : Ready s) {turn : Turn} (t : Turned (space_atoms s)
 
       half_few : (h : Turn) → h.left ≡ turn.left - 1 → length (models_left s h) ≤ 2 ^ (turn.left - 1)
       half_few h e =
-          let f : length (models_left s h) ≤ 2 ^ length (undecided atoms h.left) = found_le leaf (steps.leaf_one s.book.now s.rows.now bans atoms s.sizes.n ready.table) (undecided atoms h.left) (setting_of atoms h.standing) in
+          let f : length (models_left s h) ≤ 2 ^ length (undecided atoms h.left) = found_le leaf (steps.leaf_one s.table.book.now s.table.rows.now bans atoms s.plan.now.n ready.table) (undecided atoms h.left) (setting_of atoms h.standing) in
           subst (λ (k : ℕ). length (models_left s h) ≤ 2 ^ k) (undecided-length atoms h.left (omega (arith, e, t.few)) ∙ e) f
 
       left_first : first.left ≡ turn.left - 1
@@ -163,7 +156,7 @@ module _ {s : Space} (ready : Ready s) {turn : Turn} (t : Turned (space_atoms s)
       first_fits c h = subst (λ (k : ℕ). c + 2 ^ k ≤ steps.limit) (sym left_first) (steps.half_fits c c turn.left some (omega arith) h)
 
       abbrev n : ℕ
-      n = s.sizes.n
+      n = s.plan.now.n
 
       module _ (goal : Goal) (v : Visit) (p : List ℕ) (k : Kept goal n (length (models_left s turn)) v p) where
         halves_kept : Kept goal n (length (models_left s first) + length (models_left s second)) v p

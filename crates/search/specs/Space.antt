@@ -13,16 +13,16 @@ use Rattle.search.specs.Decided.{undecided}
 
 -- the branching facts
 abbrev pub space_atoms : Space → List ℕ
-space_atoms s = plan_atoms s.plan.now s.sizes.branching
+space_atoms s = plan_atoms s.plan.now
 
 -- the program that the table and the plan stand for
 abbrev pub space_program : Space → Program
-space_program s = planned_program s.book.now s.rows.now s.plan.now s.sizes
+space_program s = planned_program s.table.book.now s.table.rows.now s.plan.now
 
 -- the table and the plan can be searched
 pub record Ready (s : Space) : Type 0 where
-  pub table : Searchable s.book.now s.rows.now (space_atoms s) s.sizes.n
-  pub planned : Planned s.book.now s.rows.now (space_atoms s) s.plan.now s.sizes
+  pub table : Searchable s.table.book.now s.table.rows.now (space_atoms s) s.plan.now.n
+  pub planned : Planned s.table.book.now s.table.rows.now (space_atoms s) s.plan.now
 
 -- the stable models of the setting of a mask: there is at most one
 abbrev pub models_at : Space → ℕ → List Interpretation

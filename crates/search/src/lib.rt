@@ -1,14 +1,11 @@
 // The search through the settings of the branching facts: one recursion, which the listing and a fact's place share.
 #![tactic(auto)]
 
-ghost use Rattle.std.specs.Prelude.{◌≡◌, ◌⊎◌, false, [], ◌∷◌, ◌+◌, ◌-◌, ◌/◌, ◌^◌, ◌<◌, ◌≤◌, length, bit_or, MatchOption};
-ghost use Rattle.base.specs.Bounds.{max_atoms, max_branching, max_rules};
-ghost use Rattle.base.specs.Lists.{all, any};
-ghost use Rattle.models.specs.StableModels.{holds};
-ghost use Rattle.bans.specs.Bans.{bodies_of, BansFit};
+ghost use Rattle.std.specs.Prelude.{◌≡◌, ◌⊎◌, false, [], ◌∷◌, ◌+◌, ◌-◌, ◌^◌, ◌<◌, ◌≤◌, length, bit_or, MatchOption};
+ghost use Rattle.base.specs.Bounds.{max_atoms, max_branching};
 ghost use Rattle.setting.specs.RuleMasks.{Headed};
-ghost use Rattle.nogoods.specs.Nogoods.{max_nogoods, Violated};
-ghost use Rattle.plan.specs.Plan.{plan_size, plan_masks, plan_nogoods, plan_bans};
+ghost use Rattle.nogoods.specs.Nogoods.{Violated};
+ghost use Rattle.plan.specs.Plan.{plan_heads, plan_nogoods};
 ghost use Rattle.search.specs.Space.{space_atoms, Ready, models_at, models_left};
 ghost use Rattle.search.specs.Decided.{Turned};
 ghost use Rattle.search.specs.Visits.{Asks, weight_of, kept_by, RoomFor, stopped, Kept, visited, Searched, Combines};
@@ -16,19 +13,20 @@ ghost use Rattle.search.specs.Visits.{Asks, weight_of, kept_by, RoomFor, stopped
 mod scratch;
 
 use bans::banned;
-use condition::evaluate;
+use condition::{Code, evaluate};
+use filling::Rules;
 use leaf::{Leaf, Setting};
 use merging::merge;
 use nogoods::has_nogood;
-use plan::{BANS, MASKS, NOGOODS, REJECTING, Sizes};
+use plan::Plan;
 use records::{add_state, put_state, record_size};
 use rejecting::{clear_at, reject_at};
 pub use scratch::Scratch;
 use setting::headed;
-use table::atom_holds;
+use table::{Table, atom_holds};
 
 // What the search is for: every record, how many models there are, whether a fact stands in some but not in all, in how many models each
-// fact stands, or in how many the condition of a code holds.
+// fact stands, or in how many the condition of these codes holds.
 #[derive(Clone, Copy)]
 pub enum Goal<'a> {
     List,
@@ -36,7 +34,7 @@ pub enum Goal<'a> {
     Count(usize),
     Settle(usize),
     Sums,
-    Fit(&'a [u8]),
+    Fit(&'a [Code]),
 }
 
 // What the search keeps: the models met and what they weigh together.
@@ -65,7 +63,7 @@ impl Goal<'_> {
     {
         match self {
             Goal::Settle(fact) => usize::from(atom_holds(m, *fact)),
-            Goal::Fit(code) => usize::from(evaluate(code, m)),
+            Goal::Fit(codes) => usize::from(evaluate(codes, m)),
             _ => 0,
         }
     }
@@ -149,40 +147,27 @@ impl Turn {
 // What a search goes through: the table of a book's rules that count, and the plan of it.
 #[derive(Clone, Copy)]
 pub struct Space<'a> {
-    pub book: &'a [u8],
-    pub rows: &'a [u16],
-    pub plan: &'a [u32],
-    pub sizes: Sizes,
+    pub table: Table<'a>,
+    pub plan: &'a Plan,
 }
 
 impl Space<'_> {
-    // Whether the body of a constraint holds in a state.
-    fn forbids(&self, state: &[bool]) -> bool
-        requires plan_len { (length self.now.plan.now ≡ plan_size) × (self.now.sizes.bans ≤ max_rules) }
-        requires bans_fit { BansFit self.now.book.now (plan_bans self.now.plan.now self.now.sizes.bans) }
-        ensures { result ≡ any (all (holds state.now)) (bodies_of self.now.book.now (plan_bans self.now.plan.now self.now.sizes.bans)) }
-    {
-        let end = BANS + self.sizes.bans;
-        banned(self.book, &self.plan[BANS..end], state)
-    }
-
     // The stable model at a setting, if there is one: that of the rules alone, unless the body of a constraint holds in it. A constraint's
     // facts need not branch, so it is tested on the finished state.
     pub fn find_model<'s>(&self, standing: u32, scratch: &'s mut Scratch) -> Option<&'s [bool]>
         requires { Ready self.now }
-        ensures { MatchOption result (models_at self.now standing ≡ []) (λ m. (models_at self.now standing ≡ m.now ∷ []) × (length m.now ≡ self.now.sizes.n)) }
+        ensures { MatchOption result (models_at self.now standing ≡ []) (λ m. (models_at self.now standing ≡ m.now ∷ []) × (length m.now ≡ self.now.plan.now.n)) }
     {
-        let n = self.sizes.n;
-        let g = self.sizes.branching;
-        let end = REJECTING + 4 * self.sizes.rejecting;
-        let rejecting = &self.plan[REJECTING..end];
+        let n = self.plan.n;
+        let rejecting = self.plan.rejecting();
         reject_at(rejecting, standing, &mut scratch.rejects);
         let leaf = Leaf {
-            book: self.book,
-            rows: self.rows,
-            rejects: &scratch.rejects,
+            rules: Rules {
+                table: self.table,
+                rejects: &scratch.rejects,
+            },
             setting: Setting {
-                atoms: &self.plan[0..g],
+                atoms: self.plan.atoms(),
                 standing,
             },
         };
@@ -194,7 +179,7 @@ impl Space<'_> {
         );
         clear_at(rejecting, &mut scratch.rejects);
         let state = &scratch.positive[0..n];
-        if found && !self.forbids(state) {
+        if found && !banned(self.table.book, self.plan.bans(), state) {
             Some(state)
         } else {
             None
@@ -204,13 +189,10 @@ impl Space<'_> {
     // Whether the quick tests leave it open that a setting of the facts that are left has a stable model: each fact that stands is the head
     // of a rule that may yet be reached, and no nogood is decided.
     pub fn promising(&self, turn: Turn) -> bool
-        requires { (length self.now.plan.now ≡ plan_size) × (self.now.sizes.heads ≤ max_rules) × (self.now.sizes.nogoods ≤ max_nogoods) }
-        ensures { result ≡ false → (Headed (plan_masks self.now.plan.now self.now.sizes.heads) (length (plan_masks self.now.plan.now self.now.sizes.heads) / 3) turn.standing turn.denied → ⊥) ⊎ Violated (plan_nogoods self.now.plan.now self.now.sizes.nogoods) (length (plan_nogoods self.now.plan.now self.now.sizes.nogoods) / 2) turn.standing turn.denied }
+        ensures { result ≡ false → (Headed (plan_heads self.now.plan.now) turn.standing turn.denied → ⊥) ⊎ Violated (plan_nogoods self.now.plan.now) turn.standing turn.denied }
     {
-        let heads = MASKS + 3 * self.sizes.heads;
-        let forbidding = NOGOODS + 2 * self.sizes.nogoods;
-        headed(&self.plan[MASKS..heads], turn.standing, turn.denied)
-            && !has_nogood(&self.plan[NOGOODS..forbidding], turn.standing, turn.denied)
+        headed(self.plan.heads(), turn.standing, turn.denied)
+            && !has_nogood(self.plan.nogoods(), turn.standing, turn.denied)
     }
 }
 
@@ -224,9 +206,9 @@ fn visit_setting(
     v: Visit,
 ) -> Visit
     requires ready { Ready space.now }
-    requires kept { Kept goal.now space.now.sizes.n (length (models_at space.now standing)) v part.old }
+    requires kept { Kept goal.now space.now.plan.now.n (length (models_at space.now standing)) v part.old }
     requires count_bound { (v.count < 4294967296) × (stopped goal.now v ≡ false) }
-    ensures { Searched goal.now space.now.sizes.n (models_at space.now standing) v part.old result part.new }
+    ensures { Searched goal.now space.now.plan.now.n (models_at space.now standing) v part.old result part.new }
 {
     match space.find_model(standing, scratch) {
         Some(state) => goal.meet(state, part, v),
@@ -246,9 +228,9 @@ pub fn search(
 ) -> Visit
     requires ready { Ready space.now }
     requires turned { Turned (space_atoms space.now) turn }
-    requires kept { Kept goal.now space.now.sizes.n (length (models_left space.now turn)) v part.old }
+    requires kept { Kept goal.now space.now.plan.now.n (length (models_left space.now turn)) v part.old }
     requires left_bound { v.count + 2 ^ turn.left ≤ 4294967296 }
-    ensures { Searched goal.now space.now.sizes.n (models_left space.now turn) v part.old result part.new }
+    ensures { Searched goal.now space.now.plan.now.n (models_left space.now turn) v part.old result part.new }
 {
     if goal.stops(v) || !space.promising(turn) {
         return v;
@@ -256,9 +238,9 @@ pub fn search(
     if turn.left == 0 {
         return visit_setting(space, goal, turn.standing, scratch, part, v);
     }
-    let i = space.sizes.branching - turn.left;
+    let i = space.plan.atoms().len() - turn.left;
     let half = search(space, goal, turn.without(i), scratch, part, v);
     let both = search(space, goal, turn.with(i), scratch, part, half);
-    goal.combine(space.sizes.n, v.count, half.count, both.count, part);
+    goal.combine(space.plan.n, v.count, half.count, both.count, part);
     both
 }

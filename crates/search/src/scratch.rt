@@ -3,7 +3,7 @@ ghost use Rattle.std.specs.Prelude.{◌≡◌, replicate};
 ghost use Rattle.base.specs.Bounds.{max_names};
 
 use base::{MAX_ATOMS, MAX_NAMES};
-use filling::HINTS;
+use filling::Hints;
 
 // What a search works in at every setting, made once a pass: the masks of the rules that a setting rejects, of which there are none between
 // settings; three arrays of marks; and what one filling leaves for the next.
@@ -12,7 +12,7 @@ pub struct Scratch {
     pub positive: [bool; MAX_ATOMS],
     pub negative: [bool; MAX_ATOMS],
     pub early: [bool; MAX_ATOMS],
-    pub hints: [u16; HINTS],
+    pub hints: Hints,
     ghost blank: { rejects ≡ replicate max_names 0 },
 }
 
@@ -23,7 +23,7 @@ impl Scratch {
             positive: [false; MAX_ATOMS],
             negative: [false; MAX_ATOMS],
             early: [false; MAX_ATOMS],
-            hints: [0; HINTS],
+            hints: Hints::new(),
         }
     }
 }

@@ -1,13 +1,19 @@
 -- A row is not contested where it is alive, where its head is answered or where its body does not hold.
-use Rattle.std.proofs.Common.{ap, not}
+use Rattle.std.proofs.Common.{ap, not, arith}
 use Rattle.leaf.proofs.ContestedLaws.{uncontested_alive, uncontested_answered, uncontested_not}
 use Rattle.leaf.proofs.contested.Goals as goal
-use Rattle.leaf.proofs.contested.Goals.{else-not-row_alive-via-then-not-row_alive+then-undecided+else-row_holds, else-not-row_alive-via-then-not-row_alive+else-undecided, else-not-row_alive-via-else-not-row_alive}
+use Rattle.leaf.proofs.contested.Goals.{else-not-alive-via-then-not-alive+then-undecided+else-holds, else-not-alive-via-then-not-alive+else-undecided, else-not-alive-via-else-not-alive}
 
 pub loop-j-preserved : goal.loop-j-preserved
 loop-j-preserved c =
-    elim c.else-not-row_alive.branch [
-      | else-not-row_alive-via-then-not-row_alive+then-undecided+else-row_holds w ↦ uncontested_not c.loop-j.invariant w.row_holds.result w.row_holds.ensures w.if-row_holds.false
-      | else-not-row_alive-via-then-not-row_alive+else-undecided w ↦ uncontested_answered c.loop-j.invariant w.row_head.result w.row_head.ensures.0 (w.undecided.ensures w.if-undecided.false)
-      | else-not-row_alive-via-else-not-row_alive w ↦ uncontested_alive c.loop-j.invariant c.row_alive.result c.row_alive.ensures (ap not w.if-not-row_alive.false)
+    elim c.else-not-alive.branch [
+      | else-not-alive-via-then-not-alive+then-undecided+else-holds w ↦ uncontested_not c.loop-j.invariant w.holds.result w.holds.ensures w.if-holds.false
+      | else-not-alive-via-then-not-alive+else-undecided w ↦ uncontested_answered c.loop-j.invariant w.head.result w.head.ensures.0 (w.undecided.ensures w.if-undecided.false)
+      | else-not-alive-via-else-not-alive w ↦ uncontested_alive c.loop-j.invariant c.alive.result c.alive.ensures (ap not w.if-not-alive.false)
     ]
+
+pub loop-j-init : goal.loop-j-init
+loop-j-init c = record { each = λ j h. absurd (omega arith) }
+
+pub returns : goal.returns
+returns c = λ y. record { each = λ j h. c.loop-j.invariant.each j (omega (arith, h, c.loop-j-test.false, c.len-j-end.ensures)) }

@@ -1,6 +1,7 @@
 -- The state is the only one that can be stable at the setting. It is not where it does not agree with it, it is where it does and no
 -- rejected rule is contested, and else the test decides: the setting rejects what the state does.
-use Rattle.std.proofs.Common.{refl, ap, not}
+use Rattle.std.proofs.Common.{refl, sym, ap, ◌∙◌, Bool, not, []}
+use Rattle.base.specs.Lists.{cons_if}
 use Rattle.leaf.proofs.ModelLaws.{choices, model_apart, model_tested, model_masks, model_uncontested}
 use Rattle.leaf.proofs.Leaf.decide.Goals as goal
 
@@ -15,11 +16,12 @@ returns-then-not-agrees c =
 pub returns-then-not-contested : goal.returns-then-not-contested
 returns-then-not-contested c =
     model_uncontested c.requires.searchable _ c.requires.only_state refl c.agrees.result c.agrees.ensures (ap not c.if-not-agrees.false) c.contested.result c.contested.ensures (ap not c.if-not-contested.true)
+    ∙ ap (λ (b : Bool). cons_if b c.args.state.now []) (ap not (sym c.if-not-contested.true))
 
 pub settles-requires-clause-rejected_masks : goal.settles-requires-clause-rejected_masks
 settles-requires-clause-rejected_masks c =
     model_masks c.requires.searchable _ c.requires.only_state refl c.agrees.result c.agrees.ensures (ap not c.if-not-agrees.false)
 
-pub returns : goal.returns
-returns c =
+pub returns-else-not-contested : goal.returns-else-not-contested
+returns-else-not-contested c =
     model_tested c.requires.searchable _ c.requires.only_state refl c.agrees.result c.agrees.ensures (ap not c.if-not-agrees.false) c.settles.result c.settles.ensures

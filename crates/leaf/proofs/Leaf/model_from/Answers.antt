@@ -9,30 +9,30 @@ use Rattle.leaf.proofs.Leaf.model_from.Goals as goal
 
 pub reaches_denied-requires : goal.reaches_denied-requires
 reaches_denied-requires c =
-    choices c.requires.searchable _ refl
+    choices c.requires.ready.table _ refl
 
 pub returns-then-reaches_denied : goal.returns-then-reaches_denied
 returns-then-reaches_denied c =
-    let d = denied_of_lem (choices c.requires.searchable _ refl) c.args.self.setting.standing in
-    model_conflict c.requires.searchable _ c.requires.rejected_masks d (denied_conflict c.requires.begun d c.reaches_denied.result c.reaches_denied.ensures c.requires.searchable c.if-reaches_denied.true) _
+    let d = denied_of_lem (choices c.requires.ready.table _ refl) c.args.self.now.setting.standing in
+    model_conflict c.requires.ready.table _ c.requires.ready.masks d (denied_conflict c.requires.begun d c.reaches_denied.result c.reaches_denied.ensures c.requires.ready.table c.if-reaches_denied.true) _
 
 pub join-requires : goal.join-requires
 join-requires c =
-    choices c.requires.searchable _ c.requires.marks_len.0
+    choices c.requires.ready.table _ c.requires.marks_len.0
 
-pub fill_on-requires-clause-room : goal.fill_on-requires-clause-room
-fill_on-requires-clause-room c =
-    room_for c.requires.searchable.table c.requires.searchable.formed c.requires.searchable.size c.requires.searchable.few _ _ refl (search rules)
+pub fill_on-requires : goal.fill_on-requires
+fill_on-requires c =
+    room_for c.requires.ready.table.table c.requires.ready.table.formed c.requires.ready.table.size c.requires.ready.table.few _ _ refl (search rules)
 
-pub returns-then-fill_on : goal.returns-then-fill_on
-returns-then-fill_on c =
-    let d = denied_of_lem (choices c.requires.searchable _ refl) c.args.self.setting.standing in
+pub returns-then-is_err : goal.returns-then-is_err
+returns-then-is_err c =
+    let d = denied_of_lem (choices c.requires.ready.table _ refl) c.args.self.now.setting.standing in
     let grown = going_on c.requires.begun d c.reaches_denied.result c.reaches_denied.ensures c.if-reaches_denied.false c.join.ensures c.fill_on.ensures in
-    model_conflict c.requires.searchable _ c.requires.rejected_masks d (grown.clash c.if-fill_on.true) _
+    model_conflict c.requires.ready.table _ c.requires.ready.masks d (grown.clash (sym c.if-is_err.ensures.value)) _
 
 pub decide-requires-clause-only_state : goal.decide-requires-clause-only_state
 decide-requires-clause-only_state c =
-    let d = denied_of_lem (choices c.requires.searchable _ refl) c.args.self.setting.standing in
+    let d = denied_of_lem (choices c.requires.ready.table _ refl) c.args.self.now.setting.standing in
     let filled = going_on c.requires.begun d c.reaches_denied.result c.reaches_denied.ensures c.if-reaches_denied.false c.join.ensures c.fill_on.ensures in
     let before = subst (Early _ _ _ _) (sym c.copy_from_slice.ensures.after) c.requires.early in
-    filled-candidate c.requires.rejected_masks d before filled c.if-fill_on.false
+    filled-candidate c.requires.ready.masks d before filled (sym c.if-is_err.ensures.value)

@@ -1,9 +1,11 @@
 -- A test that fails says why.
-use Rattle.std.proofs.Common.{sym, ◌∙◌, inl, inr}
+use Rattle.std.proofs.Common.{sym, subst, ◌∙◌, List, inl, inr}
 use mathlib.Core.Bool.{false≢true}
 use borrow.Author.Tests.{not-false}
+use Rattle.nogoods.specs.declared.Nogood.{Nogood}
+use Rattle.nogoods.specs.Nogoods.{Violated}
 use Rattle.search.proofs.Space.promising.Goals as goal
 
 pub returns-then-headed : goal.returns-then-headed
 returns-then-headed c =
-    λ e. inr (c.has_nogood.ensures (not-false c.has_nogood.result e))
+    λ e. inr (subst (λ (l : List Nogood). Violated l c.args.turn.standing c.args.turn.denied) c.nogoods.ensures (c.has_nogood.ensures (not-false c.has_nogood.result e)))
