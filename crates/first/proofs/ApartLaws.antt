@@ -24,14 +24,14 @@ use Rattle.models.specs.Branching.{branching, branching_atoms}
 use Rattle.models.specs.Listing.{bit_value}
 use Rattle.bans.specs.Bans.{barred}
 use Rattle.setting.specs.Setting.{setting_of}
-use Rattle.plan.specs.Plan.{plan_atoms, plan_bans}
+use Rattle.plan.specs.Plan.{plan_bans}
 use Rattle.leaf.specs.Searchable.{Searchable}
 use Rattle.search.specs.declared.Space.{Space}
 use Rattle.search.specs.declared.Turn.{Turn}
 use Rattle.search.specs.Decided.{undecided, Turned}
 use Rattle.search.specs.Space.{space_atoms, Ready, models_left}
 use Rattle.search.proofs.AllowedLaws.{barred-listed, barred-size}
-use Rattle.search.proofs.TurnLaws.{atoms-count, turned_first, turned_second, halves_are}
+use Rattle.search.proofs.TurnLaws.{turned_first, turned_second, halves_are}
 use Rattle.first.specs.Nearest.{differs, distance}
 use Rattle.first.specs.InHand.{far, apart_at, Apart}
 use Rattle.first.proofs.LaterLaws.{group_has, group_lacks}
@@ -148,22 +148,19 @@ module _ {book : List ℕ} {rows : List Row} {atoms : List ℕ} {n : ℕ} (w : S
   }
 
 -- the first of the facts that are left, the i-th of all, is decided each way
-module _ {s : Space} (ready : Ready s) {turn : Turn} (t : Turned (space_atoms s) turn) (some : turn.left ≡ 0 → ⊥) (i : ℕ) (ei : i ≡ s.sizes.branching - turn.left) (wanted : Interpretation) {apart : ℕ}
+module _ {s : Space} (ready : Ready s) {turn : Turn} (t : Turned (space_atoms s) turn) (some : turn.left ≡ 0 → ⊥) (i : ℕ) (ei : i ≡ length (space_atoms s) - turn.left) (wanted : Interpretation) {apart : ℕ}
     (away : Apart wanted (undecided (space_atoms s) turn.left) (models_left s turn) turn.left apart)
     {first second : Turn} (e₁ : first ≡ record turn { left = turn.left - 1; denied = bit_or turn.denied (2 ^ i) }) (e₂ : second ≡ record turn { left = turn.left - 1; standing = bit_or turn.standing (2 ^ i) }) where
   abbrev atoms : List ℕ
   atoms = space_atoms s
 
-  count : length atoms ≡ s.sizes.branching
-  count = atoms-count ready.planned
-
   inside_atoms : i < length atoms
-  inside_atoms = omega (arith, t.few, ei, count)
+  inside_atoms = omega (arith, t.few, ei, some)
 
   opened : undecided atoms turn.left ≡ get_or atoms i 0 ∷ undecided atoms (turn.left - 1)
   opened =
-      ap (λ (k : ℕ). drop k atoms) {x = length atoms - turn.left} {y = i} (omega (arith, ei, count)) ∙ drop-cons atoms i 0 inside_atoms
-      ∙ ap (λ (k : ℕ). get_or atoms i 0 ∷ drop k atoms) (let z : suc i ≡ length atoms - (turn.left - 1) = omega (arith, t.few, ei, count) in z)
+      ap (λ (k : ℕ). drop k atoms) {x = length atoms - turn.left} {y = i} (omega (arith, ei)) ∙ drop-cons atoms i 0 inside_atoms
+      ∙ ap (λ (k : ℕ). get_or atoms i 0 ∷ drop k atoms) (let z : suc i ≡ length atoms - (turn.left - 1) = omega (arith, t.few, ei, some) in z)
 
   -- of a half, in which the fact is decided so
   module _ (f : ℕ) (is : f ≡ get_or atoms i 0) (stands : Bool) (r : ℕ) (step : r ≡ bit_value (ltb f (length wanted) && not (beq (atom_holds wanted f) stands)) 1) (h : Turn) (left : h.left ≡ turn.left - 1)
@@ -196,16 +193,12 @@ module _ {s : Space} (ready : Ready s) {turn : Turn} (t : Turned (space_atoms s)
     apart_first step =
         half_apart f is false r step first (ap (λ (h : Turn). h.left) e₁)
         (λ m k. subst (λ (l : List Interpretation). m ∈ l) (sym (halves_are ready t some i ei e₁ e₂)) (Memᴰ.append_left _ k))
-        (λ m k. not_held (atom_holds m (get_or atoms i 0)) (group_lacks ready.table (plan_bans s.plan.now s.sizes.bans) (setting_of atoms first.standing) (turned_first ready t some i ei e₁ e₂).decided m k i
+        (λ m k. not_held (atom_holds m (get_or atoms i 0)) (group_lacks ready.table (plan_bans s.plan.now) (setting_of atoms first.standing) (turned_first ready t some i ei e₁ e₂).decided m k i
         (subst (λ (x : ℕ). bit_of x i ≡ 1) (sym (ap (λ (h : Turn). h.denied) e₁)) (or_right turn.denied (2 ^ i) i (bit-same i)))))
 
     pub apart_second : r ≡ bit_value (ltb f (length wanted) && not (beq (atom_holds wanted f) true)) 1 → Apart wanted (undecided atoms second.left) (models_left s second) second.left (apart + r)
     apart_second step =
         half_apart f is true r step second (ap (λ (h : Turn). h.left) e₂)
         (λ m k. subst (λ (l : List Interpretation). m ∈ l) (sym (halves_are ready t some i ei e₁ e₂)) (Memᴰ.append_right (models_left s first) k))
-        (λ m k. passed (atom_holds m (get_or atoms i 0)) (group_has ready.table (plan_bans s.plan.now s.sizes.bans) (setting_of atoms second.standing) (turned_second ready t some i ei e₁ e₂).decided m k i
+        (λ m k. passed (atom_holds m (get_or atoms i 0)) (group_has ready.table (plan_bans s.plan.now) (setting_of atoms second.standing) (turned_second ready t some i ei e₁ e₂).decided m k i
         (subst (λ (x : ℕ). bit_of x i ≡ 1) (sym (ap (λ (h : Turn). h.standing) e₂)) (or_right turn.standing (2 ^ i) i (bit-same i)))))
-
--- a fact of the plan, as the code reads it
-pub atom_read : (plan : List ℕ) (g i : ℕ) → i < g → get_or plan i 0 ≡ get_or (plan_atoms plan g) i 0
-atom_read plan g i h = sym (get_or-take (g - 0) plan i 0 (omega arith))

@@ -133,3 +133,10 @@ module _ (atoms : List ℕ) (sure : List Bool) (wanted : Interpretation) (n : �
     pub takes_new : (held : Option Held) → ((kept : Held) → held ≡ Some kept → ⊥) → Takes atoms sure wanted n (m ∷ []) held part (Some first) part'
     takes_new None none = takes_only
     takes_new (Some kept) none = absurd (none kept refl)
+
+-- ---- the model of a setting is met, over the branching facts as they are lent
+pub takes_met : {atoms lent : List ℕ} {sure : List Bool} {wanted : Interpretation} {n : ℕ} {m : Interpretation} {ms : List Interpretation} {held held' : Option Held} {part part' : List ℕ} → lent ≡ atoms → length m ≡ n → ms ≡ m ∷ []
+    → Takes lent sure wanted (length m) (m ∷ []) held part held' part' → Takes atoms sure wanted n ms held part held' part'
+takes_met {atoms} {lent} {sure} {wanted} {n} {m} {ms} {held} {held'} {part} {part'} ea el e t =
+    takes_same atoms sure wanted n ms (m ∷ []) e
+    (subst (λ (l : List ℕ). Takes l sure wanted n (m ∷ []) held part held' part') ea (subst (λ (k : ℕ). Takes lent sure wanted k (m ∷ []) held part held' part') el t))

@@ -1,6 +1,6 @@
 -- A record compared with a state's, byte by byte: each turn takes the first bytes away or ends on them. And with a distance in front of each.
 -- Used by precedes and stays. Assumes nothing.
-use mathlib.Core.Path.{◌≡◌, sym, ap, subst, ◌∙◌}
+use mathlib.Core.Path.{◌≡◌, refl, sym, ap, ◌∙◌}
 use mathlib.Core.Bool.{Bool, true, false, not, ◌&&◌}
 use mathlib.Core.List.{List, ◌∷◌}
 use Prim.Native.Nat.{ℕ, zero, suc, ◌+◌, ◌*◌, ◌<◌, ◌≤◌}
@@ -8,11 +8,11 @@ use native.Mathlib.Decide.{dec_lt}
 use native.Mathlib.Omega.{arith}
 use borrow.Author.Tests.{lt-ltb, le-ltb, not-true, not-false}
 use lib.Dec.{ltb}
-use lib.ListN.{length, get_or, take, drop}
-use lib.Seq.{take_all, drop-drop}
+use lib.ListN.{length, get_or, drop, drop_of_length-le}
+use native.Mathlib.Numerals.{add-one}
+use lib.Seq.{drop-cons, drop-drop}
 use Rattle.insertion.specs.Runs.{bytes_before}
-use Rattle.insertion.proofs.ByteOrder.{before_by_first, before_by_rest, bytes_asym}
-use Rattle.insertion.proofs.ByteLaws.{before_here, not-before_here, before-later, not-before_at_end}
+use Rattle.insertion.proofs.ByteOrder.{before_by_first, not-before_by_first, before_by_rest, bytes_asym}
 use Rattle.models.specs.StableModels.{Interpretation}
 use Rattle.models.specs.Listing.{bits_value, packed, record_size, record_of}
 use Rattle.models.proofs.RecordLaws.{record_length}
@@ -39,41 +39,29 @@ module _ (n : ℕ) (m : Interpretation) (part : List ℕ) (size : length part �
   wide : length rec ≡ length part
   wide = record_length n m ∙ sym size
 
-  whole : take (length rec) (drop 0 part) ≡ part
-  whole = take_all (length rec) part (omega (arith, wide))
-
   pub at_end : (j : ℕ) → length part ≤ j → From n m part j → false ≡ bytes_before part rec
-  at_end j h f = sym (f ∙ subst (λ (a : List ℕ). bytes_before (drop j a) (drop j rec) ≡ false) whole (not-before_at_end part rec 0 j (omega (arith, wide))))
+  unfolding bytes_before
+  at_end j h f = sym (f ∙ rw (drop_of_length-le part {i = j} h, drop_of_length-le rec {i = j} (omega (arith, wide))) refl)
 
   module _ (j : ℕ) (h : j < length part) (byte : ℕ) (is : byte ≡ bits_value 8 (drop (8 * j) m)) (f : From n m part j) where
-    byte_at : byte ≡ get_or rec j 0
+    byte_at : get_or rec j 0 ≡ byte
     unfolding record_of
-    byte_at = is ∙ sym (packed_at (record_size n) j m (omega (arith, size)))
+    byte_at = packed_at (record_size n) j m (omega (arith, size)) ∙ sym is
 
-    low : j < length rec
-    low = omega (arith, wide)
+    -- the bytes from j on begin with these two
+    opened : bytes_before part rec ≡ bytes_before (get_or part j 0 ∷ drop (j + 1) part) (byte ∷ drop (j + 1) rec)
+    opened = f ∙ rw (add-one j, drop-cons part j 0 h, drop-cons rec j 0 (omega (arith, wide)), byte_at) refl
 
-    part_at : get_or part (0 + j) 0 ≡ get_or part j 0
-    part_at = let z : 0 + j ≡ j = omega arith in ap (λ (i : ℕ). get_or part i 0) z
-
-    precedes_here : get_or part j 0 < byte → true ≡ bytes_before part rec
-    precedes_here l = sym (f ∙ subst (λ (a : List ℕ). bytes_before (drop j a) (drop j rec) ≡ true) whole (before_here part rec 0 j low (omega (arith, wide)) (omega (arith, part_at, byte_at))))
-
-    follows_here : byte < get_or part j 0 → false ≡ bytes_before part rec
-    follows_here l = sym (f ∙ subst (λ (a : List ℕ). bytes_before (drop j a) (drop j rec) ≡ false) whole (not-before_here part rec 0 j low (omega (arith, wide)) (omega (arith, part_at, byte_at))))
-
-    -- where the bytes differ they decide
+    -- where they differ they decide
     pub decides_here : (get_or part j 0 ≡ byte → ⊥) → ltb (get_or part j 0) byte ≡ bytes_before part rec
-    decides_here d = go (dec_lt (get_or part j 0) byte)
+    decides_here d = go (dec_lt (get_or part j 0) byte) ∙ sym opened
       where
-        go : Dec (get_or part j 0 < byte) → ltb (get_or part j 0) byte ≡ bytes_before part rec
-        go (yes l) = lt-ltb (get_or part j 0) byte l ∙ precedes_here l
-        go (no l) = le-ltb (get_or part j 0) byte (omega arith) ∙ follows_here (omega arith)
+        go : Dec (get_or part j 0 < byte) → ltb (get_or part j 0) byte ≡ bytes_before (get_or part j 0 ∷ drop (j + 1) part) (byte ∷ drop (j + 1) rec)
+        go (yes l) = lt-ltb (get_or part j 0) byte l ∙ sym (before_by_first (get_or part j 0) byte (drop (j + 1) part) (drop (j + 1) rec) l)
+        go (no l) = le-ltb (get_or part j 0) byte (omega arith) ∙ sym (not-before_by_first (get_or part j 0) byte (drop (j + 1) part) (drop (j + 1) rec) (omega arith))
 
     pub goes_on : get_or part j 0 ≡ byte → From n m part (j + 1)
-    goes_on k =
-        f ∙ subst (λ (a : List ℕ). bytes_before (drop j a) (drop j rec) ≡ bytes_before (drop (j + 1) a) (drop (j + 1) rec)) whole
-        (before-later part rec 0 j low (omega (arith, wide)) (omega (arith, part_at, byte_at)) (omega (arith, part_at, byte_at)))
+    goes_on k = opened ∙ before_by_rest (get_or part j 0) byte (drop (j + 1) part) (drop (j + 1) rec) k
 
 -- ---- with the distances in front
 module _ (d e : ℕ) (part rec : List ℕ) where

@@ -8,16 +8,16 @@ ghost use Rattle.base.specs.Bounds.{max_atoms, max_branching};
 ghost use Rattle.models.specs.StableModels.{atom_holds};
 ghost use Rattle.models.specs.Listing.{bit_value, record_size, record_of};
 ghost use Rattle.insertion.specs.Runs.{bytes_before};
-ghost use Rattle.table.specs.Rows.{RowsFit};
-ghost use Rattle.filling.specs.Marks.{hint_size, Room};
+ghost use Rattle.filling.specs.Marks.{Room};
 ghost use Rattle.search.specs.Space.{space_atoms, space_program, Ready, models_at, models_left};
 ghost use Rattle.search.specs.Decided.{undecided, Turned};
 ghost use Rattle.first.specs.InHand.{far, Sure, SureOf, StandingHas, Outlined, Takes, Apart, Later, Behind};
 
-use filling::{clear_marks, fill};
+use filling::{Hints, Rules, clear_marks};
 use nogoods::rejectable_masks;
 use records::{record_byte, record_of, record_size};
 use search::{Scratch, Space, Turn};
+use table::Table;
 
 // What is kept of the state in hand, whose record stands in the lent part: its distance to the wanted state; of the branching facts, bit i
 // for the i-th, those that stand in it, and those before which no other fact stands in it; and whether no other fact stands in it at all.
@@ -75,21 +75,17 @@ pub struct Wish<'a> {
 
 // Facts that stand in every stable model: those that follow from nothing by rules that nothing can displace.
 // The second array is lent for the negations, of which none is marked at first.
-pub fn sure_facts(
-    book: &[u8],
-    rows: &[u16],
-    sure: &mut [bool],
-    negative: &mut [bool],
-    hints: &mut [u16],
-)
-    requires rows_fit { RowsFit book.now rows.now }
-    requires room { Room rows.now sure.old negative.old }
-    requires hints_len { length hints.old ≡ hint_size }
-    ensures { SureOf book.now rows.now sure.new }
+pub fn sure_facts(table: Table, sure: &mut [bool], negative: &mut [bool], hints: &mut Hints)
+    requires { Room table.rows.now sure.old negative.old }
+    ensures { SureOf table.entry.book.now table.entry.rows.now sure.new }
 {
-    let rejectable = rejectable_masks(rows);
+    let rejectable = rejectable_masks(table.rows);
+    let rules = Rules {
+        table,
+        rejects: &rejectable,
+    };
     clear_marks(negative);
-    fill(book, rows, &rejectable, sure, negative, hints);
+    let _ = rules.fill(sure, negative, hints);
 }
 
 // How many of the facts of the wanted state differ in a state.
@@ -208,14 +204,13 @@ fn visit_first(
     held: Option<Held>,
 ) -> Option<Held>
     requires ready { Ready space.now }
-    requires sure_len { (length wish.now.sure.now ≡ space.now.sizes.n) × (length wish.now.wanted.now ≤ space.now.sizes.n) }
-    requires part_len { length part.old ≡ record_size space.now.sizes.n }
-    ensures { Takes (space_atoms space.now) wish.now.sure.now wish.now.wanted.now space.now.sizes.n (models_at space.now standing) held part.old result part.new }
+    requires sure_len { (length wish.now.sure.now ≡ space.now.plan.now.n) × (length wish.now.wanted.now ≤ space.now.plan.now.n) }
+    requires part_len { length part.old ≡ record_size space.now.plan.now.n }
+    ensures { Takes (space_atoms space.now) wish.now.sure.now wish.now.wanted.now space.now.plan.now.n (models_at space.now standing) held part.old result part.new }
 {
     match space.find_model(standing, scratch) {
         Some(state) => {
-            let g = space.sizes.branching;
-            let first = take_first(&space.plan[0..g], wish, state, standing, part, held);
+            let first = take_first(space.plan.atoms(), wish, state, standing, part, held);
             Some(first)
         }
         None => held,
@@ -246,10 +241,10 @@ pub fn search_first(
     requires ready { Ready space.now }
     requires turned { Turned (space_atoms space.now) turn }
     requires sure { Sure (space_program space.now) wish.now.sure.now }
-    requires wanted_len_bound { length wish.now.wanted.now ≤ space.now.sizes.n }
+    requires wanted_len_bound { length wish.now.wanted.now ≤ space.now.plan.now.n }
     requires apart { Apart wish.now.wanted.now (undecided (space_atoms space.now) turn.left) (models_left space.now turn) turn.left apart }
-    requires part_len { length part.old ≡ record_size space.now.sizes.n }
-    ensures { Takes (space_atoms space.now) wish.now.sure.now wish.now.wanted.now space.now.sizes.n (models_left space.now turn) held part.old result part.new }
+    requires part_len { length part.old ≡ record_size space.now.plan.now.n }
+    ensures { Takes (space_atoms space.now) wish.now.sure.now wish.now.wanted.now space.now.plan.now.n (models_left space.now turn) held part.old result part.new }
 {
     if left_out(held, turn.standing, apart) || !space.promising(turn) {
         return held;
@@ -257,8 +252,9 @@ pub fn search_first(
     if turn.left == 0 {
         return visit_first(space, wish, turn.standing, scratch, part, held);
     }
-    let i = space.sizes.branching - turn.left;
-    let f = space.plan[i] as usize;
+    let atoms = space.plan.atoms();
+    let i = atoms.len() - turn.left;
+    let f = atoms[i] as usize;
     let denied = apart + step_apart(wish.wanted, f, false);
     let half = search_first(space, wish, turn.without(i), denied, scratch, part, held);
     let stands = apart + step_apart(wish.wanted, f, true);

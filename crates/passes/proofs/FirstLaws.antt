@@ -28,11 +28,18 @@ use Rattle.bans.specs.Bans.{barred}
 use Rattle.setting.specs.Setting.{setting_of}
 use Rattle.leaf.specs.Found.{at_setting, found_by}
 use Rattle.leaf.specs.Searchable.{Searchable}
+use Rattle.search.specs.declared.Space.{Space}
+use Rattle.search.specs.declared.Turn.{Turn}
 use Rattle.search.specs.Decided.{undecided}
+use Rattle.search.specs.Space.{space_atoms, space_program, Ready, models_left}
+use Rattle.plan.specs.Plan.{plan_bans}
 use Rattle.search.proofs.AllowedLaws.{barred-formed, barred-size}
+use Rattle.std.specs.Prelude.{Option, Some, None, is_some}
+use Rattle.std.specs.Option.{option_map}
 use Rattle.first.specs.declared.Held.{Held}
 use Rattle.first.specs.Nearest.{distance, closest}
-use Rattle.first.specs.InHand.{far, closer, first_among, record_held, InHand, Takes}
+use Rattle.first.specs.InHand.{far, closer, first_among, record_held, HeldOf, InHand, Takes, Apart}
+use Rattle.first.proofs.ApartLaws.{apart-start}
 use Rattle.passes.specs.Limit.{has_no_stable_state}
 use Rattle.passes.specs.Tallied.{searched}
 use Rattle.passes.specs.Nearest.{chosen, Nearest}
@@ -177,9 +184,28 @@ none_wanted P = ap (take 1) (filter-all (λ m. all (λ o. leb (distance 0 [] m) 
     every (m ∷ ms) = every ms
 
 -- ---- the pass
-nothing-held : (atoms : List ℕ) (sure : List Bool) (wanted : Interpretation) (n : ℕ) (part : List ℕ) (held : Held) → held.found ≡ false → InHand atoms sure wanted n part [] held part
+nothing-held : (atoms : List ℕ) (sure : List Bool) (wanted : Interpretation) (n : ℕ) (part : List ℕ) → InHand atoms sure wanted n part [] None part
 unfolding record_held
-nothing-held atoms sure wanted n part held e = record { few = omega arith; found_is = e; part_is = refl; known = λ m k. absurd (Memᴰ.not-nil k) }
+nothing-held atoms sure wanted n part = record { few = omega arith; part_is = refl; held_is = tt }
+
+-- what is told of what is in hand
+module _ (atoms : List ℕ) (sure : List Bool) (wanted : Interpretation) (n : ℕ) where
+  told_if : (hand : List Interpretation) (held : Option Held) → HeldOf atoms sure wanted n hand held → is_some (option_map (λ (h : Held). h.distance) held) ≡ ltb 0 (length hand)
+  told_if [] None h = refl
+  told_if [] (Some held) h = absurd h
+  told_if (m ∷ []) None h = absurd h
+  told_if (m ∷ []) (Some held) h = refl
+  told_if (m ∷ k ∷ hand) held h = absurd h
+
+  told_is : (hand : List Interpretation) (held : Option Held) → HeldOf atoms sure wanted n hand held → (m : Interpretation) → m ∈ hand → option_map (λ (h : Held). h.distance) held ≡ Some (far wanted m)
+  told_is [] held h m k = absurd (Memᴰ.not-nil k)
+  told_is (x ∷ []) None h m k = absurd h
+  told_is (x ∷ []) (Some held) h m k = go (Memᴰ.cases_cons k)
+    where
+      go : (m ≡ x) ⊎ m ∈ [] → Some held.distance ≡ Some (far wanted m)
+      go (inl e) = ap (λ (d : ℕ). Some d) (h.1 ∙ ap (far wanted) (sym e))
+      go (inr j) = absurd (Memᴰ.not-nil j)
+  told_is (x ∷ y ∷ hand) held h m k = absurd h
 
 module _ {book : List ℕ} {rows : List Row} {atoms : List ℕ} {n : ℕ} (w : Searchable book rows atoms n) (bans : List Span) where
   abbrev P : Program
@@ -188,8 +214,8 @@ module _ {book : List ℕ} {rows : List Row} {atoms : List ℕ} {n : ℕ} (w : S
   few : P.atoms ≤ max_atoms
   few = subst (λ (k : ℕ). k ≤ max_atoms) (barred-size w bans) w.few
 
-  module _ (left : ℕ) (e : left ≡ length atoms) {held held' : Held} (none : held.found ≡ false) {sure : List Bool} {wanted : Interpretation} {part part' : List ℕ}
-      (t : Takes atoms sure wanted n (found_by (at_setting P atoms) (undecided atoms left) (setting_of atoms 0)) held part held' part') where
+  module _ (left : ℕ) (e : left ≡ length atoms) {held' : Option Held} {sure : List Bool} {wanted : Interpretation} {part part' : List ℕ}
+      (t : Takes atoms sure wanted n (found_by (at_setting P atoms) (undecided atoms left) (setting_of atoms 0)) None part held' part') where
     all_left : found_by (at_setting P atoms) (undecided atoms left) (setting_of atoms 0) ≡ searched P
     all_left = ap (λ (k : ℕ). found_by (at_setting P atoms) (drop k atoms) (setting_of atoms 0)) {x = length atoms - left} {y = 0} (omega arith) ∙ found_is w bans
 
@@ -197,7 +223,19 @@ module _ {book : List ℕ} {rows : List Row} {atoms : List ℕ} {n : ℕ} (w : S
     met_all = ordered P wanted n (barred-size w bans) (searched P) (λ m k. models_into P m (searched-from P (barred-formed w bans) few m k)) (λ m k. searched_into P (barred-formed w bans) few m (models_from P m k))
 
     last : InHand atoms sure wanted n part (chosen P wanted) held' part'
-    last = subst (λ (l : List Interpretation). InHand atoms sure wanted n part l held' part') (ap (λ (ms : List Interpretation). first_among wanted n ms []) all_left ∙ met_all) (t part [] (nothing-held atoms sure wanted n part held none))
+    last = subst (λ (l : List Interpretation). InHand atoms sure wanted n part l held' part') (ap (λ (ms : List Interpretation). first_among wanted n ms []) all_left ∙ met_all) (t part [] (nothing-held atoms sure wanted n part))
 
-    pub nearest_found : Nearest P wanted n part held'.found held'.distance part'
-    nearest_found = record { found_is = last.found_is ∙ chosen-some P wanted; written = last.part_is; distance_is = λ m k. (last.known m k).1 }
+    pub nearest_found : Nearest P wanted n part (option_map (λ (h : Held). h.distance) held') part'
+    nearest_found = record { found_is = told_if atoms sure wanted n (chosen P wanted) held' last.held_is ∙ chosen-some P wanted; written = last.part_is; distance_is = told_is atoms sure wanted n (chosen P wanted) held' last.held_is }
+
+-- from no fact decided
+pub nearest_told : {s : Space} → Ready s → {turn : Turn} → turn ≡ record { left = length (space_atoms s); standing = 0; denied = 0 } → {held : Option Held} {sure : List Bool} {wanted : Interpretation} {part part' : List ℕ}
+    → Takes (space_atoms s) sure wanted s.plan.now.n (models_left s turn) None part held part' → Nearest (space_program s) wanted s.plan.now.n part (option_map (λ (h : Held). h.distance) held) part'
+nearest_told {s} ready e {held} {sure} {wanted} {part} {part'} t =
+    nearest_found ready.table (plan_bans s.plan.now) (length (space_atoms s)) refl
+    (subst (λ (u : Turn). Takes (space_atoms s) sure wanted s.plan.now.n (models_left s u) None part held part') e t)
+
+pub start_apart : {s : Space} → Ready s → {turn : Turn} → turn ≡ record { left = length (space_atoms s); standing = 0; denied = 0 } → (wanted : Interpretation) → length wanted ≤ s.plan.now.n
+    → Apart wanted (undecided (space_atoms s) turn.left) (models_left s turn) turn.left 0
+start_apart {s} ready e wanted low =
+    subst (λ (u : Turn). Apart wanted (undecided (space_atoms s) u.left) (models_left s u) u.left 0) (sym e) (apart-start ready.table (plan_bans s.plan.now) wanted low (length (space_atoms s)) refl _)

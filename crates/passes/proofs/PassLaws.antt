@@ -19,9 +19,14 @@ use Rattle.records.proofs.OrderLaws.{sorted-length, sorted-listed}
 use Rattle.bans.specs.Bans.{barred}
 use Rattle.search.specs.declared.Goal.{Goal}
 use Rattle.search.specs.declared.Goal.TheVariants as goals
+use Rattle.search.specs.declared.Space.{Space}
+use Rattle.search.specs.declared.Turn.{Turn}
 use Rattle.search.specs.declared.Visit.{Visit}
+use Rattle.search.specs.Space.{space_atoms, space_program, Ready, models_left}
+use Rattle.search.proofs.TurnLaws.{turned_start}
+use Rattle.plan.specs.Plan.{plan_bans}
 use Rattle.leaf.specs.Found.{at_setting, found_by}
-use Rattle.search.specs.Decided.{undecided}
+use Rattle.search.specs.Decided.{undecided, Turned}
 use Rattle.search.specs.Visits.{Asks, rising, kept_by, RoomFor, reaches, Kept, Searched}
 use Rattle.setting.specs.Setting.{setting_of}
 use Rattle.setting.proofs.SettingLaws.{setting_none}
@@ -31,7 +36,7 @@ use Rattle.leaf.specs.Searchable.{Searchable}
 use Rattle.leaf.proofs.FoundLaws.{found_stable, stable_found, found_once, found_count}
 use Rattle.search.proofs.AllowedLaws.{barred-formed, barred-listed, barred-size}
 use Rattle.search.proofs.KeptLaws.{room_less}
-use Rattle.search.proofs.VisitLaws.{searched_goal, searched-count, searched_weight}
+use Rattle.search.proofs.VisitLaws.{searched-count, searched_weight}
 use Rattle.passes.specs.Tallied.{searched, Passed, Tallied, Bounds}
 use Rattle.table.specs.declared.Row.{Row}
 use Rattle.table.specs.declared.Span.{Span}
@@ -59,36 +64,40 @@ module _ (P : Program) (w : WellFormed P) (few : P.atoms ≤ max_atoms) where
   unfolding searched
   models_le = subst (λ (k : ℕ). k ≤ 2 ^ branching_count P) searched-length (found_count P w (replicate max_atoms false) max_atoms unset few)
 
--- a goal that asks nothing, and one that writes nothing
-pub asks_list : (asked : List ℕ) → Asks goals.List asked
+-- a goal that asks nothing, and those that write nothing
+pub asks_list : Asks goals.List
 unfolding Asks
-asks_list asked = tt
+asks_list = tt
 
-pub asks-count : (most : ℕ) (asked : List ℕ) → Asks (goals.Count most) asked
+pub asks_count : (most : ℕ) → Asks (goals.Count most)
 unfolding Asks
-asks-count most asked = tt
+asks_count most = tt
+
+pub asks_settle : (fact : ℕ) → Asks (goals.Settle fact)
+unfolding Asks
+asks_settle fact = tt
 
 pub count_room : (most n k : ℕ) (part : List ℕ) → RoomFor (goals.Count most) n k part
 unfolding RoomFor
 count_room most n k part = tt
 
-pub settle_room : (n k : ℕ) (part : List ℕ) → RoomFor goals.Settle n k part
+pub settle_room : (fact n k : ℕ) (part : List ℕ) → RoomFor (goals.Settle fact) n k part
 unfolding RoomFor
-settle_room n k part = tt
+settle_room fact n k part = tt
 
-pub fit_room : (n k : ℕ) (part : List ℕ) → RoomFor goals.Fit n k part
+pub fit_room : (codes : _) (n k : ℕ) (part : List ℕ) → RoomFor (goals.Fit codes) n k part
 unfolding RoomFor
-fit_room n k part = tt
+fit_room codes n k part = tt
 
 pub list_room : (n k : ℕ) (part : List ℕ) → k * record_size n ≤ length part → RoomFor goals.List n k part
 unfolding RoomFor
 list_room n k part h = h
 
 -- at first all atoms are left
-pub from_all : (P : Program) (atoms : List ℕ) (left : ℕ) → left ≡ length atoms → {asked : List ℕ} {n : ℕ} (o : Interpretation) {v : Visit} {p : List ℕ} {v' : Visit} {p' : List ℕ}
-    → Searched asked n (found_by (at_setting P atoms) (undecided atoms left) o) v p v' p' → Searched asked n (found_by (at_setting P atoms) atoms o) v p v' p'
-from_all P atoms left e {asked} {n} o {v} {p} {v'} {p'} s =
-    subst (λ (k : ℕ). Searched asked n (found_by (at_setting P atoms) (drop k atoms) o) v p v' p') {x = length atoms - left} {y = 0} (omega arith) s
+pub from_all : (P : Program) (atoms : List ℕ) (left : ℕ) → left ≡ length atoms → {goal : Goal} {n : ℕ} (o : Interpretation) {v : Visit} {p : List ℕ} {v' : Visit} {p' : List ℕ}
+    → Searched goal n (found_by (at_setting P atoms) (undecided atoms left) o) v p v' p' → Searched goal n (found_by (at_setting P atoms) atoms o) v p v' p'
+from_all P atoms left e {goal} {n} o {v} {p} {v'} {p'} s =
+    subst (λ (k : ℕ). Searched goal n (found_by (at_setting P atoms) (drop k atoms) o) v p v' p') {x = length atoms - left} {y = 0} (omega arith) s
 
 -- the call of the search
 module _ {book : List ℕ} {rows : List Row} {atoms : List ℕ} {n : ℕ} (w : Searchable book rows atoms n) (bans : List Span) where
@@ -107,41 +116,38 @@ module _ {book : List ℕ} {rows : List Row} {atoms : List ℕ} {n : ℕ} (w : S
   atoms-low : P.atoms ≤ max_atoms
   atoms-low = subst (λ (k : ℕ). k ≤ max_atoms) (barred-size w bans) w.few
 
-  abbrev start : Goal → Visit
-  start goal = record { goal = goal; count = 0; weight = 0 }
+  abbrev start : Visit
+  start = record { count = 0; weight = 0 }
 
   -- as many are found as there are stable models
-  pub start-kept : (goal : Goal) (asked : List ℕ) (left : ℕ) → left ≡ length atoms → (part : List ℕ) → Asks goal asked → RoomFor goal n (length (stable_models P)) part
-      → Kept asked n (length (found_by (at_setting P atoms) (undecided atoms left) (setting_of atoms 0))) (start goal) part
-  start-kept goal asked left e part a r =
+  pub start-kept : (goal : Goal) (left : ℕ) → left ≡ length atoms → (part : List ℕ) → Asks goal → RoomFor goal n (length (stable_models P)) part
+      → Kept goal n (length (found_by (at_setting P atoms) (undecided atoms left) (setting_of atoms 0))) start part
+  start-kept goal left e part a r =
       let all : undecided atoms left ≡ atoms = ap (λ (k : ℕ). drop k atoms) {x = length atoms - left} {y = 0} (omega arith) in
       let count : length (found_by (at_setting P atoms) (undecided atoms left) (setting_of atoms 0)) ≡ length (stable_models P) =
       ap (λ (fs : List ℕ). length (found_by (at_setting P atoms) fs (setting_of atoms 0))) all ∙ ap length found_is ∙ searched-length P (barred-formed w bans) atoms-low in
       record { asks = a; room = room_less goal n (0 + length (found_by (at_setting P atoms) (undecided atoms left) (setting_of atoms 0))) (length (stable_models P)) part (omega (arith, count)) r; light = omega arith }
 
-  module _ {goal : Goal} {asked part : List ℕ} {end : Visit} {part' : List ℕ} (s : Passed P atoms n goal asked part end part') where
+  module _ {goal : Goal} {part : List ℕ} {end : Visit} {part' : List ℕ} (s : Passed P atoms n goal part end part') where
     abbrev found : List Interpretation
     found = found_by (at_setting P atoms) atoms (setting_of atoms 0)
 
-    end_goal : end.goal ≡ goal
-    end_goal = searched_goal asked n found (start goal) part end part' s
-
     pub counted : end.count ≡ length s.seen
-    counted = searched-count asked n found (start goal) part end part' s ∙ omega arith
+    counted = searched-count goal n found start part end part' s ∙ omega arith
 
-    pub tallied : Tallied P goal asked end.count end.weight
+    pub tallied : Tallied P goal end.count end.weight
     tallied = record {
       seen = s.seen;
       rest = s.rest;
       split = sym found_is ∙ s.split;
       count_is = counted;
-      weight_is = searched_weight asked n found (start goal) part end part' s ∙ omega arith;
-      whole = λ e. s.whole (ap (λ (g : Goal). reaches g end.count end.weight) end_goal ∙ e);
+      weight_is = searched_weight goal n found start part end part' s ∙ omega arith;
+      whole = λ e. s.whole e;
     }
 
     all_seen : reaches goal end.count end.weight ≡ false → s.seen ≡ searched P
     all_seen e =
-        sym (append-nil s.seen) ∙ ap (λ (l : List Interpretation). s.seen ++ l) (sym (s.whole (ap (λ (g : Goal). reaches g end.count end.weight) end_goal ∙ e)))
+        sym (append-nil s.seen) ∙ ap (λ (l : List Interpretation). s.seen ++ l) (sym (s.whole e))
         ∙ sym s.split ∙ found_is
 
     seen_few : length s.seen ≤ length (stable_models P)
@@ -192,3 +198,20 @@ pub none_written : (n : ℕ) (ms : List Interpretation) (part : List ℕ) → 0 
 unfolding record_size flat
 none_written n [] part some h z = (refl, let e : 0 * record_size n ≡ 0 = omega arith in ap (λ (k : ℕ). drop k part) (sym e))
 none_written n (m ∷ ms) part some h z = absurd (let e : suc (length ms) * record_size n ≡ record_size n + length ms * record_size n = omega arith in omega (arith, e))
+
+-- ---- from no fact decided
+module _ {s : Space} (ready : Ready s) {turn : Turn} (e : turn ≡ record { left = length (space_atoms s); standing = 0; denied = 0 }) where
+  pub start_turned : Turned (space_atoms s) turn
+  start_turned = subst (Turned (space_atoms s)) (sym e) (turned_start (space_atoms s) (length (space_atoms s)) refl)
+
+  pub start_left : 0 + 2 ^ turn.left ≤ 4294967296
+  start_left = subst (λ (t : Turn). 0 + 2 ^ t.left ≤ 4294967296) (sym e) (start_fits ready.table (plan_bans s.plan.now))
+
+  module _ (goal : Goal) (part : List ℕ) where
+    pub start_kept : Asks goal → RoomFor goal s.plan.now.n (length (stable_models (space_program s))) part → Kept goal s.plan.now.n (length (models_left s turn)) (record { count = 0; weight = 0 }) part
+    start_kept a r = subst (λ (t : Turn). Kept goal s.plan.now.n (length (models_left s t)) (record { count = 0; weight = 0 }) part) (sym e) (start-kept ready.table (plan_bans s.plan.now) goal (length (space_atoms s)) refl part a r)
+
+    pub passed : {end : Visit} {part' : List ℕ} → Searched goal s.plan.now.n (models_left s turn) (record { count = 0; weight = 0 }) part end part' → Passed (space_program s) (space_atoms s) s.plan.now.n goal part end part'
+    passed {end} {part'} w =
+        from_all (space_program s) (space_atoms s) (length (space_atoms s)) refl (setting_of (space_atoms s) 0)
+        (subst (λ (t : Turn). Searched goal s.plan.now.n (models_left s t) (record { count = 0; weight = 0 }) part end part') e w)

@@ -14,7 +14,6 @@ use Rattle.base.specs.Lists.{cons_if, filter}
 use Rattle.base.proofs.Members.{◌∈◌, filter-from, filter_into}
 use Rattle.models.specs.Program.{Program}
 use Rattle.models.specs.StableModels.{Interpretation, atom_holds, stable, StableModel, WellFormed}
-use Rattle.format.specs.Book.{u16_at}
 use Rattle.models.specs.Listing.{bit_value, interpretations, stable_models}
 use Rattle.models.proofs.InterpretationLaws.{interpretations-length, interpretations_has}
 use Rattle.models.proofs.LeastLaws.{stable_sound, stable_complete}
@@ -60,11 +59,9 @@ module _ (P : Program) where
 -- ---- what a pass met
 none-reaches : (goal : Goal) → reaches goal 0 0 ≡ false
 unfolding reaches
-none-reaches goals.List = refl
 none-reaches (goals.Count most) = le-ltb most 0 (omega arith)
-none-reaches goals.Settle = refl
-none-reaches goals.Sums = refl
-none-reaches goals.Fit = refl
+none-reaches (goals.Settle fact) = refl
+none-reaches _ = refl
 
 module _ (P : Program) (w : WellFormed P) (few : P.atoms ≤ max_atoms) where
   pub searched-from : (m : Interpretation) → m ∈ searched P → StableModel P m
@@ -75,7 +72,7 @@ module _ (P : Program) (w : WellFormed P) (few : P.atoms ≤ max_atoms) where
   unfolding searched
   searched_into m s = stable_found P w (replicate max_atoms false) max_atoms (length-replicate {A = Bool} max_atoms false) few m s.size (stable_complete P m s)
 
-  module _ {goal : Goal} {asked : List ℕ} {count weight : ℕ} (t : Tallied P goal asked count weight) where
+  module _ {goal : Goal} {count weight : ℕ} (t : Tallied P goal count weight) where
     pub seen-from : (m : Interpretation) → m ∈ t.seen → StableModel P m
     seen-from m k = searched-from m (subst (λ (l : List Interpretation). m ∈ l) (sym t.split) (Memᴰ.append_left t.rest k))
 
@@ -86,7 +83,7 @@ module _ (P : Program) (w : WellFormed P) (few : P.atoms ≤ max_atoms) where
     unfolding total_of
     tallied_none e =
         let s : t.seen ≡ [] = empty t.seen (sym t.count_is ∙ e) in
-        let z : weight ≡ 0 = t.weight_is ∙ ap (total_of (weight_of goal asked)) s in
+        let z : weight ≡ 0 = t.weight_is ∙ ap (total_of (weight_of goal)) s in
         let r : t.rest ≡ [] = t.whole (rw (e, z) (none-reaches goal)) in
         state_none P (sym (searched-length P w few) ∙ ap length (t.split ∙ ap₂ (λ (x y : List Interpretation). x ++ y) s r))
 
@@ -104,14 +101,14 @@ bits_weight w p e (m ∷ ms) = go (p m) (e m) (bits_weight w p e ms)
     go false f g = omega (arith, f, g)
 
 -- for a fact's place the models weigh as many as those in which it stands
-pub settled_weight : (asked : List ℕ) (ms : List Interpretation) → total_of (weight_of goals.Settle asked) ms ≡ length (filter (λ m. atom_holds m (u16_at asked 0)) ms)
+pub settled_weight : (fact : ℕ) (ms : List Interpretation) → total_of (weight_of (goals.Settle fact)) ms ≡ length (filter (λ m. atom_holds m fact) ms)
 unfolding weight_of
-settled_weight asked ms = bits_weight (weight_of goals.Settle asked) (λ m. atom_holds m (u16_at asked 0)) (λ m. refl) ms
+settled_weight fact ms = bits_weight (weight_of (goals.Settle fact)) (λ m. atom_holds m fact) (λ m. refl) ms
 
 -- for a condition as many as those in which it holds
-pub fitted_weight : (asked : List ℕ) (ms : List Interpretation) → total_of (weight_of goals.Fit asked) ms ≡ length (filter (code_holds asked) ms)
+pub fitted_weight : (codes : _) (ms : List Interpretation) → total_of (weight_of (goals.Fit codes)) ms ≡ length (filter (code_holds codes.now) ms)
 unfolding weight_of
-fitted_weight asked ms = bits_weight (weight_of goals.Fit asked) (code_holds asked) (λ m. refl) ms
+fitted_weight codes ms = bits_weight (weight_of (goals.Fit codes)) (code_holds codes.now) (λ m. refl) ms
 
 -- ---- how many pass a test does not depend on the order
 module _ (p : Interpretation → Bool) where

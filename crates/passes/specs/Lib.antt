@@ -1,4 +1,4 @@
 pub mod Limit
-pub mod SetUp
 pub mod Tallied
 pub mod Nearest
+pub mod SetUp

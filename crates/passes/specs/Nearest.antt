@@ -1,5 +1,5 @@
 -- What the pass for the state closest to a wanted one tells and writes. Assumes nothing.
-use Rattle.std.specs.Prelude.{◌≡◌, Bool, not, ℕ, length, take}
+use Rattle.std.specs.Prelude.{◌≡◌, not, ℕ, length, take, Option, Some, is_some}
 use mathlib.Core.List.{List, Memᴰ}
 use Rattle.models.specs.Program.{Program}
 use Rattle.models.specs.StableModels.{Interpretation}
@@ -12,8 +12,8 @@ use Rattle.passes.specs.Limit.{has_no_stable_state}
 unfoldable pub chosen : Program → Interpretation → List Interpretation
 chosen P wanted = take 1 (closest (length wanted) wanted (stable_models P))
 
--- its record is written, and its distance is told
-pub record Nearest (P : Program) (wanted : Interpretation) (n : ℕ) (old : List ℕ) (found : Bool) (d : ℕ) (new : List ℕ) : Type 0 where
-  pub found_is : found ≡ not (has_no_stable_state P)
+-- its record is written, and its distance is told, if there is one
+pub record Nearest (P : Program) (wanted : Interpretation) (n : ℕ) (old : List ℕ) (told : Option ℕ) (new : List ℕ) : Type 0 where
+  pub found_is : is_some told ≡ not (has_no_stable_state P)
   pub written : new ≡ record_held n (chosen P wanted) old
-  pub distance_is : (m : Interpretation) → Memᴰ m (chosen P wanted) → d ≡ far wanted m
+  pub distance_is : (m : Interpretation) → Memᴰ m (chosen P wanted) → told ≡ Some (far wanted m)

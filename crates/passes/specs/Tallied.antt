@@ -15,17 +15,16 @@ unfoldable pub searched : Program → List Interpretation
 searched P = found_by (at_setting P (branching_atoms P)) (branching_atoms P) (replicate max_atoms false)
 
 -- one pass of the search, which begins with nothing met
-abbrev pub Passed : Program → List ℕ → ℕ → Goal → List ℕ → List ℕ → Visit → List ℕ → Type 0
-Passed P atoms n goal asked part end part' =
-    Searched asked n (found_by (at_setting P atoms) atoms (setting_of atoms 0)) (record { goal = goal; count = 0; weight = 0 }) part end part'
+abbrev pub Passed : Program → List ℕ → ℕ → Goal → List ℕ → Visit → List ℕ → Type 0
+Passed P atoms n goal part end part' = Searched goal n (found_by (at_setting P atoms) atoms (setting_of atoms 0)) (record { count = 0; weight = 0 }) part end part'
 
 -- the first of them were met, and all unless the goal was reached before
-pub record Tallied (P : Program) (goal : Goal) (asked : List ℕ) (count weight : ℕ) : Type 0 where
+pub record Tallied (P : Program) (goal : Goal) (count weight : ℕ) : Type 0 where
   pub seen : List Interpretation
   pub rest : List Interpretation
   pub split : searched P ≡ seen ++ rest
   pub count_is : count ≡ length seen
-  pub weight_is : weight ≡ total_of (weight_of goal asked) seen
+  pub weight_is : weight ≡ total_of (weight_of goal) seen
   pub whole : reaches goal count weight ≡ false → rest ≡ []
 
 -- a number that is no less than k, or that with k is over what there is room for

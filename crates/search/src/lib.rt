@@ -152,6 +152,17 @@ pub struct Space<'a> {
 }
 
 impl Space<'_> {
+    // Nothing is decided: all branching facts are left.
+    pub fn start(&self) -> Turn
+        ensures { result ≡ record { left = length (space_atoms self.now); standing = 0; denied = 0 } }
+    {
+        Turn {
+            left: self.plan.atoms().len(),
+            standing: 0,
+            denied: 0,
+        }
+    }
+
     // The stable model at a setting, if there is one: that of the rules alone, unless the body of a constraint holds in it. A constraint's
     // facts need not branch, so it is tested on the finished state.
     pub fn find_model<'s>(&self, standing: u32, scratch: &'s mut Scratch) -> Option<&'s [bool]>

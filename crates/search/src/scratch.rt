@@ -7,6 +7,7 @@ use filling::Hints;
 
 // What a search works in at every setting, made once a pass: the masks of the rules that a setting rejects, of which there are none between
 // settings; three arrays of marks; and what one filling leaves for the next.
+#[derive(Drop)]
 pub struct Scratch {
     pub rejects: [u32; MAX_NAMES],
     pub positive: [bool; MAX_ATOMS],

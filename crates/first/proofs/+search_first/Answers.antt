@@ -1,26 +1,26 @@
 -- A group in which no state comes before the one in hand (`takes_skipped`), one in which nothing can be found (`none_promised`), a leaf, and
 -- two halves with the first fact that is left decided each way (TurnLaws, ApartLaws).
-use Rattle.std.proofs.Common.{rules, refl, sym, ap, ◌∙◌, arith}
+use Rattle.std.proofs.Common.{rules, refl, sym, ap, ◌∙◌, ◌-◌, ℕ, List, length, get_or, arith}
 use Rattle.plan.specs.Plan.{plan_bans}
 use Rattle.search.specs.declared.Turn.{Turn}
 use Rattle.search.proofs.AllowedLaws.{barred-size}
-use Rattle.search.proofs.TurnLaws.{atoms-count, none_promised, leaf_is, turned_first, turned_second, halves_are}
+use Rattle.search.proofs.TurnLaws.{none_promised, leaf_is, turned_first, turned_second, halves_are}
 use Rattle.first.proofs.InHandLaws.{takes_none, takes_same, takes_both}
 use Rattle.first.proofs.LaterLaws.{takes_skipped}
-use Rattle.first.proofs.ApartLaws.{step_small, atom_read, apart_first, apart_second}
+use Rattle.first.proofs.ApartLaws.{step_small, apart_first, apart_second}
 use Rattle.first.proofs.+search_first.Goals as goal
 use Rattle.first.proofs.+search_first.Goals.{then-left_out-via-then-left_out, then-left_out-via-else-left_out+then-not-promising}
 
 pub returns-then-left_out : goal.returns-then-left_out
 returns-then-left_out t c =
     elim c.then-left_out.branch [
-      | then-left_out-via-then-left_out w ↦ takes_skipped c.requires.ready.table (plan_bans c.args.space.now.plan.now c.args.space.now.sizes.bans) _ c.requires.turned.decided c.requires.sure c.args.wish.now.wanted.now c.requires.apart c.args.held c.left_out.result c.left_out.ensures w.if-left_out.true c.args.part.now
+      | then-left_out-via-then-left_out w ↦ takes_skipped c.requires.ready.table (plan_bans c.args.space.now.plan.now) _ c.requires.turned.decided c.requires.sure c.args.wish.now.wanted.now c.requires.apart c.args.held c.left_out.result c.left_out.ensures w.if-left_out.true c.args.part.now
       | then-left_out-via-else-left_out+then-not-promising w ↦ takes_none _ _ _ _ _ (none_promised c.requires.ready c.requires.turned w.promising.result w.promising.ensures w.if-not-promising.true) c.args.held c.args.part.now
     ]
 
 pub visit_first-requires-clause-sure_len : goal.visit_first-requires-clause-sure_len
 visit_first-requires-clause-sure_len t c =
-    (c.requires.sure.size ∙ sym (barred-size c.requires.ready.table (plan_bans c.args.space.now.plan.now c.args.space.now.sizes.bans)), c.requires.wanted_len_bound)
+    (c.requires.sure.size ∙ sym (barred-size c.requires.ready.table (plan_bans c.args.space.now.plan.now)), c.requires.wanted_len_bound)
 
 pub returns-then-turn-eq0 : goal.returns-then-turn-eq0
 returns-then-turn-eq0 t c =
@@ -33,7 +33,7 @@ overflow_add-denied t c =
 pub search_first-half-requires : goal.search_first-half-requires
 search_first-half-requires t c =
     let some = c.if-turn-eq0.false in
-    (omega (arith, some, c.decreases, ap (λ (u : Turn). u.left) c.without.ensures), (c.requires.ready, (turned_first c.requires.ready c.requires.turned some _ refl c.without.ensures refl, (c.requires.sure, (c.requires.wanted_len_bound, (apart_first c.requires.ready c.requires.turned some _ refl c.args.wish.now.wanted.now c.requires.apart c.without.ensures refl _ (atom_read c.args.space.now.plan.now c.args.space.now.sizes.branching _ (omega (arith, some, c.requires.turned.few, atoms-count c.requires.ready.planned))) c.step_apart.result c.step_apart.ensures, c.requires.part_len))))))
+    (omega (arith, some, c.decreases, ap (λ (u : Turn). u.left) c.without.ensures), (c.requires.ready, (turned_first c.requires.ready c.requires.turned some _ (ap (λ (l : List ℕ). length l - c.args.turn.left) c.atoms-atoms.ensures) c.without.ensures refl, (c.requires.sure, (c.requires.wanted_len_bound, (apart_first c.requires.ready c.requires.turned some _ (ap (λ (l : List ℕ). length l - c.args.turn.left) c.atoms-atoms.ensures) c.args.wish.now.wanted.now c.requires.apart c.without.ensures refl _ (ap (λ (l : List ℕ). get_or l (length c.atoms-atoms.result.now - c.args.turn.left) 0) c.atoms-atoms.ensures) c.step_apart.result c.step_apart.ensures, c.requires.part_len))))))
 
 pub overflow_add-stands : goal.overflow_add-stands
 overflow_add-stands t c =
@@ -42,8 +42,8 @@ overflow_add-stands t c =
 pub search_first-requires : goal.search_first-requires
 search_first-requires t c =
     let some = c.if-turn-eq0.false in
-    (omega (arith, some, c.decreases, ap (λ (u : Turn). u.left) c.with.ensures), (c.requires.ready, (turned_second c.requires.ready c.requires.turned some _ refl c.without.ensures c.with.ensures, (c.requires.sure, (c.requires.wanted_len_bound, (apart_second c.requires.ready c.requires.turned some _ refl c.args.wish.now.wanted.now c.requires.apart c.without.ensures c.with.ensures _ (atom_read c.args.space.now.plan.now c.args.space.now.sizes.branching _ (omega (arith, some, c.requires.turned.few, atoms-count c.requires.ready.planned))) c.step_apart-2.result c.step_apart-2.ensures, search rules))))))
+    (omega (arith, some, c.decreases, ap (λ (u : Turn). u.left) c.with.ensures), (c.requires.ready, (turned_second c.requires.ready c.requires.turned some _ (ap (λ (l : List ℕ). length l - c.args.turn.left) c.atoms-atoms.ensures) c.without.ensures c.with.ensures, (c.requires.sure, (c.requires.wanted_len_bound, (apart_second c.requires.ready c.requires.turned some _ (ap (λ (l : List ℕ). length l - c.args.turn.left) c.atoms-atoms.ensures) c.args.wish.now.wanted.now c.requires.apart c.without.ensures c.with.ensures _ (ap (λ (l : List ℕ). get_or l (length c.atoms-atoms.result.now - c.args.turn.left) 0) c.atoms-atoms.ensures) c.step_apart-2.result c.step_apart-2.ensures, search rules))))))
 
 pub returns : goal.returns
 returns t c =
-    takes_both _ _ _ _ _ _ _ (halves_are c.requires.ready c.requires.turned c.if-turn-eq0.false _ refl c.without.ensures c.with.ensures) c.search_first-half.ensures c.search_first.ensures
+    takes_both _ _ _ _ _ _ _ (halves_are c.requires.ready c.requires.turned c.if-turn-eq0.false _ (ap (λ (l : List ℕ). length l - c.args.turn.left) c.atoms-atoms.ensures) c.without.ensures c.with.ensures) c.search_first-half.ensures c.search_first.ensures

@@ -1,22 +1,24 @@
 -- The search from no fact decided, with nothing in hand (FirstLaws).
-use mathlib.Core.Path.{refl, sym}
-use Rattle.plan.specs.Plan.{plan_atoms, plan_bans}
+use Rattle.std.proofs.Common.{rules}
+use Rattle.plan.specs.Plan.{plan_bans}
 use Rattle.tester.proofs.TestLaws.{room_for}
-use Rattle.search.proofs.TurnLaws.{atoms-count, turned_start}
 use Rattle.first.proofs.SureLaws.{sure_barred}
-use Rattle.first.proofs.ApartLaws.{apart-start}
-use Rattle.passes.proofs.FirstLaws.{nearest_found}
-use borrow.Author.Rules.{rules}
+use Rattle.passes.proofs.PassLaws.{start_turned}
+use Rattle.passes.proofs.FirstLaws.{nearest_told, start_apart}
 use Rattle.passes.proofs.nearest_pass.Goals as goal
 
 pub sure_facts-requires : goal.sure_facts-requires
 sure_facts-requires c =
-    record { rows_fit = c.requires.ready.table.table.fits; room = room_for c.requires.ready.table.table c.requires.ready.table.formed c.requires.ready.table.size c.requires.ready.table.few _ _ c.requires.sure_len.0 c.requires.lent.negations; hints_len = c.requires.lent.hinted }
+    room_for c.requires.ready.table.table c.requires.ready.table.formed c.requires.ready.table.size c.requires.ready.table.few _ _ c.requires.sure_len.0 (search rules)
 
-pub search_first-requires : goal.search_first-requires
-search_first-requires c =
-    record { searchable = c.requires.ready.table; planned = c.requires.ready.planned; turned = turned_start (plan_atoms c.args.plan.now c.args.sizes.branching) c.args.sizes.branching (sym (atoms-count c.requires.ready.planned)); sure = sure_barred c.requires.ready.table (plan_bans c.args.plan.now c.args.sizes.bans) (search (rules, c.requires.sure_len.0)) c.sure_facts.ensures; wanted_len_bound = c.requires.sure_len.1; apart = apart-start c.requires.ready.table (plan_bans c.args.plan.now c.args.sizes.bans) c.args.wanted.now c.requires.sure_len.1 c.args.sizes.branching (sym (atoms-count c.requires.ready.planned)) _; lent = record { blank = c.requires.lent.blank; facts = c.requires.lent.facts; negations = search (rules, c.requires.lent.negations); kept = c.requires.lent.kept; hinted = search (rules, c.requires.lent.hinted) }; part_len = c.requires.part_len }
+pub search_first-requires-clause-turned : goal.search_first-requires-clause-turned
+search_first-requires-clause-turned c = start_turned c.requires.ready c.start.ensures
+
+pub search_first-requires-clause-sure : goal.search_first-requires-clause-sure
+search_first-requires-clause-sure c = sure_barred c.requires.ready.table (plan_bans c.args.space.now.plan.now) (search rules) c.sure_facts.ensures
+
+pub search_first-requires-clause-apart : goal.search_first-requires-clause-apart
+search_first-requires-clause-apart c = start_apart c.requires.ready c.start.ensures c.args.wanted.now c.requires.sure_len.1
 
 pub returns : goal.returns
-returns c =
-    nearest_found c.requires.ready.table (plan_bans c.args.plan.now c.args.sizes.bans) c.args.sizes.branching (sym (atoms-count c.requires.ready.planned)) refl c.search_first.ensures.takes
+returns c = nearest_told c.requires.ready c.start.ensures c.search_first.ensures

@@ -1,20 +1,15 @@
 -- The search from no fact decided.
-use mathlib.Core.Path.{refl, sym, subst}
-use Prim.Native.Nat.{ℕ, ◌+◌, ◌^◌, ◌≤◌}
-use Rattle.setting.specs.Setting.{setting_of}
-use Rattle.plan.specs.Plan.{plan_atoms, plan_bans, planned_program}
-use Rattle.search.proofs.TurnLaws.{atoms-count, turned_start}
-use Rattle.passes.proofs.PassLaws.{from_all, start_fits, start-kept}
-use borrow.Author.Rules.{rules}
+use Rattle.passes.proofs.PassLaws.{start_turned, start_left, start_kept, passed}
 use Rattle.passes.proofs.pass.Goals as goal
 
-pub search-requires : goal.search-requires
-search-requires c =
-    let count = atoms-count c.requires.ready.planned in
-    let bans = plan_bans c.args.plan.now c.args.sizes.bans in
-    record { searchable = c.requires.ready.table; planned = c.requires.ready.planned; turned = turned_start (plan_atoms c.args.plan.now c.args.sizes.branching) c.args.sizes.branching (sym count); kept = start-kept c.requires.ready.table bans c.args.goal c.args.asked.now c.args.sizes.branching (sym count) c.args.part.now c.requires.asks c.requires.room_for; left_bound = subst (λ (k : ℕ). 0 + 2 ^ k ≤ 4294967296) count (start_fits c.requires.ready.table bans); lent = record { blank = refl; facts = search rules; negations = search rules; kept = search rules; hinted = search rules } }
+pub search-requires-clause-turned : goal.search-requires-clause-turned
+search-requires-clause-turned c = start_turned c.requires.ready c.start.ensures
+
+pub search-requires-clause-kept : goal.search-requires-clause-kept
+search-requires-clause-kept c = start_kept c.requires.ready c.start.ensures c.args.goal.now c.args.part.now c.requires.asks c.requires.room_for
+
+pub search-requires-clause-left_bound : goal.search-requires-clause-left_bound
+search-requires-clause-left_bound c = start_left c.requires.ready c.start.ensures
 
 pub returns : goal.returns
-returns c =
-    let atoms = plan_atoms c.args.plan.now c.args.sizes.branching in
-    from_all (planned_program c.args.book.now c.args.rows.now c.args.plan.now c.args.sizes) atoms c.args.sizes.branching (sym (atoms-count c.requires.ready.planned)) (setting_of atoms 0) c.search.ensures.searched
+returns c = passed c.requires.ready c.start.ensures c.args.goal.now c.args.part.now c.search.ensures

@@ -1,24 +1,32 @@
--- The table of the layer, the constraints behind the plan, its branching facts in front of it, and the plan of them (SetUpLaws).
-use mathlib.Core.Bool.{false≢true, true≢false}
-use Rattle.table.proofs.TableLaws.{lent_table}
+-- The table of the layer, the constraints and the branching facts in the plan, and the plan of them (SetUpLaws).
+use mathlib.Core.Path.{refl, sym, ap, ◌∙◌}
+use Prim.Native.Nat.{◌≤◌}
+use lib.ListN.{length}
+use Rattle.std.proofs.Common.{rules}
+use Rattle.base.specs.Bounds.{max_branching}
 use Rattle.table.proofs.TabledLaws.{lent_tabled}
 use Rattle.accepted.proofs.RecordFacts.{program_atoms}
-use Rattle.passes.proofs.SetUpLaws.{set_up_alike, lent_few, too_many, not_too_many, listed-size, listed_fit, listed-low, made-ready}
-use borrow.Author.Rules.{rules}
+use Rattle.passes.proofs.SetUpLaws.{too_many, listed_low, not_too_many, set_up_spans}
 use Rattle.passes.proofs.set_up.Goals as goal
 
-pub branching_atoms-g-requires : goal.branching_atoms-g-requires
-branching_atoms-g-requires c =
-    record { tabulates = lent_tabled c.prepare-rules.ensures (program_atoms c.args.book.now c.args.layer c.args.off c.atom_count-n.result c.atom_count-n.ensures.0); n_le_max_atoms = c.atom_count-n.ensures.2; atoms_len = search rules }
+pub branching_atoms-requires-clause-tabulates : goal.branching_atoms-requires-clause-tabulates
+branching_atoms-requires-clause-tabulates c =
+    let d = c.args.driving.now in lent_tabled c.prepare-count.ensures (program_atoms d.book.now d.layer d.off c.atom_count-n.result c.atom_count-n.ensures.0)
 
-pub returns-then-g-gt-MAX_BRANCHING : goal.returns-then-g-gt-MAX_BRANCHING
-returns-then-g-gt-MAX_BRANCHING c =
-    record { room = c.prepare-rules.ensures.room; row_size_lem = c.prepare-rules.ensures.size; plan_size_lem = listed-size c.args.book.now c.args.layer c.args.off c.requires.accepted c.prepare-rules.ensures c.atom_count-n.result c.atom_count-n.ensures.0 c.branching_atoms-g.ensures _ c.put_bans-bans.ensures; alike = λ e. absurd (false≢true e); too_many = λ e. too_many c.args.book.now c.args.layer c.args.off c.requires.accepted c.prepare-rules.ensures c.atom_count-n.result c.atom_count-n.ensures.0 c.branching_atoms-g.ensures c.if-g-gt-MAX_BRANCHING.true; not_too_many = λ e. absurd (false≢true e); ready = λ e. absurd (false≢true e) }
+pub make_plan-requires-clause-facts_low : goal.make_plan-requires-clause-facts_low
+make_plan-requires-clause-facts_low c =
+    listed_low c.args.driving.now c.prepare-count.ensures c.atom_count-n.result c.atom_count-n.ensures.0 c.as_slice.result.now (c.as_slice.ensures ∙ c.in-Ok.ensures) c.atom_count-n.ensures.2
 
-pub make_plan-sizes-requires : goal.make_plan-sizes-requires
-make_plan-sizes-requires c =
-    record { rows_fit = (lent_table c.prepare-rules.ensures).fits; rows_bound = lent_few c.args.book.now c.args.layer c.args.off c.requires.accepted c.prepare-rules.ensures c.atom_count-n.result c.atom_count-n.ensures.0; plan_len = (listed-size c.args.book.now c.args.layer c.args.off c.requires.accepted c.prepare-rules.ensures c.atom_count-n.result c.atom_count-n.ensures.0 c.branching_atoms-g.ensures _ c.put_bans-bans.ensures, c.if-g-gt-MAX_BRANCHING.false, listed-low c.args.book.now c.args.layer c.args.off c.requires.accepted c.prepare-rules.ensures c.atom_count-n.result c.atom_count-n.ensures.0 c.branching_atoms-g.ensures _ c.put_bans-bans.ensures c.if-g-gt-MAX_BRANCHING.false c.atom_count-n.ensures.2); bans_le_max_rules = (c.put_bans-bans.ensures.few, listed_fit c.args.book.now c.args.layer c.args.off c.requires.accepted c.prepare-rules.ensures c.atom_count-n.result c.atom_count-n.ensures.0 c.branching_atoms-g.ensures _ c.put_bans-bans.ensures) }
+pub returns-in-Ok : goal.returns-in-Ok
+returns-in-Ok c =
+    let few : length c.as_slice.result.now ≤ max_branching = search rules in
+    let w = set_up_spans c.args.driving.now c.prepare-count.ensures c.atom_count-n.result c.atom_count-n.ensures.0 c.as_slice.result.now (c.as_slice.ensures ∙ c.in-Ok.ensures) few c.prepare_bans-plan.ensures _ c.make_plan.ensures.planned c.make_plan.ensures.facts c.make_plan.ensures.bans c.atom_count-n.ensures.1 c.atom_count-n.ensures.2 in
+    record {
+      ready = record { table = w.0; planned = w.1 };
+      alike = w.2;
+      few = not_too_many c.args.driving.now c.prepare-count.ensures c.atom_count-n.result c.atom_count-n.ensures.0 c.as_slice.result.now (c.as_slice.ensures ∙ c.in-Ok.ensures) few;
+    }
 
-pub returns : goal.returns
-returns c =
-    record { room = c.prepare-rules.ensures.room; row_size_lem = c.prepare-rules.ensures.size; plan_size_lem = c.make_plan-sizes.ensures.0.size; alike = λ e. set_up_alike c.args.book.now c.args.layer c.args.off c.requires.accepted c.prepare-rules.ensures c.atom_count-n.result c.atom_count-n.ensures.0 c.branching_atoms-g.ensures _ c.put_bans-bans.ensures c.make_plan-sizes.ensures.0 c.make_plan-sizes.ensures.3 c.make_plan-sizes.ensures.1; too_many = λ e. absurd (true≢false e); not_too_many = λ e. not_too_many c.args.book.now c.args.layer c.args.off c.requires.accepted c.prepare-rules.ensures c.atom_count-n.result c.atom_count-n.ensures.0 c.branching_atoms-g.ensures c.if-g-gt-MAX_BRANCHING.false; ready = λ e. made-ready c.args.book.now c.args.layer c.args.off c.requires.accepted c.prepare-rules.ensures c.atom_count-n.result c.atom_count-n.ensures.0 c.branching_atoms-g.ensures _ c.put_bans-bans.ensures c.if-g-gt-MAX_BRANCHING.false c.make_plan-sizes.ensures.0 c.make_plan-sizes.ensures.1 c.make_plan-sizes.ensures.2 c.atom_count-n.ensures.1 c.atom_count-n.ensures.2 }
+pub returns-in-Err : goal.returns-in-Err
+returns-in-Err c =
+    (refl, too_many c.args.driving.now c.prepare-count.ensures c.atom_count-n.result c.atom_count-n.ensures.0 c.in-Err.ensures.0 c.in-Err.ensures.1)
