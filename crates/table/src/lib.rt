@@ -27,12 +27,13 @@ pub struct Span {
 // What stands in an array of bodies before they are found.
 pub const NO_SPAN: Span = Span { start: 0, size: 0 };
 
-// A rule: where its body is, the name of its head, its layer, and the mask of the layers in which it overrides rules.
+// A rule: where its body is, the name of its head, its layer, and the mask of the layers in which it overrides rules. The layer has 32 bits
+// so that a row has 16 bytes, and its place is a shift and no multiplication, which every pass over the rows feels.
 #[derive(Clone, Copy)]
 pub struct Row {
     pub body: Span,
     pub head: u16,
-    pub layer: u8,
+    pub layer: u32,
     pub overridden: u32,
 }
 
@@ -233,7 +234,7 @@ impl FromRecord for Row {
         Some(Row {
             body: body_span(book, at),
             head: name_of(head) as u16,
-            layer: book[at + 1],
+            layer: book[at + 1] as u32,
             overridden: 0,
         })
     }
@@ -304,7 +305,7 @@ fn head_layers(rows: &[Row]) -> [u32; MAX_NAMES]
 {
     let mut masks = [0; MAX_NAMES];
     for row in rows {
-        masks[row.head as usize] |= 1 << (row.layer as u32);
+        masks[row.head as usize] |= 1 << row.layer;
     }
     masks
 }
