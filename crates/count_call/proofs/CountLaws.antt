@@ -35,21 +35,22 @@ use Rattle.accepted.proofs.RangeFacts.{atoms_are}
 use Rattle.accepted.proofs.RecordFacts.{accepted-formed}
 use Rattle.grammar.specs.Conditions.{Condition, Reads, or-level, fits}
 use Rattle.grammar.proofs.ParseLaws.{read_exactly}
+use Rattle.condition.specs.declared.Code.{Code}
 use Rattle.condition.specs.Code.{code_holds, StackFits}
 use Rattle.condition.specs.Causes.{condition_tests, fits_in, fits_text}
 use Rattle.search.specs.declared.Goal.TheVariants.{Fit}
 use Rattle.search.specs.Visits.{Asks, reaches}
 use Rattle.search.proofs.AllowedLaws.{barred-formed, barred-listed, barred-size}
-use Rattle.search.proofs.TurnLaws.{atoms-count}
-use Rattle.plan.specs.Plan.{plan_bans, planned_program}
-use Rattle.plan.specs.declared.Sizes.{Sizes}
-use Rattle.passes.specs.SetUp.{Ready}
+use Rattle.search.specs.Space.{Ready, space_atoms, space_program}
+use Rattle.search.specs.declared.Space.{Space}
+use Rattle.plan.specs.Plan.{plan_bans}
+use Rattle.table.specs.declared.Span.{Span}
 use Rattle.passes.specs.Limit.{has_too_many_branching}
 use Rattle.passes.specs.Tallied.{searched, Tallied}
 use Rattle.passes.proofs.PassLaws.{searched-length, models_le}
 use Rattle.passes.proofs.StateLaws.{models_from, models_into, fitted_weight, searched_passing}
 use Rattle.count_call.specs.declared.Counted.{Counted}
-use Rattle.std.proofs.Common.{Ok, Err}
+use Rattle.std.proofs.Common.{Ok, Err, Bor}
 use Rattle.count_call.specs.Reply.{search_tests, fit_tests, count_tests, reply_of, count_reply, Once, Fitting, CountsExactly}
 
 -- ---- the order of the causes: the condition's own, and only then 12
@@ -63,12 +64,12 @@ module _ (P : Program) (condition : List ℕ) where
   search_last h = first_append (condition_tests P.atoms condition) (search_tests P) h
 
 -- ---- what the pass tells
-module _ {book rows plan : List ℕ} {sizes : Sizes} (ready : Ready book rows plan sizes) {code : List ℕ} {count weight : ℕ} (t : Tallied (planned_program book rows plan sizes) Fit code count weight) where
+module _ {space : Space} (ready : Ready space) {codes : Bor (List Code)} {count weight : ℕ} (t : Tallied (space_program space) (Fit codes) count weight) where
   abbrev P : Program
-  P = planned_program book rows plan sizes
+  P = space_program space
 
-  abbrev bans : List ℕ
-  bans = plan_bans plan sizes.bans
+  abbrev bans : List Span
+  bans = plan_bans space.plan.now
 
   few : P.atoms ≤ max_atoms
   few = subst (λ (k : ℕ). k ≤ max_atoms) (barred-size ready.table bans) ready.table.few
@@ -80,22 +81,22 @@ module _ {book rows plan : List ℕ} {sizes : Sizes} (ready : Ready book rows pl
   k_is : count ≡ length (stable_models P)
   k_is = t.count_is ∙ ap length all_seen ∙ searched-length P (barred-formed ready.table bans) few
 
-  g_is : sizes.branching ≡ branching_count P
+  g_is : length (space_atoms space) ≡ branching_count P
   unfolding branching_count
-  g_is = sym (atoms-count ready.planned) ∙ ap length (barred-listed ready.table bans)
+  g_is = ap length (barred-listed ready.table bans)
 
-  count_is : weight ≡ length (filter (code_holds code) (stable_models P))
+  count_is : weight ≡ length (filter (code_holds codes.now) (stable_models P))
   count_is =
-      t.weight_is ∙ fitted_weight code t.seen ∙ ap (λ (l : List Interpretation). length (filter (code_holds code) l)) all_seen
-      ∙ searched_passing (code_holds code) P (barred-formed ready.table bans) few
+      t.weight_is ∙ fitted_weight codes t.seen ∙ ap (λ (l : List Interpretation). length (filter (code_holds codes.now) l)) all_seen
+      ∙ searched_passing (code_holds codes.now) P (barred-formed ready.table bans) few
 
-  pub counted : Ok (record { states = count; branching = sizes.branching; fitting = weight }) ≡ reply_of (Ok tt) P (code_holds code)
+  pub counted : {g : ℕ} → g ≡ length (space_atoms space) → Ok (record { states = count; branching = g; fitting = weight }) ≡ reply_of (Ok tt) P (code_holds codes.now)
   unfolding reply_of
-  counted = λ i. Ok (record { states = k_is i; branching = g_is i; fitting = count_is i })
+  counted eg = λ i. Ok (record { states = k_is i; branching = (eg ∙ g_is) i; fitting = count_is i })
 
-pub asks_fit : (code : List ℕ) → StackFits code → Asks Fit code
+pub asks_fit : (codes : Bor (List Code)) → StackFits codes.now → Asks (Fit codes)
 unfolding Asks
-asks_fit code h = h
+asks_fit codes h = h
 
 -- ---- the program that the table stands for, and the driven layer's
 pub reply_over : {P Q : Program} → Alike P Q → (v : Verdict) (p : Interpretation → Bool) → reply_of v P p ≡ reply_of v Q p

@@ -3,14 +3,13 @@
 #![tactic(auto)]
 
 ghost use Rattle.std.specs.Prelude.{◌≡◌, Ok};
-ghost use Rattle.plan.specs.Plan.{planned_program};
 ghost use Rattle.condition.specs.Code.{code_holds, StackFits};
-ghost use Rattle.passes.specs.SetUp.{Ready};
+ghost use Rattle.search.specs.Space.{Ready, space_program};
 ghost use Rattle.count_call.specs.Reply.{reply_of};
 
+use condition::Code;
 use passes::tally;
-use plan::Sizes;
-use search::Goal;
+use search::{Goal, Space};
 
 // What a count tells: k, the number of the stable states, g, the number of the branching facts, and in how many states the condition holds.
 #[derive(Clone, Copy, Debug, PartialEq, Eq)]
@@ -21,21 +20,15 @@ pub struct Counted {
 }
 
 // One pass of the search, which meets every stable model and tries the condition's code on it.
-pub fn count_found(
-    book: &[u8],
-    rows: &[u16],
-    plan: &[u32],
-    sizes: Sizes,
-    code: &[u8],
-) -> Counted
-    requires ready { Ready book.now rows.now plan.now sizes }
-    requires stack_fits { StackFits code.now }
-    ensures { Ok result ≡ reply_of (Ok tt) (planned_program book.now rows.now plan.now sizes) (code_holds code.now) }
+pub fn count_found(space: &Space, codes: &[Code]) -> Counted
+    requires ready { Ready space.now }
+    requires stack_fits { StackFits codes.now }
+    ensures { Ok result ≡ reply_of (Ok tt) (space_program space.now) (code_holds codes.now) }
 {
-    let counts = tally(book, rows, plan, sizes, Goal::Fit, code);
+    let counts = tally(space, &Goal::Fit(codes));
     Counted {
         states: counts.count,
-        branching: sizes.branching,
+        branching: space.plan.atoms().len(),
         fitting: counts.weight,
     }
 }

@@ -22,11 +22,11 @@ use Rattle.models.specs.Alike.{Alike}
 use Rattle.models.proofs.AlikeLaws.{alike_models, alike-count, alike-listing}
 use Rattle.records.proofs.WrittenLaws.{records_fit, head-written}
 use Rattle.leaf.specs.Searchable.{Searchable}
-use Rattle.plan.specs.Plan.{plan_atoms, plan_bans, planned_program}
-use Rattle.plan.specs.declared.Sizes.{Sizes}
+use Rattle.plan.specs.Plan.{plan_bans}
+use Rattle.table.specs.declared.Span.{Span}
 use Rattle.search.proofs.AllowedLaws.{barred-formed, barred-listed, barred-size}
-use Rattle.search.proofs.TurnLaws.{atoms-count}
-use Rattle.passes.specs.SetUp.{Ready}
+use Rattle.search.specs.Space.{Ready, space_atoms, space_program}
+use Rattle.search.specs.declared.Space.{Space}
 use Rattle.passes.specs.Tallied.{Bounds}
 use Rattle.passes.proofs.PassLaws.{models_le}
 use Rattle.list_call.specs.declared.Listed.{Listed}
@@ -34,32 +34,35 @@ use Rattle.std.proofs.Common.{Result, Ok, Err}
 use Rattle.list_call.specs.Reply.{room_tests, reply_of, buffer_of, Answers}
 
 -- ---- counting and writing
-module _ {book rows plan : List ℕ} {sizes : Sizes} (ready : Ready book rows plan sizes) where
+module _ {space : Space} (ready : Ready space) where
   abbrev n : ℕ
-  n = sizes.n
+  n = space.plan.now.n
 
-  abbrev w : Searchable book rows (plan_atoms plan sizes.branching) n
+  abbrev bans : List Span
+  bans = plan_bans space.plan.now
+
+  abbrev w : Searchable space.table.book.now space.table.rows.now (space_atoms space) n
   w = ready.table
 
   abbrev P : Program
-  P = planned_program book rows plan sizes
+  P = space_program space
 
   atoms_few : P.atoms ≤ max_atoms
-  atoms_few = subst (λ (k : ℕ). k ≤ max_atoms) (barred-size w (plan_bans plan sizes.bans)) w.few
+  atoms_few = subst (λ (k : ℕ). k ≤ max_atoms) (barred-size w bans) w.few
 
-  g_is : sizes.branching ≡ branching_count P
+  g_is : length (space_atoms space) ≡ branching_count P
   unfolding branching_count
-  g_is = sym (atoms-count ready.planned) ∙ ap length (barred-listed w (plan_bans plan sizes.bans))
+  g_is = ap length (barred-listed w bans)
 
   abbrev all : ℕ
   all = length (stable_models P)
 
   k_le : all ≤ 2 ^ max_branching
-  k_le = omega (arith, models_le P (barred-formed w (plan_bans plan sizes.bans)) atoms_few, pow-le-pow_right {n = 2} (omega arith) (subst (λ (x : ℕ). x ≤ max_branching) (atoms-count ready.planned ∙ g_is) w.atoms_few))
+  k_le = omega (arith, models_le P (barred-formed w bans) atoms_few, pow-le-pow_right {n = 2} (omega arith) (subst (λ (x : ℕ). x ≤ max_branching) g_is w.atoms_few))
 
   size_is : 11 + all * record_size n ≡ length (listing P)
   unfolding listing
-  size_is = ap (λ (x : ℕ). 11 + all * record_size x) (barred-size w (plan_bans plan sizes.bans)) ∙ sym (listing-length P.atoms (stable_models P))
+  size_is = ap (λ (x : ℕ). 11 + all * record_size x) (barred-size w bans) ∙ sym (listing-length P.atoms (stable_models P))
 
   module _ (old : List ℕ) where
     refused : length old < 11 + all * record_size n → Answers (first_of (room_tests P (length old))) P old (Err BufferTooShort) old
@@ -112,17 +115,17 @@ module _ {book rows plan : List ℕ} {sizes : Sizes} (ready : Ready book rows pl
             bytes_are : k * width ≡ all * record_size n
             bytes_are = ap₂ (λ (x y : ℕ). x * y) k_is e
 
-            pub room-listed : (part buf : List ℕ) → part ≡ flat (map (record_of n) (stable_models P)) ++ drop (all * record_size n) (take (11 + most * width - 11) (drop 11 old))
+            pub room-listed : (g : ℕ) → g ≡ length (space_atoms space) → (part buf : List ℕ) → part ≡ flat (map (record_of n) (stable_models P)) ++ drop (all * record_size n) (take (11 + most * width - 11) (drop 11 old))
                 → buf ≡ 1 ∷ (be32 (11 + k * width) ++ (be16 n ++ (be32 k ++ drop 11 (put_mid 11 (11 + most * width - 11) old part))))
-                → Answers (first_of (room_tests P (length old))) P old (Ok (record { states = k; branching = sizes.branching })) buf
+                → Answers (first_of (room_tests P (length old))) P old (Ok (record { states = k; branching = g })) buf
             unfolding first_of verdict_if room_tests reply_of buffer_of listing
-            room-listed part buf f q =
+            room-listed g eg part buf f q =
                 let v : first_of (room_tests P (length old)) ≡ Ok tt = rw (le-ltb (length old) (length (listing P)) (omega (arith, size_is, all_fit, part-fits))) refl in
                 record {
-                  reply_is = rw v (λ i. Ok (record { states = k_is i; branching = g_is i }));
+                  reply_is = rw v (λ i. Ok (record { states = k_is i; branching = (eg ∙ g_is) i }));
                   buffer_is =
                       rw v (head-written n (stable_models P) k (11 + k * width) (11 + most * width) old part buf k_is (ap (λ (x : ℕ). 11 + x) bytes_are) (omega (arith, bytes_are, all_fit)) part-fits f q
-                      ∙ ap₂ (λ (x y : ℕ). listing_of x (stable_models P) ++ drop y old) (barred-size w (plan_bans plan sizes.bans)) (ap (λ (x : ℕ). 11 + x) bytes_are ∙ size_is));
+                      ∙ ap₂ (λ (x y : ℕ). listing_of x (stable_models P) ++ drop y old) (barred-size w bans) (ap (λ (x : ℕ). 11 + x) bytes_are ∙ size_is));
                 }
 
 -- ---- the program that the table stands for, and the driven layer's

@@ -33,21 +33,21 @@ use Rattle.accepted.proofs.GrantedLaws.{granted}
 use Rattle.candidate.specs.Candidate.{is_bad_candidate}
 use Rattle.candidate.proofs.CandidateLaws.{read_length}
 use Rattle.leaf.specs.Searchable.{Searchable}
-use Rattle.plan.specs.Plan.{plan_atoms, plan_bans, planned_program}
-use Rattle.plan.specs.declared.Sizes.{Sizes}
+use Rattle.plan.specs.Plan.{plan_bans}
+use Rattle.table.specs.declared.Span.{Span}
 use Rattle.search.proofs.AllowedLaws.{barred-listed, barred-size}
-use Rattle.search.proofs.TurnLaws.{atoms-count}
+use Rattle.search.specs.Space.{Ready, space_atoms, space_program}
+use Rattle.search.specs.declared.Space.{Space}
 use Rattle.first.specs.Nearest.{distance, closest}
-use Rattle.first.specs.InHand.{record_held}
+use Rattle.first.specs.InHand.{far, record_held}
 use Rattle.first.proofs.ApartLaws.{distance_le}
-use Rattle.passes.specs.SetUp.{Ready}
 use Rattle.passes.specs.Limit.{has_too_many_branching, has_no_stable_state}
 use Rattle.passes.specs.Nearest.{chosen, Nearest}
 use Rattle.passes.proofs.FirstLaws.{chosen-some}
 use Rattle.one_call.specs.Reply.{room_tests, search_tests}
 use Rattle.one_call.proofs.OneLaws.{room-same}
 use Rattle.near_call.specs.declared.Nearest as reply
-use Rattle.std.proofs.Common.{Result, Ok, Err}
+use Rattle.std.proofs.Common.{Result, Ok, Err, Option, Some, None, is_some}
 use Rattle.near_call.specs.Reply.{candidate_tests, near_tests, nearest, least_distance, reply_of, buffer_of, near_reply, near_buffer, Answers}
 
 -- ---- the closest, if there is one
@@ -71,30 +71,29 @@ first_few : {A : Type 0} (l : List A) → length (take 1 l) ≤ 1
 first_few [] = omega arith
 first_few (x ∷ l) = omega arith
 
--- the state as the code reads it
-pub read_cut : (s : List ℕ) (n : ℕ) (m : Interpretation) → take n m ≡ interpretation_of n s → take (n - 0) (drop 0 m) ≡ interpretation_of n s
-read_cut s n m e = let z : n - 0 ≡ n = omega arith in ap (λ (k : ℕ). take k m) z ∙ e
-
 -- ---- room and search
-module _ {book rows plan : List ℕ} {sizes : Sizes} (ready : Ready book rows plan sizes) (candidate : List ℕ) (size : ℕ) (e : size ≡ record_size sizes.n) (old : List ℕ) where
+module _ {space : Space} (ready : Ready space) (candidate : List ℕ) (size : ℕ) (e : size ≡ record_size space.plan.now.n) (old : List ℕ) where
   abbrev n : ℕ
-  n = sizes.n
+  n = space.plan.now.n
+
+  abbrev bans : List Span
+  bans = plan_bans space.plan.now
 
   abbrev c : Interpretation
   c = interpretation_of n candidate
 
-  abbrev w : Searchable book rows (plan_atoms plan sizes.branching) n
+  abbrev w : Searchable space.table.book.now space.table.rows.now (space_atoms space) n
   w = ready.table
 
   abbrev P : Program
-  P = planned_program book rows plan sizes
+  P = space_program space
 
   n_is : n ≡ P.atoms
-  n_is = barred-size w (plan_bans plan sizes.bans)
+  n_is = barred-size w bans
 
-  g_is : sizes.branching ≡ branching_count P
+  g_is : length (space_atoms space) ≡ branching_count P
   unfolding branching_count
-  g_is = sym (atoms-count ready.planned) ∙ ap length (barred-listed w (plan_bans plan sizes.bans))
+  g_is = ap length (barred-listed w bans)
 
   size_is : size ≡ record_size P.atoms
   size_is = e ∙ ap record_size n_is
@@ -116,46 +115,45 @@ module _ {book rows plan : List ℕ} {sizes : Sizes} (ready : Ready book rows pl
     back : (part : List ℕ) → put_mid 0 (size - 0) old part ≡ part ++ drop size old
     back part = let z : size - 0 ≡ size = omega arith in ap (λ (x : ℕ). part ++ drop x old) z
 
-    module _ {wanted : Interpretation} (is : wanted ≡ c) {found : Bool} {d : ℕ} {part : List ℕ} (told : Nearest P wanted n (take (size - 0) (drop 0 old)) found d part) where
-      near : Nearest P c n (take (size - 0) (drop 0 old)) found d part
-      near = subst (λ (m : Interpretation). Nearest P m n (take (size - 0) (drop 0 old)) found d part) is told
+    module _ {wanted : Interpretation} (is : wanted ≡ c) {found : Option ℕ} {part : List ℕ} (told : Nearest P wanted n (take (size - 0) (drop 0 old)) found part) where
+      near : Nearest P c n (take (size - 0) (drop 0 old)) found part
+      near = subst (λ (m : Interpretation). Nearest P m n (take (size - 0) (drop 0 old)) found part) is told
 
-      none_is : found ≡ false → has_no_stable_state P ≡ true
-      none_is b = not-false (has_no_stable_state P) (sym near.found_is ∙ b)
-
-      some_is : found ≡ true → has_no_stable_state P ≡ false
-      some_is b = not-true (has_no_stable_state P) (sym near.found_is ∙ b)
-
-      pub state_refused : found ≡ false → Answers (first_of (room_tests P (length old))) P c old (Err NoStableState) (put_mid 0 (size - 0) old part)
+      pub state_refused : found ≡ None → Answers (first_of (room_tests P (length old))) P c old (Err NoStableState) (put_mid 0 (size - 0) old part)
       unfolding first_of verdict_if room_tests reply_of buffer_of
       state_refused b =
-          let q : first_of (room_tests P (length old)) ≡ Err NoStableState = rw (le-ltb (length old) (record_size P.atoms) (omega (arith, size_is)), none_is b) refl in
+          let none : has_no_stable_state P ≡ true = not-false (has_no_stable_state P) (sym near.found_is ∙ ap (is_some {T = ℕ}) b) in
+          let q : first_of (room_tests P (length old)) ≡ Err NoStableState = rw (le-ltb (length old) (record_size P.atoms) (omega (arith, size_is)), none) refl in
           let z : size - 0 ≡ size = omega arith in
-          let r : part ≡ take size old = near.written ∙ held_none n (chosen P c) (take (size - 0) old) (chosen-some P c ∙ ap not (none_is b)) ∙ ap (λ (x : ℕ). take x old) z in
+          let r : part ≡ take size old = near.written ∙ held_none n (chosen P c) (take (size - 0) old) (chosen-some P c ∙ ap not none) ∙ ap (λ (x : ℕ). take x old) z in
           rw q (record { reply_is = refl; buffer_is = back part ∙ ap (λ (x : List ℕ). x ++ drop size old) r ∙ take-append-drop size old })
 
-      module _ (b : found ≡ true) where
+      module _ {d : ℕ} (b : found ≡ Some d) where
+        some_is : has_no_stable_state P ≡ false
+        some_is = not-true (has_no_stable_state P) (sym near.found_is ∙ ap (is_some {T = ℕ}) b)
+
         some : ltb 0 (length (chosen P c)) ≡ true
-        some = chosen-some P c ∙ ap not (some_is b)
+        some = chosen-some P c ∙ ap not some_is
 
         few : length (chosen P c) ≤ 1
         unfolding chosen
         few = first_few (closest (length c) c (stable_models P))
 
+        far_told : d ≡ far c (get_or (chosen P c) 0 [])
+        far_told = let t = sym b ∙ near.distance_is (get_or (chosen P c) 0 []) (get_d_member (chosen P c) 0 [] (ltb-true 0 (length (chosen P c)) some)) in cc
+
         distance_told : d ≡ least_distance P c
         unfolding least_distance
-        distance_told =
-            near.distance_is (get_or (chosen P c) 0 []) (get_d_member (chosen P c) 0 [] (ltb-true 0 (length (chosen P c)) some))
-            ∙ ap₂ (λ (k : ℕ) (ms : List Interpretation). distance k c (get_or ms 0 [])) (read_length n candidate ∙ n_is) (sym same)
+        distance_told = far_told ∙ ap₂ (λ (k : ℕ) (ms : List Interpretation). distance k c (get_or ms 0 [])) (read_length n candidate ∙ n_is) (sym same)
 
         bytes_told : part ≡ flat (map (record_of P.atoms) (nearest P c))
         bytes_told = near.written ∙ held_one n (chosen P c) (take (size - 0) old) some few ∙ ap₂ (λ (k : ℕ) (ms : List Interpretation). flat (map (record_of k) ms)) n_is (sym same)
 
-        pub state_written_lem : Answers (first_of (room_tests P (length old))) P c old (Ok (record { distance = d; branching = sizes.branching })) (put_mid 0 (size - 0) old part)
+        pub state_written_lem : {g : ℕ} → g ≡ length (space_atoms space) → Answers (first_of (room_tests P (length old))) P c old (Ok (record { distance = d; branching = g })) (put_mid 0 (size - 0) old part)
         unfolding first_of verdict_if room_tests reply_of buffer_of
-        state_written_lem =
-            let q : first_of (room_tests P (length old)) ≡ Ok tt = rw (le-ltb (length old) (record_size P.atoms) (omega (arith, size_is)), some_is b) refl in
-            rw q (record { reply_is = λ i. Ok (record { distance = distance_told i; branching = g_is i }); buffer_is = back part ∙ ap₂ (λ (x : List ℕ) (k : ℕ). x ++ drop k old) bytes_told size_is })
+        state_written_lem eg =
+            let q : first_of (room_tests P (length old)) ≡ Ok tt = rw (le-ltb (length old) (record_size P.atoms) (omega (arith, size_is)), some_is) refl in
+            rw q (record { reply_is = λ i. Ok (record { distance = distance_told i; branching = (eg ∙ g_is) i }); buffer_is = back part ∙ ap₂ (λ (x : List ℕ) (k : ℕ). x ++ drop k old) bytes_told size_is })
 
 -- ---- the program that the table stands for, and the driven layer's
 module _ {P Q : Program} (a : Alike P Q) where

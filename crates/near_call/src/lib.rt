@@ -6,16 +6,15 @@ ghost use Rattle.std.specs.Prelude.{◌≡◌, false, length};
 ghost use Rattle.models.specs.Listing.{interpretation_of};
 ghost use Rattle.book.specs.Causes.{first_of};
 ghost use Rattle.candidate.specs.Candidate.{is_bad_candidate};
-ghost use Rattle.plan.specs.Plan.{planned_program};
-ghost use Rattle.passes.specs.SetUp.{Ready};
+ghost use Rattle.search.specs.Space.{Ready, space_program};
 ghost use Rattle.one_call.specs.Reply.{room_tests};
 ghost use Rattle.near_call.specs.Reply.{Answers};
 
 use book::Cause;
 use candidate::read_candidate;
 use passes::write_nearest;
-use plan::Sizes;
 use records::record_size;
+use search::Space;
 
 // What is told of the state that is written: how many facts differ, and g, the number of the branching facts.
 #[derive(Clone, Copy, Debug, PartialEq, Eq)]
@@ -25,31 +24,22 @@ pub struct Nearest {
 }
 
 // Room for a record comes first: a short buffer is 13 whether or not there is a state.
-pub fn near_found(
-    book: &[u8],
-    rows: &[u16],
-    plan: &[u32],
-    sizes: Sizes,
-    candidate: &[u8],
-    buffer: &mut [u8],
-) -> Result<Nearest, Cause>
-    requires ready { Ready book.now rows.now plan.now sizes }
-    requires candidate_value { is_bad_candidate sizes.n candidate.now ≡ false }
-    ensures { Answers (first_of (room_tests (planned_program book.now rows.now plan.now sizes) (length buffer.old))) (planned_program book.now rows.now plan.now sizes) (interpretation_of sizes.n candidate.now) buffer.old result buffer.new }
+pub fn near_found(space: &Space, candidate: &[u8], buffer: &mut [u8]) -> Result<Nearest, Cause>
+    requires ready { Ready space.now }
+    requires candidate_value { is_bad_candidate space.now.plan.now.n candidate.now ≡ false }
+    ensures { Answers (first_of (room_tests (space_program space.now) (length buffer.old))) (space_program space.now) (interpretation_of space.now.plan.now.n candidate.now) buffer.old result buffer.new }
 {
-    let n = sizes.n;
+    let n = space.plan.n;
     let size = record_size(n);
     if buffer.len() < size {
         return Err(Cause::BufferTooShort);
     }
     let wanted = read_candidate(candidate, n);
-    let end = write_nearest(book, rows, plan, sizes, &wanted[0..n], &mut buffer[0..size]);
-    if end.found {
-        Ok(Nearest {
-            distance: end.distance,
-            branching: sizes.branching,
-        })
-    } else {
-        Err(Cause::NoStableState)
+    match write_nearest(space, &wanted[..n], &mut buffer[0..size]) {
+        Some(distance) => Ok(Nearest {
+            distance,
+            branching: space.plan.atoms().len(),
+        }),
+        None => Err(Cause::NoStableState),
     }
 }

@@ -28,11 +28,11 @@ use Rattle.accepted.proofs.FirstLaws.{accepted-none}
 use Rattle.accepted.proofs.GrantedLaws.{granted}
 use Rattle.base.proofs.Members.{◌∈◌}
 use Rattle.leaf.specs.Searchable.{Searchable}
-use Rattle.plan.specs.Plan.{plan_atoms, plan_bans, planned_program}
-use Rattle.plan.specs.declared.Sizes.{Sizes}
+use Rattle.plan.specs.Plan.{plan_bans}
+use Rattle.table.specs.declared.Span.{Span}
 use Rattle.search.proofs.AllowedLaws.{barred-listed, barred-size}
-use Rattle.search.proofs.TurnLaws.{atoms-count}
-use Rattle.passes.specs.SetUp.{Ready}
+use Rattle.search.specs.Space.{Ready, space_atoms, space_program}
+use Rattle.search.specs.declared.Space.{Space}
 use Rattle.passes.specs.Limit.{has_too_many_branching, has_no_stable_state}
 use Rattle.first.specs.InHand.{record_held}
 use Rattle.std.proofs.Common.{Result, Ok, Err}
@@ -55,22 +55,25 @@ first_record n [] h = absurd (omega arith)
 first_record n (m ∷ ms) h = append-nil (record_of n m)
 
 -- ---- room and search
-module _ {book rows plan : List ℕ} {sizes : Sizes} (ready : Ready book rows plan sizes) (size : ℕ) (e : size ≡ record_size sizes.n) (old : List ℕ) where
+module _ {space : Space} (ready : Ready space) (size : ℕ) (e : size ≡ record_size space.plan.now.n) (old : List ℕ) where
   abbrev n : ℕ
-  n = sizes.n
+  n = space.plan.now.n
 
-  abbrev w : Searchable book rows (plan_atoms plan sizes.branching) n
+  abbrev bans : List Span
+  bans = plan_bans space.plan.now
+
+  abbrev w : Searchable space.table.book.now space.table.rows.now (space_atoms space) n
   w = ready.table
 
   abbrev P : Program
-  P = planned_program book rows plan sizes
+  P = space_program space
 
-  g_is : sizes.branching ≡ branching_count P
+  g_is : length (space_atoms space) ≡ branching_count P
   unfolding branching_count
-  g_is = sym (atoms-count ready.planned) ∙ ap length (barred-listed w (plan_bans plan sizes.bans))
+  g_is = ap length (barred-listed w bans)
 
   size_is : size ≡ record_size P.atoms
-  size_is = e ∙ ap record_size (barred-size w (plan_bans plan sizes.bans))
+  size_is = e ∙ ap record_size (barred-size w bans)
 
   pub room_refused : length old < size → Answers (first_of (room_tests P (length old))) P old (Err BufferTooShort) old
   unfolding first_of verdict_if room_tests reply_of buffer_of
@@ -101,13 +104,13 @@ module _ {book rows plan : List ℕ} {sizes : Sizes} (ready : Ready book rows pl
           let e : part ≡ take size old = f.1 ∙ untouched n (stable_models P) (take (size - 0) old) (none_is b) ∙ ap (λ (x : ℕ). take x old) z in
           rw q (record { reply_is = refl; buffer_is = back part ∙ ap (λ (x : List ℕ). x ++ drop size old) e ∙ take-append-drop size old })
 
-      pub state_written_lem : found ≡ true → Answers (first_of (room_tests P (length old))) P old (Ok sizes.branching) (put_mid 0 (size - 0) old part)
+      pub state_written_lem : found ≡ true → {g : ℕ} → g ≡ length (space_atoms space) → Answers (first_of (room_tests P (length old))) P old (Ok g) (put_mid 0 (size - 0) old part)
       unfolding first_of verdict_if room_tests reply_of buffer_of has_no_stable_state
-      state_written_lem b =
+      state_written_lem b eg =
           let q : first_of (room_tests P (length old)) ≡ Ok tt = rw (le-ltb (length old) (record_size P.atoms) (omega (arith, size_is)), some_is b) refl in
           let r : part ≡ flat (map (record_of P.atoms) (take 1 (stable_models P))) =
-          f.1 ∙ as_listed n (stable_models P) (take (size - 0) old) (some_is b) ∙ ap (λ (k : ℕ). flat (map (record_of k) (take 1 (stable_models P)))) (barred-size w (plan_bans plan sizes.bans)) in
-          rw q (record { reply_is = ap Ok g_is; buffer_is = back part ∙ ap₂ (λ (x : List ℕ) (k : ℕ). x ++ drop k old) r size_is })
+          f.1 ∙ as_listed n (stable_models P) (take (size - 0) old) (some_is b) ∙ ap (λ (k : ℕ). flat (map (record_of k) (take 1 (stable_models P)))) (barred-size w bans) in
+          rw q (record { reply_is = ap Ok (eg ∙ g_is); buffer_is = back part ∙ ap₂ (λ (x : List ℕ) (k : ℕ). x ++ drop k old) r size_is })
 
 -- ---- the program that the table stands for, and the driven layer's
 module _ {P Q : Program} (a : Alike P Q) where

@@ -11,6 +11,7 @@ use setting::HeadMasks;
 use table::{NO_SPAN, Span};
 
 // It is large, and made in place: it is handed on by reference alone.
+#[derive(Drop)]
 pub struct Plan {
     // how many facts there are
     pub n: usize,

@@ -1,7 +1,7 @@
 -- `nearest` meets its contract: the causes of the layer, 10, 12, and else the call's own answer. Assumes nothing.
 use mathlib.Core.Path.{sym, ap, ◌∙◌}
 use Rattle.std.proofs.Common.{rules, Err}
-use Rattle.drive.proofs.DriveLaws.{limit_is, alike_is, atoms_is, bad_is, near_of_layer, near_of_ten, near_of_twelve, neared}
+use Rattle.drive.proofs.DriveLaws.{limit_is, alike_is, bad_is, near_of_layer, near_of_ten, near_of_twelve, neared}
 use Prim.Native.Nat.{ℕ}
 use Rattle.candidate.specs.Candidate.{is_bad_candidate}
 use Rattle.plan.specs.Plan.{plan_bans}
@@ -24,22 +24,22 @@ pub returns-then-bad_candidate-clause-bytes : goal.returns-then-bad_candidate-cl
 returns-then-bad_candidate-clause-bytes c =
     (near_of_ten c.args.book.now c.args.layer c.args.off c.args.candidate.now c.args.buffer.now c.in_ok-driving.ensures.verdict (bad_is c.args.book.now c.args.layer c.args.off c.in_ok-driving.driving c.in_ok-driving.ensures.driving c.atom_count.ensures.0 c.args.candidate.now c.bad_candidate.ensures ∙ c.if-bad_candidate.true)).1
 
-pub returns-in_err-driven-clause-answer : goal.returns-in_err-driven-clause-answer
-returns-in_err-driven-clause-answer c =
-    let refused = ap Err c.in_err-driven.ensures.0 ∙ (near_of_twelve c.args.book.now c.args.layer c.args.off c.args.candidate.now c.args.buffer.now c.in_ok-driving.ensures.verdict (bad_is c.args.book.now c.args.layer c.args.off c.in_ok-driving.driving c.in_ok-driving.ensures.driving c.atom_count.ensures.0 c.args.candidate.now c.bad_candidate.ensures ∙ c.if-bad_candidate.false) (limit_is c.args.book.now c.args.layer c.args.off c.in_ok-driving.driving c.in_ok-driving.ensures.driving c.in_err-driven.ensures.1)).0 in search (rules, refused)
+pub returns-in_err-space-clause-answer : goal.returns-in_err-space-clause-answer
+returns-in_err-space-clause-answer c =
+    let refused = ap Err c.in_err-space.ensures.0 ∙ (near_of_twelve c.args.book.now c.args.layer c.args.off c.args.candidate.now c.args.buffer.now c.in_ok-driving.ensures.verdict (bad_is c.args.book.now c.args.layer c.args.off c.in_ok-driving.driving c.in_ok-driving.ensures.driving c.atom_count.ensures.0 c.args.candidate.now c.bad_candidate.ensures ∙ c.if-bad_candidate.false) (limit_is c.args.book.now c.args.layer c.args.off c.in_ok-driving.driving c.in_ok-driving.ensures.driving c.in_err-space.ensures.1)).0 in search (rules, refused)
 
-pub returns-in_err-driven-clause-bytes : goal.returns-in_err-driven-clause-bytes
-returns-in_err-driven-clause-bytes c =
-    (near_of_twelve c.args.book.now c.args.layer c.args.off c.args.candidate.now c.args.buffer.now c.in_ok-driving.ensures.verdict (bad_is c.args.book.now c.args.layer c.args.off c.in_ok-driving.driving c.in_ok-driving.ensures.driving c.atom_count.ensures.0 c.args.candidate.now c.bad_candidate.ensures ∙ c.if-bad_candidate.false) (limit_is c.args.book.now c.args.layer c.args.off c.in_ok-driving.driving c.in_ok-driving.ensures.driving c.in_err-driven.ensures.1)).1
+pub returns-in_err-space-clause-bytes : goal.returns-in_err-space-clause-bytes
+returns-in_err-space-clause-bytes c =
+    (near_of_twelve c.args.book.now c.args.layer c.args.off c.args.candidate.now c.args.buffer.now c.in_ok-driving.ensures.verdict (bad_is c.args.book.now c.args.layer c.args.off c.in_ok-driving.driving c.in_ok-driving.ensures.driving c.atom_count.ensures.0 c.args.candidate.now c.bad_candidate.ensures ∙ c.if-bad_candidate.false) (limit_is c.args.book.now c.args.layer c.args.off c.in_ok-driving.driving c.in_ok-driving.ensures.driving c.in_err-space.ensures.1)).1
 
 pub near_found-requires-clause-candidate_value : goal.near_found-requires-clause-candidate_value
 near_found-requires-clause-candidate_value c =
-    ap (λ (k : ℕ). is_bad_candidate k c.args.candidate.now) (barred-size c.in_ok-driven.ensures.ready.table (plan_bans c.start.new.plan c.in_ok-driven.driven.sizes.bans) ∙ sym (alike_is c.args.book.now c.args.layer c.args.off c.in_ok-driving.driving c.in_ok-driving.ensures.driving c.in_ok-driven.ensures.alike).atoms_same) ∙ (bad_is c.args.book.now c.args.layer c.args.off c.in_ok-driving.driving c.in_ok-driving.ensures.driving c.atom_count.ensures.0 c.args.candidate.now c.bad_candidate.ensures ∙ c.if-bad_candidate.false)
+    ap (λ (k : ℕ). is_bad_candidate k c.args.candidate.now) (barred-size c.in_ok-space.ensures.ready.table (plan_bans c.in_ok-space.space.plan.now) ∙ sym (alike_is c.args.book.now c.args.layer c.args.off c.in_ok-driving.driving c.in_ok-driving.ensures.driving c.in_ok-space.ensures.alike).atoms_same) ∙ (bad_is c.args.book.now c.args.layer c.args.off c.in_ok-driving.driving c.in_ok-driving.ensures.driving c.atom_count.ensures.0 c.args.candidate.now c.bad_candidate.ensures ∙ c.if-bad_candidate.false)
 
 pub returns-clause-answer : goal.returns-clause-answer
 returns-clause-answer c =
-    (neared c.args.book.now c.args.layer c.args.off c.args.candidate.now c.args.buffer.now c.in_ok-driving.ensures.verdict (bad_is c.args.book.now c.args.layer c.args.off c.in_ok-driving.driving c.in_ok-driving.ensures.driving c.atom_count.ensures.0 c.args.candidate.now c.bad_candidate.ensures ∙ c.if-bad_candidate.false) (limit_is c.args.book.now c.args.layer c.args.off c.in_ok-driving.driving c.in_ok-driving.ensures.driving c.in_ok-driven.ensures.few) (alike_is c.args.book.now c.args.layer c.args.off c.in_ok-driving.driving c.in_ok-driving.ensures.driving c.in_ok-driven.ensures.alike) _ (barred-size c.in_ok-driven.ensures.ready.table (plan_bans c.start.new.plan c.in_ok-driven.driven.sizes.bans)) c.near_found.ensures).0
+    (neared c.args.book.now c.args.layer c.args.off c.args.candidate.now c.args.buffer.now c.in_ok-driving.ensures.verdict (bad_is c.args.book.now c.args.layer c.args.off c.in_ok-driving.driving c.in_ok-driving.ensures.driving c.atom_count.ensures.0 c.args.candidate.now c.bad_candidate.ensures ∙ c.if-bad_candidate.false) (limit_is c.args.book.now c.args.layer c.args.off c.in_ok-driving.driving c.in_ok-driving.ensures.driving c.in_ok-space.ensures.few) (alike_is c.args.book.now c.args.layer c.args.off c.in_ok-driving.driving c.in_ok-driving.ensures.driving c.in_ok-space.ensures.alike) _ (barred-size c.in_ok-space.ensures.ready.table (plan_bans c.in_ok-space.space.plan.now)) c.near_found.ensures).0
 
 pub returns-clause-bytes : goal.returns-clause-bytes
 returns-clause-bytes c =
-    (neared c.args.book.now c.args.layer c.args.off c.args.candidate.now c.args.buffer.now c.in_ok-driving.ensures.verdict (bad_is c.args.book.now c.args.layer c.args.off c.in_ok-driving.driving c.in_ok-driving.ensures.driving c.atom_count.ensures.0 c.args.candidate.now c.bad_candidate.ensures ∙ c.if-bad_candidate.false) (limit_is c.args.book.now c.args.layer c.args.off c.in_ok-driving.driving c.in_ok-driving.ensures.driving c.in_ok-driven.ensures.few) (alike_is c.args.book.now c.args.layer c.args.off c.in_ok-driving.driving c.in_ok-driving.ensures.driving c.in_ok-driven.ensures.alike) _ (barred-size c.in_ok-driven.ensures.ready.table (plan_bans c.start.new.plan c.in_ok-driven.driven.sizes.bans)) c.near_found.ensures).1
+    (neared c.args.book.now c.args.layer c.args.off c.args.candidate.now c.args.buffer.now c.in_ok-driving.ensures.verdict (bad_is c.args.book.now c.args.layer c.args.off c.in_ok-driving.driving c.in_ok-driving.ensures.driving c.atom_count.ensures.0 c.args.candidate.now c.bad_candidate.ensures ∙ c.if-bad_candidate.false) (limit_is c.args.book.now c.args.layer c.args.off c.in_ok-driving.driving c.in_ok-driving.ensures.driving c.in_ok-space.ensures.few) (alike_is c.args.book.now c.args.layer c.args.off c.in_ok-driving.driving c.in_ok-driving.ensures.driving c.in_ok-space.ensures.alike) _ (barred-size c.in_ok-space.ensures.ready.table (plan_bans c.in_ok-space.space.plan.now)) c.near_found.ensures).1

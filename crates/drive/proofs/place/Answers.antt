@@ -13,10 +13,10 @@ pub returns-then-atom_count-fact : goal.returns-then-atom_count-fact
 returns-then-atom_count-fact c =
     place_of_eleven c.args.book.now c.args.layer c.args.off c.args.fact c.in_ok-driving.ensures.verdict (omega (arith, atoms_is c.args.book.now c.args.layer c.args.off c.in_ok-driving.driving c.in_ok-driving.ensures.driving c.atom_count.ensures.0, c.if-atom_count-fact.true))
 
-pub returns-in_err-driven : goal.returns-in_err-driven
-returns-in_err-driven c =
-    let refused = ap Err c.in_err-driven.ensures.0 ∙ place_of_twelve c.args.book.now c.args.layer c.args.off c.args.fact c.in_ok-driving.ensures.verdict (omega (arith, atoms_is c.args.book.now c.args.layer c.args.off c.in_ok-driving.driving c.in_ok-driving.ensures.driving c.atom_count.ensures.0, c.if-atom_count-fact.false)) (limit_is c.args.book.now c.args.layer c.args.off c.in_ok-driving.driving c.in_ok-driving.ensures.driving c.in_err-driven.ensures.1) in search (rules, refused)
+pub returns-in_err-space : goal.returns-in_err-space
+returns-in_err-space c =
+    let refused = ap Err c.in_err-space.ensures.0 ∙ place_of_twelve c.args.book.now c.args.layer c.args.off c.args.fact c.in_ok-driving.ensures.verdict (omega (arith, atoms_is c.args.book.now c.args.layer c.args.off c.in_ok-driving.driving c.in_ok-driving.ensures.driving c.atom_count.ensures.0, c.if-atom_count-fact.false)) (limit_is c.args.book.now c.args.layer c.args.off c.in_ok-driving.driving c.in_ok-driving.ensures.driving c.in_err-space.ensures.1) in search (rules, refused)
 
 pub returns : goal.returns
 returns c =
-    placed c.args.book.now c.args.layer c.args.off c.args.fact c.in_ok-driving.ensures.verdict (omega (arith, atoms_is c.args.book.now c.args.layer c.args.off c.in_ok-driving.driving c.in_ok-driving.ensures.driving c.atom_count.ensures.0, c.if-atom_count-fact.false)) (limit_is c.args.book.now c.args.layer c.args.off c.in_ok-driving.driving c.in_ok-driving.ensures.driving c.in_ok-driven.ensures.few) (alike_is c.args.book.now c.args.layer c.args.off c.in_ok-driving.driving c.in_ok-driving.ensures.driving c.in_ok-driven.ensures.alike) _ c.place_found.ensures
+    placed c.args.book.now c.args.layer c.args.off c.args.fact c.in_ok-driving.ensures.verdict (omega (arith, atoms_is c.args.book.now c.args.layer c.args.off c.in_ok-driving.driving c.in_ok-driving.ensures.driving c.atom_count.ensures.0, c.if-atom_count-fact.false)) (limit_is c.args.book.now c.args.layer c.args.off c.in_ok-driving.driving c.in_ok-driving.ensures.driving c.in_ok-space.ensures.few) (alike_is c.args.book.now c.args.layer c.args.off c.in_ok-driving.driving c.in_ok-driving.ensures.driving c.in_ok-space.ensures.alike) _ c.place_found.ensures

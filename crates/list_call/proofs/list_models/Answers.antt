@@ -1,5 +1,7 @@
 -- Where the most records that there may be have room, the part has the room for all that there are, and the head goes in front of them.
 use Rattle.list_call.proofs.ListLaws.{head_refused, width_some, room_refused, part-fits, part-enough, bytes_fit, room-listed}
+use mathlib.Core.Path.{ap}
+use lib.ListN.{length}
 use native.Mathlib.Omega.{arith}
 use borrow.Author.Rules.{rules}
 use Rattle.list_call.proofs.list_models.Goals as goal
@@ -50,7 +52,7 @@ put_head-requires c =
 
 pub returns : goal.returns
 returns c =
-    room-listed c.requires c.args.buffer.now c.if-buffer-lt-HEAD_SIZE.false c.record_size-w.result c.record_size-w.ensures.0 c.most_records-most.ensures c.if-room-most.false c.write_all-k.ensures.0 _ _ c.write_all-k.ensures.1 c.put_head.ensures
+    room-listed c.requires c.args.buffer.now c.if-buffer-lt-HEAD_SIZE.false c.record_size-w.result c.record_size-w.ensures.0 c.most_records-most.ensures c.if-room-most.false c.write_all-k.ensures.0 _ (ap length c.atoms.ensures) _ _ c.write_all-k.ensures.1 c.put_head.ensures
 
 pub nonzero_div-room : goal.nonzero_div-room
 nonzero_div-room c = width_some c.requires c.args.buffer.now c.if-buffer-lt-HEAD_SIZE.false c.record_size-w.result c.record_size-w.ensures.0

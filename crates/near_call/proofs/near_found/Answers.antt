@@ -1,8 +1,8 @@
 -- Room for a record, then the record of the closest state that a pass writes.
-use mathlib.Core.Path.{ap}
+use mathlib.Core.Path.{ap, ◌∙◌}
 use lib.ListN.{length}
 use Rattle.candidate.proofs.CandidateLaws.{ok_length, read_length}
-use Rattle.near_call.proofs.NearLaws.{read_cut, room_refused, part_sized, state_refused, state_written_lem}
+use Rattle.near_call.proofs.NearLaws.{room_refused, part_sized, state_refused, state_written_lem}
 use native.Mathlib.Omega.{arith}
 use Rattle.near_call.proofs.near_found.Goals as goal
 
@@ -16,16 +16,20 @@ returns-then-buffer-size c =
 
 pub read_candidate-wanted-requires : goal.read_candidate-wanted-requires
 read_candidate-wanted-requires c =
-    record { n_le_max_atoms = c.requires.ready.table.few; candidate_len = ok_length c.args.sizes.n c.args.candidate.now c.requires.candidate_value }
+    record { n_le_max_atoms = c.requires.ready.table.few; candidate_len = ok_length c.args.space.now.plan.now.n c.args.candidate.now c.requires.candidate_value }
 
-pub write_nearest-end-requires : goal.write_nearest-end-requires
-write_nearest-end-requires c =
-    record { ready = c.requires.ready; wanted_len_bound = omega (arith, ap length (read_cut c.args.candidate.now c.args.sizes.n c.read_candidate-wanted.result c.read_candidate-wanted.ensures), read_length c.args.sizes.n c.args.candidate.now); part_len = part_sized c.requires.ready c.args.candidate.now c.record_size-size.result c.record_size-size.ensures.0 c.args.buffer.now c.if-buffer-size.false }
+pub write_nearest-requires : goal.write_nearest-requires
+write_nearest-requires c =
+    record {
+      ready = c.requires.ready;
+      wanted_len_bound = omega (arith, ap length c.read_candidate-wanted.ensures, read_length c.args.space.now.plan.now.n c.args.candidate.now);
+      part_len = part_sized c.requires.ready c.args.candidate.now c.record_size-size.result c.record_size-size.ensures.0 c.args.buffer.now c.if-buffer-size.false;
+    }
 
-pub returns-then-end : goal.returns-then-end
-returns-then-end c =
-    state_written_lem c.requires.ready c.args.candidate.now c.record_size-size.result c.record_size-size.ensures.0 c.args.buffer.now c.if-buffer-size.false (read_cut c.args.candidate.now c.args.sizes.n c.read_candidate-wanted.result c.read_candidate-wanted.ensures) c.write_nearest-end.ensures c.if-end.true
+pub returns-in-Some : goal.returns-in-Some
+returns-in-Some c =
+    state_written_lem c.requires.ready c.args.candidate.now c.record_size-size.result c.record_size-size.ensures.0 c.args.buffer.now c.if-buffer-size.false c.read_candidate-wanted.ensures c.write_nearest.ensures c.in-Some.is (ap length c.atoms.ensures)
 
-pub returns-else-end : goal.returns-else-end
-returns-else-end c =
-    state_refused c.requires.ready c.args.candidate.now c.record_size-size.result c.record_size-size.ensures.0 c.args.buffer.now c.if-buffer-size.false (read_cut c.args.candidate.now c.args.sizes.n c.read_candidate-wanted.result c.read_candidate-wanted.ensures) c.write_nearest-end.ensures c.if-end.false
+pub returns-in-None : goal.returns-in-None
+returns-in-None c =
+    state_refused c.requires.ready c.args.candidate.now c.record_size-size.result c.record_size-size.ensures.0 c.args.buffer.now c.if-buffer-size.false c.read_candidate-wanted.ensures c.write_nearest.ensures c.in-None.is

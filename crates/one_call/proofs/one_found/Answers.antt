@@ -1,5 +1,7 @@
 -- `one_found` meets its contract: room for a record, then the first record that a pass writes. Assumes nothing.
 use Rattle.one_call.proofs.OneLaws.{room_refused, part_sized, state_refused, state_written_lem}
+use mathlib.Core.Path.{ap}
+use lib.ListN.{length}
 use native.Mathlib.Omega.{arith}
 use Rattle.one_call.proofs.one_found.Goals as goal
 
@@ -17,7 +19,7 @@ write_first-found-requires c =
 
 pub returns-then-found : goal.returns-then-found
 returns-then-found c =
-    state_written_lem c.requires c.record_size-size.result c.record_size-size.ensures.0 c.args.buffer.now c.if-buffer-size.false c.write_first-found.ensures c.if-found.true
+    state_written_lem c.requires c.record_size-size.result c.record_size-size.ensures.0 c.args.buffer.now c.if-buffer-size.false c.write_first-found.ensures c.if-found.true (ap length c.atoms.ensures)
 
 pub returns-else-found : goal.returns-else-found
 returns-else-found c =

@@ -1,35 +1,28 @@
 -- `place_found` meets its contract: the counts of one pass settle the fact's place. Assumes nothing.
-use Rattle.place_call.proofs.PlaceLaws.{fact_asked, refused_state, placed_nowhere, placed_in_some, placed_every}
-use mathlib.Core.List.{List, []}
-use Prim.Native.Nat.{ℕ, ◌≤◌}
+use mathlib.Core.Path.{ap}
+use mathlib.Core.List.{[]}
 use lib.ListN.{length}
-use Rattle.search.specs.Visits.{Asks}
-use Rattle.passes.proofs.PassLaws.{settle_room}
-use Rattle.search.specs.declared.Goal.TheVariants.{Settle}
 use native.Mathlib.Omega.{arith}
-use borrow.Author.Rules.{rules}
+use Rattle.passes.proofs.PassLaws.{asks_settle, settle_room}
+use Rattle.place_call.proofs.PlaceLaws.{refused_state, placed_nowhere, placed_in_some, placed_every}
 use Rattle.place_call.proofs.place_found.Goals as goal
-
-two-asked : (asked : List ℕ) → 2 ≤ length asked → Asks Settle asked
-unfolding Asks
-two-asked asked h = h
 
 pub tally-counts-requires : goal.tally-counts-requires
 tally-counts-requires c =
-    record { ready = c.requires.ready; asks = two-asked _ (search rules); room_for = settle_room _ _ [] }
+    record { ready = c.requires; asks = asks_settle c.args.fact; room_for = settle_room c.args.fact _ _ [] }
 
-pub returns-then-count-eq0 : goal.returns-then-count-eq0
-returns-then-count-eq0 c =
-    refused_state c.requires.ready c.tally-counts.ensures c.args.fact (fact_asked c.args.fact c.requires.fact_lt_max_atoms) (omega (arith, c.if-count-eq0.true))
+pub returns-then-counts-eq0 : goal.returns-then-counts-eq0
+returns-then-counts-eq0 c =
+    refused_state c.requires c.args.fact c.tally-counts.ensures c.if-counts-eq0.true
 
 pub returns-then-standing-eq0 : goal.returns-then-standing-eq0
 returns-then-standing-eq0 c =
-    placed_nowhere c.requires.ready c.tally-counts.ensures c.args.fact (fact_asked c.args.fact c.requires.fact_lt_max_atoms) (omega (arith, c.if-count-eq0.false)) (omega (arith, c.if-standing-eq0.true))
+    placed_nowhere c.requires c.args.fact c.tally-counts.ensures (omega (arith, c.if-counts-eq0.false)) (ap length c.atoms-branching.ensures) (omega (arith, c.if-standing-eq0.true))
 
-pub returns-then-standing-count : goal.returns-then-standing-count
-returns-then-standing-count c =
-    placed_in_some c.requires.ready c.tally-counts.ensures c.args.fact (fact_asked c.args.fact c.requires.fact_lt_max_atoms) (omega (arith, c.if-count-eq0.false)) (omega (arith, c.if-standing-eq0.false)) c.if-standing-count.true
+pub returns-then-standing-counts : goal.returns-then-standing-counts
+returns-then-standing-counts c =
+    placed_in_some c.requires c.args.fact c.tally-counts.ensures (omega (arith, c.if-counts-eq0.false)) (ap length c.atoms-branching.ensures) (omega (arith, c.if-standing-eq0.false)) c.if-standing-counts.true
 
-pub returns-else-standing-count : goal.returns-else-standing-count
-returns-else-standing-count c =
-    placed_every c.requires.ready c.tally-counts.ensures c.args.fact (fact_asked c.args.fact c.requires.fact_lt_max_atoms) (omega (arith, c.if-count-eq0.false)) c.if-standing-count.false
+pub returns-else-standing-counts : goal.returns-else-standing-counts
+returns-else-standing-counts c =
+    placed_every c.requires c.args.fact c.tally-counts.ensures (omega (arith, c.if-counts-eq0.false)) (ap length c.atoms-branching.ensures) c.if-standing-counts.false
