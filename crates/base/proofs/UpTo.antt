@@ -1,16 +1,15 @@
--- The numbers 0 to n - 1: which they are, and a test over some of them as a loop makes it. Assumes nothing.
-use mathlib.Core.Path.{◌≡◌, refl, sym, subst}
+-- The numbers 0 to n - 1: which they are, and a test over two lists of numbers, one behind the other. Assumes nothing.
+use mathlib.Core.Path.{◌≡◌, refl}
 use mathlib.Core.Bool.{Bool, true, false, ◌||◌, false≢true}
 use mathlib.Core.Logic.{◌⊎◌, inl, inr}
 use mathlib.Core.List.Memᴰ
 use mathlib.Core.List.{List, [], ◌∷◌, ◌++◌}
-use Prim.Native.Nat.{ℕ, zero, suc, ◌+◌, ◌<◌, ◌≤◌}
+use Prim.Native.Nat.{ℕ, zero, suc, ◌<◌}
 use native.Mathlib.Omega.{arith}
-use native.Mathlib.Numerals.{add-one}
 use native.Mathlib.Nat.{eq-or-lt_of_le, le_of_suc-le-suc}
 use lib.Dec.{T}
 use Rattle.base.specs.Lists.{any, up_to}
-use Rattle.base.proofs.Members.{◌∈◌, any_of}
+use Rattle.base.proofs.Members.{◌∈◌}
 
 -- a test's answer, and the statement that it passes
 pub passed : (c : Bool) → T c → c ≡ true
@@ -57,23 +56,3 @@ any_append p (x ∷ xs) ys = go (p x) (any_append p xs ys)
     go : (c : Bool) → any p (xs ++ ys) ≡ (any p xs || any p ys) → (c || any p (xs ++ ys)) ≡ (c || any p xs || any p ys)
     go true e = refl
     go false e = e
-
-one_any : (p : ℕ → Bool) (i : ℕ) → p i ≡ false → any p (i ∷ []) ≡ false
-unfolding any
-one_any p i f = rw f refl
-
--- a test over the numbers below n, as a loop makes it
-module _ (p : ℕ → Bool) where
-  pub any-start : any p (up_to 0) ≡ false
-  unfolding any up_to
-  any-start = refl
-
-  pub any-more : (i : ℕ) → any p (up_to i) ≡ false → p i ≡ false → any p (up_to (i + 1)) ≡ false
-  unfolding up_to
-  any-more i e f = rw (add-one i, any_append p (up_to i) (i ∷ []), e) (one_any p i f)
-
-  pub any_hit : (i n : ℕ) → i < n → p i ≡ true → true ≡ any p (up_to n)
-  any_hit i n h e = sym (passed (any p (up_to n)) (any_of p (up_to_has n i h) (subst T (sym e) tt)))
-
-  pub any_end : (i n : ℕ) → i ≤ n → n ≤ i → any p (up_to i) ≡ false → false ≡ any p (up_to n)
-  any_end i n h k e = let q : n ≡ i = omega arith in sym (rw q e)

@@ -1,7 +1,7 @@
 -- Records are taken one after the other: the first and what follows it, and the same at an offset. Used by `whole_records` and `Records`,
 -- and by the crate `table`, which walks by offset. Assumes nothing.
 use mathlib.Core.Path.{◌≡◌, refl, sym, ap, ◌∙◌}
-use mathlib.Core.Bool.{Bool, true, false, ◌&&◌}
+use mathlib.Core.Bool.{Bool, false, ◌&&◌}
 use mathlib.Core.List.{List, [], ◌∷◌}
 use Prim.Native.Nat.{ℕ, zero, suc, ◌+◌, ◌-◌, ◌<◌, ◌≤◌, min}
 use native.Mathlib.Omega.{arith}
@@ -55,10 +55,6 @@ meets_next len s = ap (λ (b : Bool). leb len (length s) && b) (meets_fuel (leng
 pub records_done : (s : List ℕ) (at : ℕ) → length s ≤ at → records (drop at s) ≡ []
 unfolding records records_in
 records_done s at h = ap records (drop_of_length-le s h)
-
-meets_done : (s : List ℕ) (at : ℕ) → length s ≤ at → meets_end (drop at s) ≡ true
-unfolding meets_end meets_end_in
-meets_done s at h = ap meets_end (drop_of_length-le s h)
 
 module _ (s : List ℕ) (at : ℕ) (h : at < length s) where
   here : drop at s ≡ get_or s at 0 ∷ drop (at + 1) s

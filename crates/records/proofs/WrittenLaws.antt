@@ -11,22 +11,12 @@ use lib.Seq.{drop-drop, drop_at, drop-append-le, length-take-le}
 use Rattle.base.specs.Bounds.{max_atoms, max_record, max_branching}
 use Rattle.base.specs.Lists.{flat}
 use Rattle.models.specs.StableModels.{Interpretation}
-use Rattle.models.proofs.RecordLaws.{record_length}
 use Rattle.models.specs.Listing.{record_size, record_of, be16, be32, listing_of}
 
 -- the bytes of as many records as a search may find
 pub records_fit : (n k w : ℕ) → n ≤ max_atoms → k ≤ 2 ^ max_branching → w ≡ record_size n → k * w ≤ 2 ^ max_branching * max_record
 unfolding record_size
 records_fit n k w h b e = let q : w ≤ max_record = omega arith in mul-le-mul b q
-
--- a state's record as the code makes it
-pub state_record : (s : Interpretation) (n w : ℕ) (r : List ℕ) → length s ≡ n → w ≡ record_size n → take (record_size (length s)) r ≡ record_of (length s) s
-    → take (w - 0) (drop 0 r) ≡ record_of n s
-state_record s n w r l q e = let y : w - 0 ≡ record_size n = omega arith in rw y (rw l at e)
-
--- the record written at an offset
-pub record_put : (n : ℕ) (m : Interpretation) (r part : List ℕ) (at : ℕ) → r ≡ record_of n m → take at part ++ (r ++ drop (at + length r) part) ≡ take at part ++ (record_of n m ++ drop (at + record_size n) part)
-record_put n m r part at e = rw (e, record_length n m) refl
 
 head-and-records : (n : ℕ) (ms : List Interpretation) (k size : ℕ) (rest : List ℕ) → k ≡ length ms → size ≡ 11 + length ms * record_size n
     → 1 ∷ (be32 size ++ (be16 n ++ (be32 k ++ (flat (map (record_of n) ms) ++ rest)))) ≡ listing_of n ms ++ rest
