@@ -70,21 +70,6 @@ module _ (layers off : ℕ) where
   pub absent_none : max_layers ≤ layers → false ≡ has_absent_layer layers off
   absent_none h = sym (failed (has_absent_layer layers off) (λ t. let v = absent_from t in omega (arith, v.1, v.2)))
 
-  -- ---- causes 9 and 19, as the code tests them
-  module _ (layer : ℕ) where
-    pub nine_applies : layers ≤ layer → Err NoSuchLayer ≡ first_of (driven_tests layers layer off)
-    unfolding first_of verdict_if driven_tests is_no_such_layer
-    nine_applies h = sym (rw (le-ltb layer layers h) refl)
-
-    module _ (h : layer < layers) (t : Bool) (e : t ≡ has_absent_layer layers off) where
-      pub nineteen_applies : t ≡ true → Err NoSuchLayerOff ≡ first_of (driven_tests layers layer off)
-      unfolding first_of verdict_if driven_tests is_no_such_layer
-      nineteen_applies q = sym (rw (lt-ltb layer layers h, ← e, q) refl)
-
-      pub neither_applies : t ≡ false → Ok tt ≡ first_of (driven_tests layers layer off)
-      unfolding first_of verdict_if driven_tests is_no_such_layer
-      neither_applies q = sym (rw (lt-ltb layer layers h, ← e, q) refl)
-
 -- ---- after the causes of the book
 module _ (s : List ℕ) (layer off : ℕ) where
   pub book_refused : (c : Cause) → Err c ≡ verdict s → Err c ≡ first_of (layer_tests s layer off)
