@@ -1,11 +1,10 @@
 -- Two arrays of marks, filled by passes over the rows until nothing is added: what a pass keeps, and that all that follows is
 -- marked at the end. Used by propagate, pass_over_rows, fill_on and fill, and by the search, which goes on from marks in hand. Assumes nothing.
 use Rattle.table.specs.declared.Row.{Row}
-use mathlib.Core.Path.{◌≡◌, refl, sym, ap, subst, ◌∙◌}
+use mathlib.Core.Path.{◌≡◌, sym, subst}
 use mathlib.Core.Bool.{Bool, true, false, not, ◌&&◌, cond, true≢false}
 use mathlib.Core.List.{List}
 use Prim.Native.Nat.{ℕ, ◌+◌, ◌<◌, ◌≤◌}
-use native.Mathlib.Omega.{arith}
 use lib.Dec.{T}
 use lib.ListN.{length, replicate}
 use Rattle.base.specs.Lists.{all}
@@ -14,11 +13,10 @@ use Rattle.models.specs.StableModels.{atom_holds, complement}
 use Rattle.base.proofs.Members.{and_both, all_of}
 use Rattle.table.specs.Rows.{row_count, row_at, alive}
 use Rattle.table.proofs.RowLaws.{row_of}
-use Rattle.filling.proofs.MarkLaws.{blank, room-same}
-use Rattle.filling.proofs.GrowingLaws.{grown-none, grown_both, SoundMarks, grown-sound}
-use Rattle.filling.specs.Marks.{Room, literal_marked, adds, FollowsFrom, from_start, by_row, Apart, Grown, falses, Closed, Tried, PassEnd, FilledOn, Fills}
-use Rattle.std.specs.Prelude.{Result, Ok, Err}
-use borrow.Author.Count.{below_more}
+use Rattle.filling.proofs.MarkLaws.{blank}
+use Rattle.filling.proofs.GrowingLaws.{grown_both, SoundMarks, grown-sound}
+use Rattle.filling.specs.Marks.{Room, literal_marked, adds, FollowsFrom, from_start, by_row, Apart, Grown, falses, Closed, PassEnd, FilledOn, Fills}
+use Rattle.std.specs.Prelude.{Result, Ok}
 use Rattle.std.specs.Result.{IsErr}
 
 module _ (book : List ℕ) (rows : List Row) (rejects : List ℕ) where
@@ -37,10 +35,6 @@ pub record Turn (book : List ℕ) (rows : List Row) (rejects : List ℕ) (p₀ q
   pub room : Room rows p q
   pub sizes : (length p ≡ length p₀) × (length q ≡ length q₀)
 
-at_most_one : (x : Bool) → cond x 1 0 ≤ 1
-at_most_one true = omega arith
-at_most_one false = omega arith
-
 forced : (c d : Bool) → (not c && d) ≡ false → T d → T c
 forced true d e t = tt
 forced false d e t = subst T e t
@@ -55,42 +49,6 @@ start-apart n start l t u = one l.atom l.negated t u
     one f false t u = subst T (blank n f) t
 
 module _ {book : List ℕ} {rows : List Row} {rejects : List ℕ} where
-  pub pass_start : (p q : List Bool) → Room rows p q → Passing book rows rejects p q p q false 0
-  pass_start p q w = record { within = omega arith; room = w; size = (refl, refl); grown = grown-none p q; fewer = omega arith; closed = λ e i h. absurd (omega arith) }
-
-  -- a row more, that added nothing or a mark
-  module _ {E : Type 0} {p₀ q₀ p q p' q' : List Bool} {ad b : Bool} {j : ℕ} (w : Passing book rows rejects p₀ q₀ p q ad j) (h : j < row_count rows) (t : Tried {E = E} book rows rejects j p q p' q' (Ok b)) where
-    pub pass_skip : b ≡ false → Passing book rows rejects p₀ q₀ p' q' ad (j + 1)
-    pass_skip e = record {
-      within = omega arith;
-      room = rw (s.0, s.1) w.room;
-      size = rw (s.0, s.1) w.size;
-      grown = grown_both w.grown t.grown;
-      fewer = rw (s.0, s.1) w.fewer;
-      closed = λ n. rw (s.0, s.1) (below_more (λ i. adds p q rejects (row_at book rows i) ≡ false) j (w.closed n) (rw (s.0, s.1) at s.2));
-    }
-      where
-        s : (p' ≡ p) × (q' ≡ q) × (adds p' q' rejects (row_at book rows j) ≡ false)
-        s = t.idle (ap Ok e)
-
-    pub pass_more : length p' ≡ length p → length q' ≡ length q → b ≡ true → Passing book rows rejects p₀ q₀ p' q' true (j + 1)
-    pass_more x y e = record {
-      within = omega arith;
-      room = room-same w.room p' q' x y;
-      size = (x ∙ w.size.0, y ∙ w.size.1);
-      grown = grown_both w.grown t.grown;
-      fewer = omega (arith, w.fewer, rw e at t.fewer, at_most_one ad);
-      closed = λ n. absurd (true≢false n);
-    }
-
-  -- a fact that follows both ways ends the pass
-  pub pass_clash : {E : Type 0} {p₀ q₀ p q p' q' : List Bool} {ad : Bool} {j : ℕ} {x : E} → Passing book rows rejects p₀ q₀ p q ad j → Tried book rows rejects j p q p' q' (Err x) → PassEnd book rows rejects p₀ q₀ p' q' (Err x)
-  pass_clash w t = record { grown = grown_both w.grown t.grown; fewer = omega (arith, w.fewer, t.fewer); closed = λ y. absurd (cc); clash = λ e start s. t.clash e start (w.grown.sound start s) }
-
-  -- the pass has come to the end, or to a fact that follows both ways
-  pub pass_done : {E : Type 0} {p₀ q₀ p q : List Bool} {ad : Bool} {j : ℕ} → Passing book rows rejects p₀ q₀ p q ad j → row_count rows ≤ j → PassEnd {E = E} book rows rejects p₀ q₀ p q (Ok ad)
-  pass_done w h = record { grown = w.grown; fewer = w.fewer; closed = λ c i b. w.closed (cc) i (omega arith); clash = λ e. absurd (true≢false (sym e)) }
-
   -- the negations that are assumed follow
   module _ (n : ℕ) (start : List Bool) where
     start_literal : (f : ℕ) (c : Bool) → T (literal_marked (replicate n false) start (record { atom = f; negated = c })) → FollowsFrom book rows rejects start (record { atom = f; negated = c })
