@@ -29,6 +29,7 @@ pub fn banned(book: &[u8], bans: &[Span], m: &[bool]) -> bool
 }
 
 // Writes where the bodies of the constraints stand whose layer is in the mask, in their order, and says how many there are.
+#[tactic(auto, using(crate::proofs::BanLaws::bans_made))]
 pub fn make_bans(book: &[u8], first: usize, mask: u32, bans: &mut [Span]) -> usize
     requires rule_records { RuleRecords (drop first book.now) }
     requires first_in_bounds { first ≤ length book.now }
@@ -41,6 +42,7 @@ pub fn make_bans(book: &[u8], first: usize, mask: u32, bans: &mut [Span]) -> usi
 
 // Writes where the bodies of the constraints stand that count at a layer, of that layer and of those below it that are not switched off, and says how
 // many there are.
+// Kept: a count beside the caller's array (no heap), as in `rule_table`.
 pub fn ban_table(
     book: &[u8],
     first: usize,

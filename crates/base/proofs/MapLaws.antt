@@ -1,6 +1,6 @@
--- A function over the numbers 0 to n - 1: one more, when two are the same, and what stands where. Rows of the table and the facts of
+-- A function over the numbers 0 to n - 1: one more, and what stands where. Rows of the table and the facts of
 -- a candidate are such lists. And a list of the same everywhere, as arrays are at first. Assumes nothing.
-use mathlib.Core.Path.{◌≡◌, refl, sym, ap, ap₂, ◌∙◌}
+use mathlib.Core.Path.{◌≡◌, refl, ap, ◌∙◌}
 use mathlib.Core.Logic.{◌⊎◌, inl, inr}
 use mathlib.Core.List.{List, [], ◌∷◌, ◌++◌, map}
 use Prim.Native.Nat.{ℕ, zero, suc, ◌<◌}
@@ -19,11 +19,6 @@ constant_at a (suc n) (suc i) = constant_at a n i
 pub map_snoc : {A B : Type 0} (f : A → B) (xs : List A) (y : A) → map f (xs ++ (y ∷ [])) ≡ map f xs ++ (f y ∷ [])
 map_snoc f [] y = refl
 map_snoc f (x ∷ xs) y = ap (λ (l : List _). f x ∷ l) (map_snoc f xs y)
-
-pub map_same : {B : Type 0} (f g : ℕ → B) (n : ℕ) → ((j : ℕ) → j < n → f j ≡ g j) → map f (up_to n) ≡ map g (up_to n)
-unfolding up_to
-map_same f g zero h = refl
-map_same f g (suc n) h = map_snoc f (up_to n) n ∙ ap₂ (λ (xs : List _) (y : _). xs ++ (y ∷ [])) (map_same f g n (λ j k. h j (omega arith))) (h n (omega arith)) ∙ sym (map_snoc g (up_to n) n)
 
 up_to-length : (n : ℕ) → length (up_to n) ≡ n
 unfolding up_to

@@ -9,7 +9,7 @@ use native.Mathlib.Decide.{dec_lt}
 use native.Mathlib.Omega.{arith}
 use lib.Bits.{bit_or}
 use lib.Dec.{T}
-use lib.ListN.{length, get_or, set, length-set, replicate, length-replicate}
+use lib.ListN.{length, get_or, set, length-set}
 use Rattle.base.specs.Bounds.{max_atoms, max_names}
 use Rattle.layers.specs.Masks.{bit_of}
 use Rattle.layers.proofs.BitLaws.{or_left, or_right, some-bit}
@@ -31,9 +31,6 @@ use Rattle.setting.proofs.BitMaskLaws.{joined_keeps, joined_has}
 use Rattle.nogoods.specs.Nogoods.{Rejectable, Within, AllWithin, NogoodOf, NogoodsTo}
 
 -- ---- what can be rejected
-pub rejectable-start : (rows : List Row) → Rejectable rows (replicate {A = ℕ} max_names 0) 0
-rejectable-start rows = record { size = length-replicate {A = ℕ} max_names 0; full = λ j h. absurd (omega arith) }
-
 module _ {rows : List Row} {rejectable : List ℕ} {j : ℕ} (w : Rejectable rows rejectable j) (h o : ℕ) (eh : h ≡ head_name rows j) (eo : literal_named o ≡ complement (literal_named h)) (bo : o < max_names) where
   pub rejectable-more : Rejectable rows (set rejectable o (bit_or (get_or rejectable o 0) (overridden rows j))) (j + 1)
   rejectable-more = record {

@@ -134,19 +134,6 @@ module _ (r : Rule) (k : ℕ) where
       go true u = absurd u
       go false u = refl
 
--- what the code makes of a mask: an empty one stays so
-pub unless_empty : (r : Rule) (k : ℕ) → k ≡ 0 → k ≡ unless_leaning r k
-unfolding unless_leaning
-unless_empty r k e = go (leans_on_itself r)
-  where
-    go : (c : Bool) → k ≡ cond c 0 k
-    go true = e
-    go false = refl
-
-pub unless_told : (r : Rule) (k : ℕ) (c d : Bool) → c ≡ leans_on_itself r → c ≡ d → cond d 0 k ≡ unless_leaning r k
-unfolding unless_leaning
-unless_told r k c d e f = ap (λ (x : Bool). cond x 0 k) (sym f ∙ e)
-
 -- one row on: of the layers below the row's, those in which the opposite name o stands, and none where the row leans on itself
 module _ (book : List ℕ) (rows : List Row) (lower heads : List ℕ) (table : List Row) (r : SameRules rows table) (j h o layer mask : ℕ) (w : Overridden book rows lower table j) (b : j < row_count rows)
     (hl : HeadLayers rows heads (row_count rows)) (eh : h ≡ head_name rows j) (eo : literal_named o ≡ complement (literal_named h)) (el : layer ≡ row_layer rows j)

@@ -27,12 +27,13 @@ pub struct Span {
 // What stands in an array of bodies before they are found.
 pub const NO_SPAN: Span = Span { start: 0, size: 0 };
 
-// A rule: where its body is, the name of its head, its layer, and the mask of the layers in which it overrides rules.
+// A rule: where its body is, the name of its head, its layer, and the mask of the layers in which it overrides rules. The layer has 32 bits
+// so that a row has 16 bytes, and its place is a shift and no multiplication, which every pass over the rows feels.
 #[derive(Clone, Copy)]
 pub struct Row {
     pub body: Span,
     pub head: u16,
-    pub layer: u8,
+    pub layer: u32,
     pub overridden: u32,
 }
 
@@ -77,6 +78,7 @@ pub fn span_bytes<'a>(book: &'a [u8], span: Span) -> &'a [u8]
 }
 
 // Whether the mask has the layer.
+#[tactic(auto, using(layers::proofs::WarshallLaws::test_bit))]
 pub fn has_layer(mask: u32, layer: usize) -> bool
     requires { layer < max_layers }
     ensures { result ≡ eqb (bit_of mask layer) 1 }
@@ -151,6 +153,7 @@ impl<'a> Table<'a> {
 }
 
 // The name of the opposite literal.
+#[tactic(auto, using(crate::proofs::NameLaws::opposite_low, crate::proofs::NameLaws::opposite_high))]
 pub fn opposite(h: usize) -> usize
     requires { h < max_names }
     ensures { (literal_named result ≡ complement (literal_named h)) × (result < max_names) }
@@ -205,6 +208,7 @@ pub trait FromRecord: Copy {
 }
 
 // Where the body of the record at an offset stands.
+#[tactic(auto, unfolding(crate::specs::Records::rule_at))]
 fn body_span(book: &[u8], at: usize) -> Span
     requires whole { RuleAt book.now at }
     requires book_len_bound { length book.now < 65536 }
@@ -230,7 +234,7 @@ impl FromRecord for Row {
         Some(Row {
             body: body_span(book, at),
             head: name_of(head) as u16,
-            layer: book[at + 1],
+            layer: book[at + 1] as u32,
             overridden: 0,
         })
     }
@@ -261,8 +265,8 @@ fn entry_at<E: FromRecord>(book: &[u8], at: usize, mask: u32) -> Option<E>
     E::from_record(book, at)
 }
 
-// Writes what the rules give whose layer is in the mask, in their order, and says how many there are: one walk over the records by
-// length byte.
+// Writes what the rules give whose layer is in the mask, in their order, and says how many there are: one walk over the records.
+// Kept: by offsets and not by `Records`, since what is written is where a body stands in the book.
 pub fn gather<E: FromRecord>(book: &[u8], first: usize, mask: u32, out: &mut [E]) -> usize
     requires rule_records { RuleRecords (drop first book.now) }
     requires first_in_bounds { first ≤ length book.now }
@@ -283,6 +287,7 @@ pub fn gather<E: FromRecord>(book: &[u8], first: usize, mask: u32, out: &mut [E]
 }
 
 // Writes the rows of the rules whose layer is in the mask, in their order, and says how many there are.
+#[tactic(auto, using(crate::proofs::WalkLaws::rows_made))]
 pub fn make_rows(book: &[u8], first: usize, mask: u32, rows: &mut [Row]) -> usize
     requires rule_records { RuleRecords (drop first book.now) }
     requires first_in_bounds { first ≤ length book.now }
@@ -300,7 +305,7 @@ fn head_layers(rows: &[Row]) -> [u32; MAX_NAMES]
 {
     let mut masks = [0; MAX_NAMES];
     for row in rows {
-        masks[row.head as usize] |= 1 << (row.layer as u32);
+        masks[row.head as usize] |= 1 << row.layer;
     }
     masks
 }
@@ -347,6 +352,7 @@ pub fn overridden_layers(book: &[u8], rows: &mut [Row], lower: [u32; MAX_LAYERS]
 }
 
 // The mask of the layers whose rules count at a layer: itself and those below it, without those that are switched off.
+#[tactic(auto, using(crate::proofs::TableLaws::mask_counts))]
 pub fn relevant_layers(lower: [u32; MAX_LAYERS], layer: usize, off: u32) -> u32
     requires { layer < max_layers }
     ensures { RelevantLayers lower layer off result }
@@ -358,6 +364,7 @@ pub fn relevant_layers(lower: [u32; MAX_LAYERS], layer: usize, off: u32) -> u32
 
 // Writes the table of the program at a layer, of the rules of that layer and of those below it that are not switched off, and says how
 // many there are.
+// Kept: a count beside the caller's array (no heap), which a call lends again, as `&rows[..count]`, for each pass.
 pub fn rule_table(
     book: &[u8],
     first: usize,
