@@ -3,8 +3,8 @@
 // the masks of bodies too.
 #![tactic(auto)]
 
-ghost use Rattle.std.specs.Prelude.{◌≡◌, true, ◌+◌, ◌*◌, ◌/◌, ◌<◌, ◌≤◌, length, get_or};
-ghost use Rattle.base.specs.Bounds.{max_atoms, max_branching};
+ghost use Rattle.std.specs.Prelude.{◌≡◌, true, ◌<◌, ◌≤◌, length};
+ghost use Rattle.base.specs.Bounds.{max_branching};
 ghost use Rattle.format.specs.Book.{literals_of};
 ghost use Rattle.table.specs.Rows.{row_count, row_at};
 ghost use Rattle.setting.specs.RuleMasks.{Low, AtomBits, branching_bit, BodyMasked, head_masks, Headed};
@@ -12,14 +12,6 @@ ghost use Rattle.setting.specs.RuleMasks.{Low, AtomBits, branching_bit, BodyMask
 use base::MAX_ATOMS;
 use format::Literals;
 use table::Table;
-
-// The i-th branching fact, as an index.
-pub fn atom_at(atoms: &[u32], i: usize) -> usize
-    requires { (i < length atoms.now) × Low atoms.now }
-    ensures { (result ≡ get_or atoms.now i 0) × (result < max_atoms) }
-{
-    atoms[i] as usize
-}
 
 // Bit i at the i-th atom; none at the others.
 pub fn atom_bits(atoms: &[u32]) -> [u32; MAX_ATOMS]
@@ -42,6 +34,7 @@ pub fn branching_bit(bits: &[u32], f: usize) -> Option<u32>
 }
 
 // The masks of a body: its plain atoms and its negated ones; whole where all of them branch.
+// Kept: (d) a flag beside the masks, and no Option: those of a body that is not whole are used too, for rules' heads and rows that reject.
 #[derive(Clone, Copy)]
 pub struct BodyMasks {
     pub plain: u32,
