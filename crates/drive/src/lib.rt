@@ -92,5 +92,6 @@ pub fn count(book: &[u8], layer: u32, off: u32, condition: &[u8]) -> Result<Coun
     let codes = read_condition(condition, driving.atom_count())?;
     let mut rows = [NO_ROW; MAX_RULES];
     let mut plan = Plan::new();
-    set_up(&driving, &mut rows, &mut plan).map(|space| count_found(&space, codes.as_slice()))
+    let space = set_up(&driving, &mut rows, &mut plan)?;
+    Ok(count_found(&space, codes.as_slice()))
 }
