@@ -1,7 +1,6 @@
 -- None is unmarked.
 use Rattle.std.proofs.Common.{not, rules}
 use Rattle.models.specs.StableModels.{atom_holds}
-use Rattle.leaf.specs.Searchable.{denied_of}
 use Rattle.leaf.proofs.GoingOnLaws.{covered_none}
 use Rattle.leaf.proofs.Setting.covers.Goals as goal
 

@@ -1,5 +1,5 @@
 -- The facts left decide, whatever the test computes.
-use Rattle.std.proofs.Common.{refl, sym, ap, ◌∙◌, not}
+use Rattle.std.proofs.Common.{refl, ap, not}
 use Rattle.leaf.proofs.ModelLaws.{denied_is}
 use Rattle.leaf.proofs.GoingOnLaws.{deny_met, deny_other, deny_not, deny_end}
 use Rattle.leaf.proofs.Setting.denies_any.Goals as goal

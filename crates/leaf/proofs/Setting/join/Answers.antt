@@ -1,6 +1,6 @@
 -- Of the facts passed, those that the setting denies are marked.
 use Rattle.std.proofs.Common.{◌≡◌, refl, sym, ap, subst, ◌∙◌, not, length, arith}
-use Rattle.leaf.specs.Searchable.{denied_of, Joined}
+use Rattle.leaf.specs.Searchable.{Joined}
 use Rattle.leaf.proofs.ModelLaws.{denied_is}
 use Rattle.leaf.proofs.GoingOnLaws.{joined-start, joined_skip, joined-more}
 use Rattle.leaf.proofs.Setting.join.Goals as goal

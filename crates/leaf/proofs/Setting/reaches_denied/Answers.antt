@@ -1,7 +1,7 @@
 -- The test is whether a fact is reached.
 use Rattle.std.proofs.Common.{rules}
 use Rattle.models.specs.StableModels.{atom_holds}
-use Rattle.leaf.specs.Searchable.{denied_of, denies_any, reaches_denied}
+use Rattle.leaf.specs.Searchable.{denies_any, reaches_denied}
 use Rattle.leaf.proofs.Setting.reaches_denied.Goals as goal
 
 pub returns : goal.returns
