@@ -59,10 +59,6 @@ module _ (goal : Goal) (n count : ℕ) where
   unfolding RoomFor
   sums_fit s part e l h r = let q : 4 * n ≤ length part = subst (λ (g : Goal). RoomFor g n (count + 1) part) e r in (omega arith, omega (arith, q))
 
--- the sums as the code adds them
-pub sums_of : (n : ℕ) (s : Interpretation) (part : List ℕ) → length s ≡ n → added_to (length s) part s ≡ added_to n part s
-sums_of n s part l = ap (λ (k : ℕ). added_to k part s) l
-
 -- ---- no model
 pub kept-none : (goal : Goal) (n count : ℕ) (part : List ℕ) → kept_by goal n count [] part ≡ part
 unfolding kept_by sorted insert_all flat summed
