@@ -208,7 +208,7 @@ impl Space<'_> {
 }
 
 // Visits the stable model of one setting, if there is one. It is a function of its own so that the recursion's frames stay small.
-fn visit_setting(
+pub fn visit_setting(
     space: &Space,
     goal: &Goal,
     standing: u32,
