@@ -1,5 +1,5 @@
 -- Document 02, (e): counting states that fit a condition. The causes in order of test, and the answer. Assumes nothing.
-use Rattle.std.specs.Prelude.{◌≡◌, ◌↔◌, Bool, false, ℕ, T, length, Result, Ok, Err}
+use Rattle.std.specs.Prelude.{◌≡◌, ◌↔◌, Bool, false, ℕ, T, length, Result, Ok}
 use Rattle.std.specs.Result.{result_and}
 use mathlib.Core.List.{List, [], ◌∷◌, ◌++◌, Memᴰ}
 use Rattle.base.specs.Lists.{filter}

@@ -1,11 +1,10 @@
 -- The calls that search, side by side: which of a call's tests decides, and what its answer and its buffer then are. The table stands for
 -- a program that is alike to the driven layer's, so that they are the same of both. Assumes nothing.
 use mathlib.Core.Path.{◌≡◌, refl, sym, ap, subst, ◌∙◌}
-use mathlib.Core.Bool.{Bool, true, false, not}
+use mathlib.Core.Bool.{Bool, true, false}
 use mathlib.Core.List.{List, [], ◌∷◌, ◌++◌}
 use Prim.Native.Nat.{ℕ, ◌<◌, ◌≤◌}
 use borrow.Author.Tests.{lt-ltb, le-ltb}
-use lib.Dec.{ltb}
 use lib.ListN.{length}
 use Rattle.std.proofs.Common.{Result, Ok, Err}
 use Rattle.format.specs.Book.{book_of}

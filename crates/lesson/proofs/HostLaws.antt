@@ -1,6 +1,6 @@
 -- What a host reads from an answer: a number whose parts keep to their bits gives each of them back, whatever the call. Then a reply
 -- can be told from what is read, so that no two share a number. Assumes nothing.
-use mathlib.Core.Path.{◌≡◌, refl, sym, ap, ap₂, ◌∙◌}
+use mathlib.Core.Path.{◌≡◌, refl, sym, ap, ◌∙◌}
 use mathlib.Core.Bool.{Bool, true, false, not, false≢true}
 use mathlib.Core.List.{List, [], ◌∷◌}
 use Prim.Native.Nat.{ℕ, ◌+◌, ◌-◌, ◌*◌, ◌^◌, ◌/◌, ◌%◌, ◌<◌, ◌≤◌}
@@ -8,7 +8,7 @@ use native.Mathlib.Omega.{arith}
 use borrow.Author.Tests.{ne_eqb}
 use lib.Dec.{T, eqb, ltb, ltb→lt}
 use lib.ListN.{get_or}
-use Rattle.base.specs.Bounds.{max_atoms, max_branching}
+use Rattle.base.specs.Bounds.{max_branching}
 use Rattle.std.proofs.Common.{Result, Ok, Err}
 use Rattle.book.specs.Causes.{verdict}
 use Rattle.book.specs.Numbers.{number_of}
@@ -20,15 +20,12 @@ use Rattle.list_call.specs.declared.Listed.{Listed}
 use Rattle.list_call.proofs.Condition3Laws.{lists-exactly, equal-exactly}
 use Rattle.one_call.specs.Reply.{one_reply}
 use Rattle.near_call.specs.Reply.{near_reply}
-use Rattle.near_call.specs.declared.Nearest.{Nearest}
 use Rattle.place_call.specs.Reply.{place_reply}
 use Rattle.place_call.specs.declared.Place.{Place}
 use Rattle.place_call.specs.declared.Place.TheVariants.{Every, InSome, Nowhere}
-use Rattle.place_call.specs.declared.Placed.{Placed}
 use Rattle.count_call.specs.Reply.{count_reply}
-use Rattle.count_call.specs.declared.Counted.{Counted}
 use Rattle.test_call.specs.Reply.{test_reply}
-use Rattle.lesson.specs.Answers.{answer_by, yes_bits, place_bits, list_answer, ListFits, OneFits, PlaceFits, NearFits, CountFits}
+use Rattle.lesson.specs.Answers.{answer_by, yes_bits, place_bits, list_answer}
 use Rattle.lesson.specs.Host.{lesson_granted, lesson_is_stable, lesson_branching_count, lesson_state_count, lesson_distance, lesson_place_of, place_number, Reading, read_by, granted_with, refused_for, told_by, list_told, Given, HostReads, AnswersRead, NumbersDiffer, list_number, states_read, branching_read, Condition3Read, Counts, lesson_counts}
 use Rattle.lesson.proofs.AnswerLaws.{list_fits, one_fits, place-fits, near_fits, count_fits}
 

@@ -21,7 +21,9 @@ use test_call::test;
 
 // What an answer carries is told in bits of its own: g from bit 8 on, the call's own number from bit 16 on, and a count from bit 40 on.
 const BRANCHING: u64 = 1 << 8;
+
 const OWN: u64 = 1 << 16;
+
 const FITTING: u64 = 1 << 40;
 
 // How an answer is told: in the bits that its call makes of a granted one, or as the cause's number.
@@ -69,9 +71,7 @@ pub fn lesson_one(book: &[u8], layer: u32, off: u32, buffer: &mut [u8]) -> u64
     ensures answer { result ≡ one_answer (one_reply book.now layer off buffer.old) }
     ensures bytes { buffer.new ≡ one_buffer book.now layer off buffer.old }
 {
-    number(one(book, layer, off, buffer), |g| {
-        g as u64 * BRANCHING
-    })
+    number(one(book, layer, off, buffer), |g| g as u64 * BRANCHING)
 }
 
 // A fact's place, which an answer has in bits 16 and 17.

@@ -46,7 +46,7 @@ use Rattle.accepted.proofs.RecordFacts.{accepted-formed}
 use Rattle.passes.specs.Limit.{has_too_many_branching}
 use Rattle.passes.proofs.PassLaws.{models_le}
 use Rattle.list_call.specs.declared.Listed.{Listed}
-use Rattle.std.proofs.Common.{Ok, Err}
+use Rattle.std.proofs.Common.{Ok}
 use Rattle.list_call.specs.Reply.{room_tests, search_tests, list_tests, reply_of, buffer_of, list_reply, list_buffer}
 use Rattle.list_call.specs.Condition3.{Call, Granted, after, facts, listed, record_at, Model, EqualExactly, Lists, ListsExactly}
 

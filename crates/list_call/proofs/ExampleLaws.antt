@@ -1,6 +1,6 @@
 -- The starred examples hold of the call: that causes 1 to 9, 19 and 12 do not apply is one computed test over the table, the listing's
 -- bytes and g are those of `examples_say`, and k is read from the bytes by condition 3. Assumes nothing.
-use mathlib.Core.Path.{◌≡◌, refl, sym, ap, ap₂, subst, ◌∙◌}
+use mathlib.Core.Path.{◌≡◌, refl, sym, ap, subst, ◌∙◌}
 use mathlib.Core.Bool.{Bool, true, false, ◌&&◌}
 use mathlib.Core.List.{List, ◌++◌, append-nil}
 use Prim.Native.Nat.{ℕ, ◌≤◌}

@@ -1,5 +1,5 @@
 -- Document 01: a fact's place. The causes in order of test, and the answer. Assumes nothing.
-use Rattle.std.specs.Prelude.{◌≡◌, ◌↔◌, Bool, true, false, not, ℕ, T, ltb, Result, Ok, Err}
+use Rattle.std.specs.Prelude.{◌≡◌, ◌↔◌, Bool, true, false, not, ℕ, T, ltb, Result, Ok}
 use Rattle.std.specs.Result.{result_and}
 use mathlib.Core.List.{List, [], ◌∷◌, ◌++◌, Memᴰ}
 use Rattle.base.specs.Lists.{all, any}

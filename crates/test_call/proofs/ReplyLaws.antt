@@ -3,12 +3,11 @@
 use mathlib.Core.Path.{◌≡◌, refl, sym, ap, ap₂, subst, ◌∙◌}
 use mathlib.Core.Bool.{Bool, true, false, not, ◌&&◌}
 use mathlib.Core.List.{List, [], ◌∷◌}
-use Prim.Native.Nat.{ℕ, ◌-◌, ◌*◌}
-use native.Mathlib.Omega.{arith}
+use Prim.Native.Nat.{ℕ}
 use lib.Dec.{T}
 use lib.ListN.{length, take}
 use Rattle.base.proofs.UpTo.{passed, failed}
-use Rattle.format.specs.Book.{Literal, book_of}
+use Rattle.format.specs.Book.{book_of}
 use Rattle.models.specs.Program.{Program, constrained}
 use Rattle.models.specs.StableModels.{Interpretation, holds, settled, forbidden, stable, StableModel, WellFormed}
 use Rattle.models.specs.Listing.{interpretation_of}
@@ -20,7 +19,6 @@ use Rattle.table.specs.declared.Row.{Row}
 use Rattle.table.specs.Table.{program_of, TableMade}
 use Rattle.table.specs.Tabled.{tabled}
 use Rattle.table.proofs.TabledLaws.{tabled-free, lent_alike}
-use Rattle.bans.specs.Bans.{bodies_of, BansFit, BansMade}
 use Rattle.book.specs.Causes.{verdict_if, first_of, Verdict}
 use Rattle.book.specs.declared.Cause.{Cause}
 use Rattle.book.specs.declared.Cause.TheVariants.{BadCandidate}
@@ -33,7 +31,7 @@ use Rattle.accepted.proofs.RecordFacts.{program_atoms}
 use Rattle.candidate.specs.Candidate.{is_bad_candidate}
 use Rattle.candidate.proofs.CandidateLaws.{read_length}
 use Rattle.test_call.specs.Reply.{test_tests, reply_of, test_reply, NoCause, YesExactly, NoExactly}
-use Rattle.std.proofs.Common.{Result, Ok, Err}
+use Rattle.std.proofs.Common.{Ok, Err}
 
 -- the rules of the lent table are well formed
 pub lent_formed : {P : Program} {book : List ℕ} {rows : List Row} {count : ℕ} → TableMade P book rows count → {n : ℕ} → n ≡ P.atoms → WellFormed P → WellFormed (tabled book (take count rows) n)

@@ -1,5 +1,5 @@
 -- `list` meets its contract: the causes of the layer, 12, and else the call's own answer. Assumes nothing.
-use mathlib.Core.Path.{sym, ap, ◌∙◌}
+use mathlib.Core.Path.{ap, ◌∙◌}
 use Rattle.std.proofs.Common.{rules, Err}
 use Rattle.drive.proofs.DriveLaws.{limit_is, alike_is, list_of_layer, list_of_twelve, listed}
 use Rattle.drive.proofs.list.Goals as goal

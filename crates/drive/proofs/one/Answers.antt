@@ -1,5 +1,5 @@
 -- `one` meets its contract: the causes of the layer, 12, and else the call's own answer. Assumes nothing.
-use mathlib.Core.Path.{sym, ap, ◌∙◌}
+use mathlib.Core.Path.{ap, ◌∙◌}
 use Rattle.std.proofs.Common.{rules, Err}
 use Rattle.drive.proofs.DriveLaws.{limit_is, alike_is, one_of_layer, one_of_twelve, written}
 use Rattle.drive.proofs.one.Goals as goal

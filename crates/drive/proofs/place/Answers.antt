@@ -1,5 +1,5 @@
 -- `place` meets its contract: the causes of the layer, 11, 12, and else the call's own answer. Assumes nothing.
-use mathlib.Core.Path.{sym, ap, ◌∙◌}
+use mathlib.Core.Path.{ap, ◌∙◌}
 use Rattle.std.proofs.Common.{rules, Err}
 use Rattle.drive.proofs.DriveLaws.{limit_is, alike_is, atoms_is, place_of_layer, place_of_eleven, place_of_twelve, placed}
 use native.Mathlib.Omega.{arith}

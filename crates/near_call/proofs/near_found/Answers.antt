@@ -1,5 +1,5 @@
 -- Room for a record, then the record of the closest state that a pass writes.
-use mathlib.Core.Path.{ap, ◌∙◌}
+use mathlib.Core.Path.{ap}
 use lib.ListN.{length}
 use Rattle.candidate.proofs.CandidateLaws.{ok_length, read_length}
 use Rattle.near_call.proofs.NearLaws.{room_refused, part_sized, state_refused, state_written_lem}
