@@ -15,7 +15,7 @@ fn main() {
     let archive = Path::new(&folder).join("liblesson.a");
     println!("cargo:rerun-if-changed={}", archive.display());
     let out = PathBuf::from(env::var_os("OUT_DIR").expect("cargo sets it"));
-    let renamed = ["check", "test", "list", "one", "place", "nearest"]
+    let renamed = ["check", "test", "list", "one", "place", "nearest", "count"]
         .map(|call| format!("--redefine-sym=lesson_{call}=before_{call}"));
     let status = Command::new("objcopy")
         .args(renamed)

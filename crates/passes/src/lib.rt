@@ -52,7 +52,9 @@ pub fn set_up<'a, 'b: 'a>(
     }
 }
 
-// One pass of the search: no fact is decided at first, and nothing is met.
+// One pass of the search: no fact is decided at first, and nothing is met. In a frame of its own, so that its arrays take the stack where
+// those lay that the plan was made with.
+#[inline(never)]
 fn pass(space: &Space, goal: &Goal, part: &mut [u8]) -> Visit
     requires ready { Ready space.now }
     requires asks { Asks goal.now }

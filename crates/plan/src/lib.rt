@@ -66,7 +66,9 @@ fn put_bans(book: &[u8], bans: &[Span], bits: &[u32], nogoods: &mut [Nogood], ma
     count
 }
 
-// Makes the plan of a table, of n facts of which these branch. The constraints are in it already, and stay.
+// Makes the plan of a table, of n facts of which these branch. The constraints are in it already, and stay. In a frame of its own, so that
+// its arrays take the stack where those lay that the table was made with, and leave it to the search's.
+#[inline(never)]
 pub fn make_plan(table: Table, n: usize, facts: &[u32], plan: &mut Plan)
     requires rows_bound { row_count table.rows.now ≤ max_rules }
     requires facts_few { length facts.now ≤ max_branching }

@@ -136,6 +136,8 @@ pub fn settles(
 }
 
 // Whether an interpretation is a stable model of the program that the rows and masks tabulate. `hints` is what an earlier filling left.
+// In a frame of its own, so that its arrays take the stack where those lay that the table was made with.
+#[inline(never)]
 pub fn is_stable(table: Table, m: &[bool], n: usize, hints: &mut Hints) -> bool
     requires well_formed { WellFormed (tabled table.book.now table.rows.now n) }
     requires tabulates { Tabulates (tabled table.book.now table.rows.now n) table.book.now table.rows.now }
