@@ -50,17 +50,17 @@ pub fn one(book: &[u8], layer: u32, off: u32, buffer: &mut [u8]) -> Result<usize
 
 // Whether a fact stands in every stable state, in some or in none. That the book has the fact is tested before the branching facts are
 // counted.
-pub fn place(book: &[u8], layer: u32, off: u32, fact: u32) -> Result<Placed, Cause>
+pub fn place(book: &[u8], layer: u32, off: u32, fact: usize) -> Result<Placed, Cause>
     ensures { result ≡ place_reply book.now layer off fact }
 {
     let driving = check_layer(book, layer, off)?;
-    if driving.atom_count() <= fact as usize {
+    if driving.atom_count() <= fact {
         return Err(Cause::NoSuchFact);
     }
     let mut rows = [NO_ROW; MAX_RULES];
     let mut plan = Plan::new();
     let space = set_up(&driving, &mut rows, &mut plan)?;
-    place_found(&space, fact as usize)
+    place_found(&space, fact)
 }
 
 // Writes the record of the stable state that is closest to a candidate.

@@ -90,7 +90,7 @@ fn place_number(place: Place) -> u64
 pub fn lesson_place(book: &[u8], layer: u32, off: u32, fact: u32) -> u64
     ensures { result ≡ place_answer (place_reply book.now layer off fact) }
 {
-    number(place(book, layer, off, fact), |p| {
+    number(place(book, layer, off, fact as usize), |p| {
         place_number(p.place) * OWN + p.branching as u64 * BRANCHING
     })
 }

@@ -23,7 +23,8 @@ pub struct Nearest {
     pub branching: usize,
 }
 
-// Room for a record comes first: a short buffer is 13 whether or not there is a state.
+// Writes the record of the stable state closest to a candidate. Room for a record comes first: a short buffer is 13 whether or not there is
+// a state.
 pub fn near_found(space: &Space, candidate: &[u8], buffer: &mut [u8]) -> Result<Nearest, Cause>
     requires ready { Ready space.now }
     requires candidate_value { is_bad_candidate space.now.plan.now.n candidate.now ≡ false }

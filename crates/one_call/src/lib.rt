@@ -11,7 +11,8 @@ use passes::write_first;
 use records::record_size;
 use search::Space;
 
-// Writes the first record and tells g, the number of the branching facts. Room for a record comes first: a short buffer is 13 whether or not there is a state.
+// Writes the first record and tells g, the number of the branching facts. Room for a record comes first: a short buffer is 13 whether or
+// not there is a state.
 pub fn one_found(space: &Space, buffer: &mut [u8]) -> Result<usize, Cause>
     requires { Ready space.now }
     ensures { Answers (first_of (room_tests (space_program space.now) (length buffer.old))) (space_program space.now) buffer.old result buffer.new }

@@ -34,7 +34,7 @@ pub fn set_up<'a, 'b: 'a>(
     plan: &'a mut Plan,
 ) -> Result<Space<'a>, Cause>
     requires { length rows.old ≡ max_rules }
-    ensures { SetUp (driven_program driving.now) result }
+    ensures { SetUp (driven_program driving.now) driving.now.book.now result }
 {
     let n = driving.atom_count();
     let count = driving.prepare(rows);

@@ -22,6 +22,7 @@ returns-in-Ok c =
     let few : length c.as_slice.result.now ≤ max_branching = search rules in
     let w = set_up_spans c.args.driving.now c.prepare-count.ensures c.atom_count-n.result c.atom_count-n.ensures.0 c.as_slice.result.now (c.as_slice.ensures ∙ c.in-Ok.ensures) few c.prepare_bans-plan.ensures _ c.make_plan.ensures.planned c.make_plan.ensures.facts c.make_plan.ensures.bans c.atom_count-n.ensures.1 c.atom_count-n.ensures.2 in
     record {
+      of_book = refl;
       ready = record { table = w.0; planned = w.1 };
       alike = w.2;
       few = not_too_many c.args.driving.now c.prepare-count.ensures c.atom_count-n.result c.atom_count-n.ensures.0 c.as_slice.result.now (c.as_slice.ensures ∙ c.in-Ok.ensures) few;
