@@ -56,12 +56,12 @@ pub fn record_of(m: &[bool]) -> [u8; MAX_RECORD]
     r
 }
 
-// Writes the record of a state of n facts at an offset.
-pub fn put_state(state: &[bool], n: usize, part: &mut [u8], at: usize)
-    requires { (length state.now ≡ n) × (n ≤ max_atoms) × (at + record_size n ≤ length part.old) }
-    ensures { part.new ≡ take at part.old ++ (record_of n state.now ++ drop (at + record_size n) part.old) }
+// Writes a state's record at an offset.
+pub fn put_state(state: &[bool], part: &mut [u8], at: usize)
+    requires { (length state.now ≤ max_atoms) × (at + record_size (length state.now) ≤ length part.old) }
+    ensures { part.new ≡ take at part.old ++ (record_of (length state.now) state.now ++ drop (at + record_size (length state.now)) part.old) }
 {
-    put_record(part, at, &record_of(state)[..record_size(n)]);
+    put_record(part, at, &record_of(state)[..record_size(state.len())]);
 }
 
 // Writes a number's last four bytes at an offset, the highest first.
