@@ -54,10 +54,10 @@ unfolding rows_of row_at
 rows_listed book rows = ap (map (row_rule book)) (sym (take-length rows)) ∙ first_ones (row_rule book) NO_ROW rows (length rows) (omega arith)
 
 -- the bit of the layer says whether a row is alive: a row's head has one name
-pub alive_told : (book : List ℕ) (rows : List Row) (rejects : List ℕ) (j : ℕ) (t : Bool) → t ≡ eqb (bit_of (get_or rejects (head_name rows j) 0) (row_layer rows j)) 1
-    → not t ≡ alive rejects (row_at book rows j)
+pub alive_told : (book : List ℕ) (rows : List Row) (rejects : List ℕ) (j h layer : ℕ) → h ≡ head_name rows j → layer ≡ row_layer rows j → (t : Bool)
+    → t ≡ eqb (bit_of (get_or rejects h 0) layer) 1 → not t ≡ alive rejects (row_at book rows j)
 unfolding alive row_at
-alive_told book rows rejects j t e = ap not (e ∙ ap (λ (x : ℕ). eqb (bit_of (get_or rejects x 0) (row_layer rows j)) 1) (sym (name_back (head_name rows j))))
+alive_told book rows rejects j h layer eh el t e = ap not (rw (name_back (head_name rows j), sym eh, sym el) e)
 
 -- lists that are alike at each place give the same values
 map_alike : {A B : Type 0} (f : A → B) (d : A) (xs ys : List A) → length ys ≡ length xs → ((j : ℕ) → f (get_or xs j d) ≡ f (get_or ys j d)) → map f xs ≡ map f ys

@@ -10,7 +10,7 @@ ghost use Rattle.format.specs.Book.{Rule, literals_of, is_falsity, is_constraint
 ghost use Rattle.models.specs.StableModels.{atom_holds, complement, same_literal, holds, body_holds, leans_on_itself};
 ghost use Rattle.table.specs.Names.{literal_named};
 ghost use Rattle.table.specs.Records.{rule_at, RuleAt, Gives, Gathered, RowOf, BodyOf};
-ghost use Rattle.table.specs.Rows.{in_mask, SpanFits, span_bytes, row_rule, row_count, head_name, row_layer, overridden, with_mask, row_body, row_at, alive, RowsBounded, RowsFit, SameRules};
+ghost use Rattle.table.specs.Rows.{in_mask, SpanFits, span_bytes, nth, row_rule, row_count, head_name, row_layer, overridden, with_mask, row_body, row_at, alive, RowsBounded, RowsFit, SameRules};
 ghost use Rattle.table.specs.Overriding.{HeadLayers, unless_leaning, Overridden};
 ghost use Rattle.table.specs.Table.{program_of, RuleRecords, Prepared, RelevantLayers, RowsMade, TableMade};
 
@@ -20,20 +20,20 @@ use format::{Literal, Literals};
 // Where a body stands in the book.
 #[derive(Clone, Copy)]
 pub struct Span {
-    pub start: u16,
-    pub size: u8,
+    pub start: u32,
+    pub size: u16,
 }
 
 // What stands in an array of bodies before they are found.
 pub const NO_SPAN: Span = Span { start: 0, size: 0 };
 
-// A rule: where its body is, the name of its head, its layer, and the mask of the layers in which it overrides rules. The layer has 32 bits
-// so that a row has 16 bytes, and its place is a shift and no multiplication, which every pass over the rows feels.
+// A rule: where its body is, the name of its head, its layer, and the mask of the layers in which it overrides rules. A row has 16 bytes,
+// so that its place is a shift and no multiplication, which every pass over the rows feels.
 #[derive(Clone, Copy)]
 pub struct Row {
     pub body: Span,
     pub head: u16,
-    pub layer: u32,
+    pub layer: u16,
     pub overridden: u32,
 }
 
@@ -101,54 +101,80 @@ impl<'a> Table<'a> {
         self.rows.len()
     }
 
-    // The name of a row's head.
-    pub fn head(self, j: usize) -> usize
+    // Row j, with the table that it stands in.
+    pub fn row(self, j: usize) -> TableRow<'a>
         requires { j < row_count self.rows.now }
-        ensures { (result ≡ head_name self.entry.rows.now j) × (result < max_names) }
+        ensures table_is { result.table ≡ self.entry }
+        ensures number_is { result.j ≡ j }
     {
-        self.rows[j].head as usize
+        TableRow { table: self, j }
+    }
+}
+
+// A row of an array, by its number.
+pub fn row_at(rows: &[Row], j: usize) -> Row
+    requires { j < row_count rows.now }
+    ensures row { result ≡ nth rows.now j }
+    ensures bounds { RowsBounded rows.now → (result.head < max_names) × (result.layer < max_layers) }
+{
+    rows[j]
+}
+
+// A row of a table, by its number.
+#[derive(Clone, Copy)]
+pub struct TableRow<'a> {
+    pub table: Table<'a>,
+    pub j: usize,
+    pub ghost inside: { j < row_count table.rows.now },
+}
+
+impl<'a> TableRow<'a> {
+    fn entry(self) -> Row
+        ensures { result ≡ nth self.entry.table.rows.now self.entry.j }
+    {
+        row_at(self.table.rows, self.j)
     }
 
-    // A row's layer.
-    pub fn layer(self, j: usize) -> usize
-        requires { j < row_count self.rows.now }
-        ensures { (result ≡ row_layer self.entry.rows.now j) × (result < max_layers) }
+    // The name of its head.
+    pub fn head(self) -> usize
+        ensures { (result ≡ head_name self.entry.table.rows.now self.entry.j) × (result < max_names) }
     {
-        self.rows[j].layer as usize
+        self.entry().head as usize
     }
 
-    // The mask of the layers in which a row overrides rules.
-    pub fn overridden(self, j: usize) -> u32
-        requires { j < row_count self.rows.now }
-        ensures { result ≡ overridden self.entry.rows.now j }
+    // Its layer.
+    pub fn layer(self) -> usize
+        ensures { (result ≡ row_layer self.entry.table.rows.now self.entry.j) × (result < max_layers) }
     {
-        self.rows[j].overridden
+        self.entry().layer as usize
     }
 
-    // A row's body, as a part of the book that starts in its middle.
-    pub fn body(self, j: usize) -> &'a [u8]
-        requires { j < row_count self.rows.now }
-        ensures { result.now ≡ row_body self.entry.book.now self.entry.rows.now j }
+    // The mask of the layers in which it overrides rules.
+    pub fn overridden(self) -> u32
+        ensures { result ≡ overridden self.entry.table.rows.now self.entry.j }
     {
-        span_bytes(self.book, self.rows[j].body)
+        self.entry().overridden
     }
 
-    // Whether a row's body holds.
-    pub fn holds(self, m: &[bool], j: usize) -> bool
-        requires { j < row_count self.rows.now }
-        ensures { result ≡ body_holds m.now (row_at self.entry.book.now self.entry.rows.now j) }
+    // Its body, as a part of the book that starts in its middle.
+    pub fn body(self) -> &'a [u8]
+        ensures { result.now ≡ row_body self.entry.table.book.now self.entry.table.rows.now self.entry.j }
     {
-        body_holds(m, self.body(j))
+        span_bytes(self.table.book, self.entry().body)
     }
 
-    // Whether a row is alive: its layer's bit is not set in the mask at its head's name.
-    pub fn alive(self, rejects: &[u32], j: usize) -> bool
-        requires rejects_len { length rejects.now ≡ max_names }
-        requires j_bound { j < row_count self.rows.now }
-        ensures { result ≡ alive rejects.now (row_at self.entry.book.now self.entry.rows.now j) }
+    // Whether its body holds.
+    pub fn holds(self, m: &[bool]) -> bool
+        ensures { result ≡ body_holds m.now (row_at self.entry.table.book.now self.entry.table.rows.now self.entry.j) }
     {
-        let row = self.rows[j];
-        !has_layer(rejects[row.head as usize], row.layer as usize)
+        body_holds(m, self.body())
+    }
+
+    // Whether it is alive: its layer's bit is not set in the mask at its head's name.
+    pub fn alive(self, rejects: &[u32; MAX_NAMES]) -> bool
+        ensures { result ≡ alive rejects.now (row_at self.entry.table.book.now self.entry.table.rows.now self.entry.j) }
+    {
+        !has_layer(rejects[self.head()], self.layer())
     }
 }
 
@@ -215,8 +241,8 @@ fn body_span(book: &[u8], at: usize) -> Span
     ensures { BodyOf book.now result (rule_at book.now at) }
 {
     Span {
-        start: (at + 4) as u16,
-        size: book[at] - 3,
+        start: (at + 4) as u32,
+        size: book[at] as u16 - 3,
     }
 }
 
@@ -234,7 +260,7 @@ impl FromRecord for Row {
         Some(Row {
             body: body_span(book, at),
             head: name_of(head) as u16,
-            layer: book[at + 1] as u32,
+            layer: book[at + 1] as u16,
             overridden: 0,
         })
     }

@@ -6,7 +6,7 @@ use Rattle.base.specs.Lists.{all}
 use Rattle.format.specs.Book.{literals_of}
 use Rattle.models.specs.StableModels.{holds, body_holds}
 use Rattle.table.specs.Rows.{row_at}
-use Rattle.table.proofs.Table.holds.Goals as goal
+use Rattle.table.proofs.TableRow.holds.Goals as goal
 
 pub returns : goal.returns
 unfolding row_at body_holds
