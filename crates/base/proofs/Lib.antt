@@ -3,3 +3,4 @@ pub mod ClosureLaws
 pub mod UpTo
 pub mod Rising
 pub mod MapLaws
+pub mod EntryLaws
