@@ -1,5 +1,5 @@
 -- Lists: tests over all and some members, filtering, concatenation, the numbers below n. Assumes nothing.
-use Rattle.std.specs.Prelude.{Bool, true, false, List, [], ◌∷◌, ◌++◌, ℕ, zero, suc}
+use Rattle.std.specs.Prelude.{Bool, true, false, List, [], ◌∷◌, ◌++◌, ℕ, zero, suc, Option, cond, nat_lt, length, option_to_list}
 use Rattle.std.specs.List.{list_all, list_any}
 
 module _ {A : Type 0} where
@@ -26,3 +26,7 @@ module _ {A : Type 0} where
 unfoldable pub up_to : ℕ → List ℕ
 up_to zero = []
 up_to (suc n) = up_to n ++ (n ∷ [])
+
+-- the entries afterwards: one more, if there is one, and room for it
+abbrev pub put_behind : {T : Type 0} → List T → ℕ → Option T → List T
+put_behind before room entry = cond (nat_lt (length before) room) (before ++ option_to_list entry) before

@@ -16,3 +16,7 @@ pub const MAX_RULES: usize = 1024;
 pub const MAX_BODY: usize = 16;
 
 pub const MAX_BRANCHING: usize = 20;
+
+mod array_vec;
+
+pub use array_vec::ArrayVec;
