@@ -15,7 +15,7 @@ use Rattle.format.specs.Book.{records, arrow_of, arrow_records, rule_records, ar
 use Rattle.layers.specs.Layers.{Arrow, link, repeats, same_arrow, Path, single, longer, below}
 use Rattle.layers.specs.Masks.{bit_of, marked, Linked, Way, edge, join, EmptyFrom, LowerMasks}
 use Rattle.book.specs.Causes.{arrow_ok, rule_ok, is_out_of_range, has_bad_record, repeats_arrow, has_cycle}
-use Rattle.book.specs.Checks.{HeaderOf}
+use Rattle.book.specs.Header.{HeaderOf}
 use Rattle.base.proofs.Members.{◌∈◌, and_left, and_right, and_both, all_at, all_of, any_at, any_of, same_test}
 use Rattle.base.proofs.UpTo.{passed, true_of}
 use Rattle.layers.proofs.BelowLaws.{below-sound, below_complete}

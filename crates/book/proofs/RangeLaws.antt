@@ -14,7 +14,7 @@ use Rattle.base.specs.Lists.{all}
 use Rattle.format.specs.Book.{u16_at, u32_at, section_bytes, section_count, section_end, atom_count, layer_count, rule_section, arrow_records, rule_records}
 use Rattle.format.specs.Sections.{has_broken_section}
 use Rattle.book.specs.Causes.{within, arrow_ok, rule_ok, is_out_of_range, has_bad_record}
-use Rattle.book.specs.Checks.{HeaderOf}
+use Rattle.book.specs.Header.{HeaderOf}
 use Rattle.layers.proofs.BitLaws.{and_left, and_right}
 use Rattle.format.proofs.SectionLaws.{or_first, or_second, Laid, laid}
 

@@ -1,3 +1,3 @@
 pub mod Causes
 pub mod Numbers
-pub mod Checks
+pub mod Header

@@ -9,7 +9,7 @@ ghost use Rattle.layers.specs.Masks.{marked, LowerMasks};
 ghost use Rattle.format.specs.Book.{records, literals_of, arrow_of, arrow_records, rule_records, arrows_of};
 ghost use Rattle.format.specs.Sections.{has_broken_section};
 ghost use Rattle.book.specs.Causes.{arrow_ok, atom_below, head_ok, rule_ok, is_out_of_range, has_bad_record, repeats_arrow, tests, first_of, verdict, verdict_of};
-ghost use Rattle.book.specs.Checks.{HeaderOf};
+ghost use Rattle.book.specs.Header.{HeaderOf};
 ghost use Rattle.book.specs.Numbers.{number_of};
 ghost use Rattle.std.proofs.Props.{props};
 
@@ -71,24 +71,39 @@ pub fn arrow_ok(rec: &[u8], layers: usize) -> bool
     ensures { result ≡ arrow_ok layers rec.now }
 {
     match rec {
-        [earlier, later] => (*earlier as usize) < layers && (*later as usize) < layers,
+        [earlier, later] => usize::from(*earlier) < layers && usize::from(*later) < layers,
         _ => false,
     }
 }
 
-// Whether a literal is a lawful head: its fact is below the number of facts, or it is the head of a constraint.
-#[tactic(auto, unfolding(crate::specs::Causes::head_ok, crate::specs::Causes::atom_below))]
-fn head_ok(head: Literal, atoms: usize) -> bool
-    ensures { result ≡ head_ok atoms head }
+// Whether each record of the arrow section is an arrow's.
+pub fn arrows_ok(part: &[u8], layers: usize) -> bool
+    ensures { result ≡ all (arrow_ok layers) (records part.now) }
 {
-    head.atom < atoms || head.is_falsity()
+    Records(part).all(|rec| arrow_ok(rec, layers))
 }
 
-// Whether the facts of all literals are below the number of facts.
-fn body_ok(body: &[u8], atoms: usize) -> bool
-    ensures { result ≡ all (atom_below atoms) (literals_of body.now) }
+// Whether a literal's fact is below the number of facts.
+#[tactic(auto, unfolding(crate::specs::Causes::atom_below))]
+pub fn atom_ok(literal: Literal, atoms: usize) -> bool
+    ensures { result ≡ atom_below atoms literal }
 {
-    Literals(body).all(|literal| literal.atom < atoms)
+    literal.atom < atoms
+}
+
+// Whether the facts of all literals are.
+pub fn literals_ok(literals: &[u8], atoms: usize) -> bool
+    ensures { result ≡ all (atom_below atoms) (literals_of literals.now) }
+{
+    Literals(literals).all(|literal| atom_ok(literal, atoms))
+}
+
+// Whether a literal is a lawful head: its fact is below the number of facts, or it is the head of a constraint.
+#[tactic(auto, unfolding(crate::specs::Causes::head_ok))]
+pub fn head_ok(head: Literal, atoms: usize) -> bool
+    ensures { result ≡ head_ok atoms head }
+{
+    atom_ok(head, atoms) || head.is_falsity()
 }
 
 // Whether a record is a rule's: length 3 + 2b with b up to MAX_BODY, a layer below L, and facts below n but for the head of a constraint.
@@ -101,13 +116,20 @@ pub fn rule_ok(rec: &[u8], layers: usize, atoms: usize) -> bool
     };
     body.len() <= 2 * MAX_BODY
         && body.len() % 2 == 0
-        && (*layer as usize) < layers
+        && usize::from(*layer) < layers
         && head_ok(Literal::from_bytes(*a, *b), atoms)
-        && body_ok(body, atoms)
+        && literals_ok(body, atoms)
+}
+
+// Whether each record of the rule section is a rule's.
+pub fn rules_ok(part: &[u8], layers: usize, atoms: usize) -> bool
+    ensures { result ≡ all (rule_ok layers atoms) (records part.now) }
+{
+    Records(part).all(|rec| rule_ok(rec, layers, atoms))
 }
 
 // The arrows as masks: bit i of mask j for an arrow from i to j. There are none where two arrows are equal.
-fn arrow_masks(part: &[u8]) -> Option<[u32; MAX_LAYERS]>
+pub fn arrow_masks(part: &[u8]) -> Option<[u32; MAX_LAYERS]>
     requires { all (arrow_ok max_layers) (records part.now) ≡ true }
     ensures repeated { is_none result ≡ repeats (map arrow_of (records part.now)) }
     ensures masks { IfSome result (λ m. (x y : ℕ) → marked m y x ≡ any (λ a. same_arrow a (link x y)) (map arrow_of (records part.now))) }
@@ -117,7 +139,7 @@ fn arrow_masks(part: &[u8]) -> Option<[u32; MAX_LAYERS]>
         let [earlier, later] = rec else {
             unreachable!()
         };
-        let (i, j) = (*earlier as usize, *later as usize);
+        let (i, j) = (usize::from(*earlier), usize::from(*later));
         if layers::bit_of(&m, j, i) {
             return None;
         }
@@ -146,7 +168,7 @@ impl<'a> Header<'a> {
         Header {
             book,
             atoms: be16(book, 5),
-            layers: book[7] as usize,
+            layers: usize::from(book[7]),
             rules: 14 + be32(book, 8),
         }
     }
@@ -183,13 +205,13 @@ impl<'a> Header<'a> {
     pub fn bad_record(&self) -> bool
         ensures { result ≡ has_bad_record self.now.book.now }
     {
-        !Records(self.arrow_part()).all(|rec| arrow_ok(rec, self.layers))
-            || !Records(self.rule_part()).all(|rec| rule_ok(rec, self.layers, self.atoms))
+        !arrows_ok(self.arrow_part(), self.layers)
+            || !rules_ok(self.rule_part(), self.layers, self.atoms)
     }
 
     // The tests from cause 7 on. The test of cause 8 needs each layer's mask of the layers below it, and so does every call that drives
     // a layer: an accepted book is answered by its masks, the closure of its arrows.
-    fn check_arrows(&self) -> Result<[u32; MAX_LAYERS], Cause>
+    pub fn check_arrows(&self) -> Result<[u32; MAX_LAYERS], Cause>
         requires { (is_out_of_range self.now.book.now ≡ false) × (has_bad_record self.now.book.now ≡ false) }
         ensures verdict { verdict_of result ≡ first_of (drop 6 (tests self.now.book.now)) }
         ensures masks { IfOk result (LowerMasks (arrows_of self.now.book.now)) }

@@ -1,5 +1,5 @@
 -- Each record of the section is an arrow's. Two equal arrows are met where the bit is there already.
-use mathlib.Core.Path.{refl, sym, subst}
+use mathlib.Core.Path.{sym, subst}
 use Rattle.std.proofs.Common.{rules}
 use Rattle.format.specs.declared.Records.{Records}
 use Rattle.book.proofs.MaskLaws.{Walked, walk_start, end_repeated, end_reads, Two, next_two, next_hit, next_walked}
@@ -27,7 +27,7 @@ bit_of-requires c =
 
 pub returns-then-bit_of-clause-repeated : goal.returns-then-bit_of-clause-repeated
 returns-then-bit_of-clause-repeated c =
-    next_hit c.loop-rec.invariant _ _ c.in-Some.ensures.steps _ _ refl refl c.bit_of.result c.bit_of.ensures c.if-bit_of.true
+    next_hit c.loop-rec.invariant _ _ c.in-Some.ensures.steps _ _ c.from-i.ensures c.from-j.ensures c.bit_of.result c.bit_of.ensures c.if-bit_of.true
 
 pub set_bit-requires : goal.set_bit-requires
 set_bit-requires c =
@@ -38,7 +38,7 @@ set_bit-requires c =
 
 pub loop-rec-preserved : goal.loop-rec-preserved
 loop-rec-preserved c =
-    next_walked c.loop-rec.invariant _ _ c.in-Some.ensures.steps _ _ refl refl c.bit_of.result c.bit_of.ensures c.if-bit_of.false _ c.set_bit.ensures
+    next_walked c.loop-rec.invariant _ _ c.in-Some.ensures.steps _ _ c.from-i.ensures c.from-j.ensures c.bit_of.result c.bit_of.ensures c.if-bit_of.false _ c.set_bit.ensures
 
 pub returns-clause-repeated : goal.returns-clause-repeated
 returns-clause-repeated c =

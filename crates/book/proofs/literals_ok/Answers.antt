@@ -4,9 +4,9 @@ use Rattle.std.proofs.lemmas.Iterator.Search.{all_from_yields_List}
 use Rattle.base.specs.Lists.{all}
 use Rattle.format.proofs.Walks.{literals_yielded}
 use Rattle.book.specs.Causes.{atom_below}
-use Rattle.book.proofs.body_ok.Goals as goal
+use Rattle.book.proofs.literals_ok.Goals as goal
 
 pub returns : goal.returns
-unfolding all atom_below
+unfolding all
 returns c =
-    all_from_yields_List (atom_below c.args.atoms) c.all.new.self _ _ c.all.ensures.ran (literals_yielded c.args.body) (λ x b q k. search (rules, tests))
+    all_from_yields_List (atom_below c.args.atoms) c.all.new.self _ _ c.all.ensures.ran (literals_yielded c.args.literals) (λ x b q k. search (rules, tests))

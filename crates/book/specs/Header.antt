@@ -1,4 +1,4 @@
--- What the check of a book works on: the header, once the sections are whole. Assumes nothing.
+-- The header of a book, once its sections are whole. Assumes nothing.
 use Rattle.std.specs.Prelude.{◌≡◌, false, List, ℕ}
 use Rattle.format.specs.Book.{atom_count, layer_count, rule_section}
 use Rattle.format.specs.Sections.{has_broken_section}
