@@ -7,19 +7,16 @@ use native.Mathlib.Omega.{arith}
 use lib.ListN.{length, take, drop, length-append, length-drop}
 use lib.Seq.{take-length}
 use Rattle.grammar.specs.Conditions.{Condition, Atom, Not, Bracket}
-use Rattle.grammar.specs.Reader as grammar
-use Rattle.grammar.specs.Reader.{disjunction, conjunction, nothing, after, joined, Task, from, on, bracket, operand, Stops, Took, operand_took, operator_stop, operator_go, not_took, shut_took, name_took}
+use Rattle.grammar.specs.Reader.{Operator, disjunction, conjunction, byte_of, Before, nothing, after, joined, Task, from, on, bracket, operand, Took, operand_took, operator_stop, operator_go, not_took, shut_took, name_took}
 use Rattle.grammar.proofs.OneReadingLaws.{first_same, rest-same, begins, once}
 use Rattle.std.specs.declared.option.Option.{Option}
 use Rattle.std.specs.Bool.{then_some}
 use Rattle.condition.specs.declared.Code.{Code}
 use Rattle.condition.specs.declared.Code.TheVariants as code
-use Rattle.condition.specs.declared.Operator.{Operator}
-use Rattle.condition.specs.declared.Operator.TheVariants.{Or, And}
 use Rattle.condition.specs.declared.Reader.{Reader}
 use Rattle.condition.specs.Code.{postfix}
-use Rattle.condition.specs.Outcome.{meant, byte_of, code_of, NameOf}
-use Rattle.condition.specs.Readers.{task_of, operand_of, Passes, Written, Outcome}
+use Rattle.condition.specs.Outcome.{NameOf}
+use Rattle.condition.specs.Readers.{Passes, Written, Outcome}
 
 -- a byte that was passed, or not
 abbrev Passed : ℕ → Reader → Reader → Type 0
@@ -39,67 +36,67 @@ pub outcome_from : (k : Task) {old mid : Reader} (new : Reader) (r : Option (Uni
 outcome_from k new r e h = subst (λ (x : Reader). Outcome k x new r) e h
 
 -- ---- operands
+-- an operator in postfix code
+abbrev code_of : Operator → Code
+code_of disjunction = code.Or
+code_of conjunction = code.And
+
 -- the condition so far, of the operands that were passed
 pub record Operands (o : Operator) (old new : Reader) : Type 0 where
   pub tree : Condition
-  pub onward : (w : Condition) (u : List ℕ) → Took (on (meant o) tree) new.rest.now w u → Took (task_of o) old.rest.now w u
-  pub back : (w : Condition) (u : List ℕ) → Took (task_of o) old.rest.now w u → Took (on (meant o) tree) new.rest.now w u
+  pub onward : (w : Condition) (u : List ℕ) → Took (on o tree) new.rest.now w u → Took (from o nothing) old.rest.now w u
+  pub back : (w : Condition) (u : List ℕ) → Took (from o nothing) old.rest.now w u → Took (on o tree) new.rest.now w u
   pub wrote : new.code ≡ old.code ++ postfix tree
   pub room : length new.code + length new.rest.now ≤ length old.code + length old.rest.now
 
 -- what goes on behind an operand is the same behind the same operand
-behind : (o : grammar.Operator) (p : grammar.Before) {s t u : List ℕ} {b w : Condition} → Took (operand o) s b t → Took (from o p) s w u → Took (on o (joined o p b)) t w u
+behind : (o : Operator) (p : Before) {s t u : List ℕ} {b w : Condition} → Took (operand o) s b t → Took (from o p) s w u → Took (on o (joined o p b)) t w u
 behind o p {t = t} {u = u} {b = b} {w = w} h (operand_took {t = y} {a = a} f e g) =
     let x = once h f in
     subst (λ (l : List ℕ). Took (on o (joined o p b)) l w u) (sym x.left) (subst (λ (z : Condition). Took (on o z) y w u) (e ∙ ap (joined o p) (sym x.tree)) g)
 
-pub first_operand : (o : Operator) {old new : Reader} → Written (operand_of o) old new → Operands o old new
+pub first_operand : (o : Operator) {old new : Reader} → Written (operand o) old new → Operands o old new
 first_operand o h = record {
   tree = h.tree;
   onward = λ w u g. operand_took h.took refl g;
-  back = λ w u f. behind (meant o) nothing h.took f;
+  back = λ w u f. behind o nothing h.took f;
   wrote = h.wrote;
   room = h.room;
 }
 
-pub no_operand : (o : grammar.Operator) {p : grammar.Before} {s u : List ℕ} {w : Condition} → Took (from o p) s w u → ((b : Condition) (t : List ℕ) → Took (operand o) s b t → ⊥) → ⊥
+no_operand : (o : Operator) {p : Before} {s u : List ℕ} {w : Condition} → Took (from o p) s w u → ((b : Condition) (t : List ℕ) → Took (operand o) s b t → ⊥) → ⊥
 no_operand o (operand_took {t = t} {b = b} h e g) n = n b t h
 
 -- an operator and what stands behind it
-go_on : (o : grammar.Operator) {t u y : List ℕ} {a w : Condition} → t ≡ grammar.byte_of o ∷ y → Took (on o a) t w u → Took (from o (after a)) y w u
+go_on : (o : Operator) {t u y : List ℕ} {a w : Condition} → t ≡ byte_of o ∷ y → Took (on o a) t w u → Took (from o (after a)) y w u
 go_on o {y = y} e (operator_stop n) = absurd (n y e)
 go_on o {u = u} {a = a} {w = w} e (operator_go f g) = subst (λ (l : List ℕ). Took (from o (after a)) l w u) (rest-same (sym f ∙ e)) g
 
-postfix-joined : (o : Operator) (a b : Condition) → postfix a ++ (postfix b ++ (code_of o ∷ [])) ≡ postfix (joined (meant o) (after a) b)
+postfix-joined : (o : Operator) (a b : Condition) → postfix a ++ (postfix b ++ (code_of o ∷ [])) ≡ postfix (joined o (after a) b)
 unfolding postfix
-postfix-joined Or a b = refl
-postfix-joined And a b = refl
+postfix-joined disjunction a b = refl
+postfix-joined conjunction a b = refl
 
-pub next_operand : (o : Operator) {old mid next last new : Reader} {c : ℕ} {d : Code} → c ≡ byte_of o → d ≡ code_of o → Operands o old mid → Passed c mid next → Written (operand_of o) next last → new.rest ≡ last.rest → new.code ≡ last.code ++ (d ∷ []) → Operands o old new
-next_operand o {old} {mid} {next} {last} {new} {c} {d} bytes codes h q x r f =
-    let p : Passed (byte_of o) mid next = subst (λ (y : ℕ). Passed y mid next) bytes q in
-    let e : new.code ≡ last.code ++ (code_of o ∷ []) = f ∙ ap (λ (y : Code). last.code ++ (y ∷ [])) codes in
+pub next_operand : (o : Operator) {old mid next last new : Reader} → Operands o old mid → Passed (byte_of o) mid next → Written (operand o) next last → new.rest ≡ last.rest → new.code ≡ last.code ++ (code_of o ∷ []) → Operands o old new
+next_operand o {old} {mid} {next} {last} {new} h p x r e =
     let rest : last.rest.now ≡ new.rest.now = ap (λ y. y.now) (sym r) in
     record {
-      tree = joined (meant o) (after h.tree) x.tree;
-      onward = λ w u g. h.onward w u (operator_go p.0 (operand_took (subst (λ (l : List ℕ). Took (operand_of o) next.rest.now x.tree l) rest x.took) refl g));
-      back = λ w u f. subst (λ (l : List ℕ). Took (on (meant o) (joined (meant o) (after h.tree) x.tree)) l w u) rest (behind (meant o) (after h.tree) x.took (go_on (meant o) p.0 (h.back w u f)));
+      tree = joined o (after h.tree) x.tree;
+      onward = λ w u g. h.onward w u (operator_go p.0 (operand_took (subst (λ (l : List ℕ). Took (operand o) next.rest.now x.tree l) rest x.took) refl g));
+      back = λ w u f. subst (λ (l : List ℕ). Took (on o (joined o (after h.tree) x.tree)) l w u) rest (behind o (after h.tree) x.took (go_on o p.0 (h.back w u f)));
       wrote = e ∙ ap (λ (l : List Code). l ++ (code_of o ∷ [])) (x.wrote ∙ ap (λ (l : List Code). l ++ postfix x.tree) (p.1 ∙ h.wrote))
           ∙ append_assoc (old.code ++ postfix h.tree) (postfix x.tree) (code_of o ∷ []) ∙ append_assoc old.code (postfix h.tree) (postfix x.tree ++ (code_of o ∷ []))
           ∙ ap (λ (l : List Code). old.code ++ l) (postfix-joined o h.tree x.tree);
       room = omega (arith, h.room, ap length p.0, ap length p.1, x.room, ap length rest, ap length e, length-append last.code (code_of o ∷ []));
     }
 
-pub operands_end : (o : Operator) {old mid new : Reader} {c : ℕ} → c ≡ byte_of o → Operands o old mid → Stayed c mid new → Written (task_of o) old new
-operands_end o {old} {mid} {new} bytes h q =
-    let n : Stayed (byte_of o) mid new = subst (λ (y : ℕ). Stayed y mid new) bytes q in
-    subst (λ (r : Reader). Written (task_of o) old r) (sym n.0)
+pub operands_end : (o : Operator) {old mid new : Reader} → Operands o old mid → Stayed (byte_of o) mid new → Written (from o nothing) old new
+operands_end o {old} {mid} {new} h n =
+    subst (λ (r : Reader). Written (from o nothing) old r) (sym n.0)
     record { tree = h.tree; took = h.onward h.tree _ (operator_stop n.1); wrote = h.wrote; room = h.room }
 
-pub operands_none : (o : Operator) (old mid next : Reader) {c : ℕ} → c ≡ byte_of o → Operands o old mid → Passed c mid next → Unread (operand_of o) next → Unread (task_of o) old
-operands_none o old mid next bytes h q n w u f =
-    let p : Passed (byte_of o) mid next = subst (λ (y : ℕ). Passed y mid next) bytes q in
-    no_operand (meant o) (go_on (meant o) p.0 (h.back w u f)) n
+pub operands_none : (o : Operator) (old mid next : Reader) → Operands o old mid → Passed (byte_of o) mid next → Unread (operand o) next → Unread (from o nothing) old
+operands_none o old mid next h p n w u f = no_operand o (go_on o p.0 (h.back w u f)) n
 
 -- ---- an operand of `&`, by its first byte
 shut_only : {x y u : List ℕ} {w : Condition} → x ≡ 40 ∷ y → Took bracket x w u → ((a : Condition) (v : List ℕ) → Took (from disjunction nothing) y a v → v ≡ 41 ∷ u → ⊥) → ⊥
@@ -147,8 +144,3 @@ name_read {old} {new} digits {f} h q e =
       wrote = e;
       room = omega (arith, h.some, h.within, ap length r, length-drop digits old.rest.now, ap length e, length-append old.code (code.Name f ∷ []));
     }
-
--- ---- the levels below an operator's operand
-abbrev pub levels : Operator → ℕ
-levels Or = 3
-levels And = 1

@@ -4,28 +4,12 @@ use Rattle.std.specs.declared.option.Option.{Option}
 use Rattle.std.specs.declared.result.Result.{Result}
 use Rattle.models.specs.StableModels.{Interpretation}
 use Rattle.grammar.specs.Conditions.{Condition, Atom, Digit, Reads, or-level}
-use Rattle.grammar.specs.Reader as grammar
-use Rattle.grammar.specs.Reader.{bracket, Took, disjunction, conjunction}
+use Rattle.grammar.specs.Reader.{bracket, Took}
 use Rattle.book.specs.Causes.{first_of}
 use Rattle.book.specs.declared.Cause.{Cause}
 use Rattle.condition.specs.Code.{postfix, code_holds, StackFits}
 use Rattle.condition.specs.Causes.{max_condition, condition_tests, fits_text}
 use Rattle.condition.specs.declared.Code.{Code}
-use Rattle.condition.specs.declared.Code.TheVariants as code
-use Rattle.condition.specs.declared.Operator.{Operator}
-use Rattle.condition.specs.declared.Operator.TheVariants.{Or, And}
-
--- an operator of the grammar, its byte and its code
-abbrev pub meant : Operator → grammar.Operator
-meant Or = disjunction
-meant And = conjunction
-
-abbrev pub byte_of : Operator → ℕ
-byte_of o = grammar.byte_of (meant o)
-
-abbrev pub code_of : Operator → Code
-code_of Or = code.Or
-code_of And = code.And
 
 -- the value of the digit c, or that c is none
 abbrev pub DigitOf : ℕ → Option ℕ → Type 0

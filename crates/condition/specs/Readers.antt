@@ -1,19 +1,10 @@
--- What the reader of a condition takes: a byte, operands of an operator, an operand. Assumes nothing.
+-- What the reader of a condition takes: a byte, or a condition at one of the levels. Assumes nothing.
 use Rattle.std.specs.Prelude.{◌≡◌, Bool, true, false, List, ◌∷◌, ◌++◌, ℕ, ◌+◌, ◌≤◌, length, Some, None}
 use Rattle.std.specs.declared.option.Option.{Option}
 use Rattle.grammar.specs.Conditions.{Condition}
-use Rattle.grammar.specs.Reader.{Task, from, operand, nothing, Took}
-use Rattle.condition.specs.declared.Operator.{Operator}
+use Rattle.grammar.specs.Reader.{Task, Took}
 use Rattle.condition.specs.declared.Reader.{Reader}
 use Rattle.condition.specs.Code.{postfix}
-use Rattle.condition.specs.Outcome.{meant}
-
--- operands of an operator, and one of them
-abbrev pub task_of : Operator → Task
-task_of o = from (meant o) nothing
-
-abbrev pub operand_of : Operator → Task
-operand_of o = operand (meant o)
 
 -- the next byte was c, and it was passed; or it is another, and nothing was
 abbrev pub Passes : ℕ → Reader → Reader → Bool → Type 0

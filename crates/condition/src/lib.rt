@@ -1,14 +1,13 @@
 // Conditions such as 3&!14|(2&5): read once a call into postfix code, judged by their brackets and names, and evaluated at each state.
 #![tactic(auto)]
 
-ghost use Rattle.std.specs.Prelude.{◌≡◌, List, [], ◌∷◌, ◌++◌, ◌+◌, ◌*◌, ◌^◌, ◌≤◌, ◌<◌, length, take, ℕ};
-ghost use Rattle.models.specs.Listing.{bit_value};
+ghost use Rattle.std.specs.Prelude.{◌≡◌, ◌+◌, ◌*◌, ◌^◌, ◌≤◌, ◌<◌, length};
 ghost use Rattle.condition.specs.Causes.{max_condition};
 ghost use Rattle.condition.specs.Code.{push, step, Fits, code_holds, StackFits, opened, deepest, code_below, codes_below};
-ghost use Rattle.condition.specs.Outcome.{byte_of, code_of, DigitOf, NameRead, Compiles, Prepares};
+ghost use Rattle.condition.specs.Outcome.{DigitOf, NameRead, Compiles, Prepares};
 
+use base::ArrayVec;
 use book::Cause;
-use std::marker::Model;
 
 // The bytes of the longest condition; it has no more codes than bytes.
 pub const MAX_CONDITION: usize = 255;
@@ -43,79 +42,7 @@ impl Code {
 }
 
 // A condition's postfix code.
-// Kept: no heap, so an array of the most codes that a condition can have, and how many there are; clauses see the list.
-#[derive(Drop)]
-pub struct Postfix {
-    codes: [Code; MAX_CONDITION],
-    used: usize,
-}
-
-impl Model for Postfix {
-    ghost use Rattle.std.specs.Prelude.{◌≤◌, List, take};
-    ghost use Rattle.condition.specs.declared.Code.{Code};
-    ghost use Rattle.condition.specs.Causes.{max_condition};
-
-    ghost Value = { List Code };
-
-    ghost view = { λ p. take p.used p.codes };
-
-    ghost invariant = { λ p. p.used ≤ max_condition };
-}
-
-impl Postfix {
-    fn new() -> Postfix
-        ensures { result ≡ [] }
-    {
-        Postfix {
-            codes: [Code::Not; MAX_CONDITION],
-            used: 0,
-        }
-    }
-
-    // The codes, in the order in which they run.
-    pub fn as_slice(&self) -> &[Code]
-        ensures { result.now ≡ self.now }
-    {
-        &self.codes[..self.used]
-    }
-
-    fn push(&mut self, code: Code)
-        requires { length self.old < max_condition }
-        ensures { self.new ≡ self.old ++ code ∷ [] }
-    {
-        self.codes[self.used] = code;
-        self.used += 1;
-    }
-}
-
-// The operators that stand between operands.
-#[derive(Clone, Copy)]
-enum Operator {
-    Or,
-    And,
-}
-
-impl Operator {
-    // How it stands in a text.
-    fn byte(self) -> u8
-        ensures { result ≡ byte_of self }
-    {
-        match self {
-            Operator::Or => b'|',
-            Operator::And => b'&',
-        }
-    }
-
-    // What it is in postfix code.
-    fn code(self) -> Code
-        ensures { result ≡ code_of self }
-    {
-        match self {
-            Operator::Or => Code::Or,
-            Operator::And => Code::And,
-        }
-    }
-}
+pub type Postfix = ArrayVec<Code, MAX_CONDITION>;
 
 // A digit's value.
 fn digit_of(c: u8) -> Option<u16>
@@ -152,8 +79,8 @@ struct Reader<'a> {
 }
 
 impl Reader<'_> {
-    ghost use Rattle.grammar.specs.Reader.{bracket};
-    ghost use Rattle.condition.specs.Readers.{task_of, operand_of, Passes, Outcome};
+    ghost use Rattle.grammar.specs.Reader.{from, bracket, disjunction, conjunction, nothing};
+    ghost use Rattle.condition.specs.Readers.{Passes, Outcome};
 
     // Goes past a byte if it is the next.
     fn passes(&mut self, byte: u8) -> bool
@@ -166,42 +93,44 @@ impl Reader<'_> {
         false
     }
 
-    // Operands of an operator, from the left.
-    #[cycle(operands_under_operand)]
-    fn operands(&mut self, operator: Operator) -> Option<()>
-        ensures { Outcome (task_of operator) self.old self.new result }
+    // Operands of `|`, from the left.
+    #[cycle(or_and_bracket)]
+    fn or_level(&mut self) -> Option<()>
+        ensures { Outcome (from disjunction nothing) self.old self.new result }
     {
-        self.under(operator)?;
-        while self.passes(operator.byte()) {
-            self.under(operator)?;
-            self.code.push(operator.code());
+        self.and_level()?;
+        while self.passes(b'|') {
+            self.and_level()?;
+            self.code.push(Code::Or);
         }
         Some(())
     }
 
-    // An operand of an operator.
-    #[cycle(operands_under_operand)]
-    fn under(&mut self, operator: Operator) -> Option<()>
-        ensures { Outcome (operand_of operator) self.old self.new result }
+    // Operands of `&`, from the left.
+    #[cycle(or_and_bracket)]
+    fn and_level(&mut self) -> Option<()>
+        ensures { Outcome (from conjunction nothing) self.old self.new result }
     {
-        match operator {
-            Operator::Or => self.operands(Operator::And),
-            Operator::And => self.operand(),
+        self.bracket_level()?;
+        while self.passes(b'&') {
+            self.bracket_level()?;
+            self.code.push(Code::And);
         }
+        Some(())
     }
 
     // An operand of `&`: a name, a bracket, or either behind `!`.
-    #[cycle(operands_under_operand)]
-    fn operand(&mut self) -> Option<()>
+    #[cycle(or_and_bracket)]
+    fn bracket_level(&mut self) -> Option<()>
         ensures { Outcome bracket self.old self.new result }
     {
         if self.passes(b'!') {
-            self.operand()?;
+            self.bracket_level()?;
             self.code.push(Code::Not);
             return Some(());
         }
         if self.passes(b'(') {
-            self.operands(Operator::Or)?;
+            self.or_level()?;
             return self.passes(b')').then_some(());
         }
         let (digits, fact) = read_name(self.rest)?;
@@ -246,9 +175,9 @@ fn compile(text: &[u8]) -> Option<Postfix>
     }
     let mut reader = Reader {
         rest: text,
-        code: Postfix::new(),
+        code: Postfix::new(Code::Not),
     };
-    reader.operands(Operator::Or)?;
+    reader.or_level()?;
     let Reader { rest, code } = reader;
     rest.is_empty().then_some(code)
 }

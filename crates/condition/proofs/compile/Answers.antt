@@ -9,8 +9,8 @@ returns-then-text-gt-MAX_CONDITION c = elim c.then-text-gt-MAX_CONDITION.branch 
   | then-text-gt-MAX_CONDITION-via-else-text-gt-MAX_CONDITION+then-bracket_depth-gt-MAX_SHUT w ↦ deep_text c.args.text.now w.bracket_depth.result w.bracket_depth.ensures w.if-bracket_depth-gt-MAX_SHUT.true
 ]
 
-pub returns-in_err-operands : goal.returns-in_err-operands
-returns-in_err-operands c = rw c.from_residual.ensures (no_text c.args.text.now c.in_err-operands.ensures)
+pub returns-in_err-or_level : goal.returns-in_err-or_level
+returns-in_err-or_level c = rw c.from_residual.ensures (no_text c.args.text.now c.in_err-or_level.ensures)
 
 pub returns : goal.returns
-returns c = rw (c.then_some.ensures, c.is_empty.ensures) (whole_or_none _ c.operands.new.self c.in_ok-operands.ensures c.new.ensures c.if-text-gt-MAX_CONDITION.false)
+returns c = rw (c.then_some.ensures, c.is_empty.ensures) (whole_or_none _ c.or_level.new.self c.in_ok-or_level.ensures c.new.ensures c.if-text-gt-MAX_CONDITION.false)

@@ -14,8 +14,8 @@ returns-then-bracket_depth-gt-MAX_DEPTH c =
 
 pub returns-then-names_below : goal.returns-then-names_below
 returns-then-names_below c =
-    all-ready c.in-Some.ensures c.args.n c.bracket_depth.result c.bracket_depth.ensures c.if-bracket_depth-gt-MAX_DEPTH.false c.names_below.result (c.names_below.ensures ∙ ap (codes_below c.args.n) c.as_slice.ensures) c.if-names_below.true
+    all-ready c.in-Some.ensures c.args.n c.bracket_depth.result c.bracket_depth.ensures c.if-bracket_depth-gt-MAX_DEPTH.false c.names_below.result (c.names_below.ensures ∙ ap (codes_below c.args.n) c.as_slice.ensures.value) c.if-names_below.true
 
 pub returns-else-names_below : goal.returns-else-names_below
 returns-else-names_below c =
-    unknown_name c.in-Some.ensures c.args.n c.bracket_depth.result c.bracket_depth.ensures c.if-bracket_depth-gt-MAX_DEPTH.false c.names_below.result (c.names_below.ensures ∙ ap (codes_below c.args.n) c.as_slice.ensures) c.if-names_below.false
+    unknown_name c.in-Some.ensures c.args.n c.bracket_depth.result c.bracket_depth.ensures c.if-bracket_depth-gt-MAX_DEPTH.false c.names_below.result (c.names_below.ensures ∙ ap (codes_below c.args.n) c.as_slice.ensures.value) c.if-names_below.false
