@@ -107,8 +107,11 @@ impl Hints {
 
     // Lets a row wait for the literal i of its body, whose name is h.
     pub(crate) fn wait(&mut self, j: usize, i: usize, h: usize)
-        requires { (j < max_rules) × (h < max_names) }
+        requires { h < max_names }
     {
+        if MAX_RULES <= j {
+            return;
+        }
         self.watched[j] = (i % 65536) as u16;
         self.next_waiting[j] = self.first_waiting[h];
         self.first_waiting[h] = Some(j as u16);

@@ -13,10 +13,10 @@ ghost use Rattle.table.specs.Names.{literal_named};
 ghost use Rattle.table.specs.Rows.{row_count, row_at};
 ghost use Rattle.filling.specs.Marks.{Room, literal_marked, adds, Grown, Tried, PassEnd, FilledOn, Fills};
 
-use base::{MAX_ATOMS, MAX_BODY, MAX_RULES};
+use base::{MAX_ATOMS, MAX_BODY, MAX_NAMES, MAX_RULES};
 use format::{Literal, Literals};
 pub use hint::Hints;
-use table::{Table, opposite};
+use table::{Table, TableRow, opposite};
 
 mod hint;
 
@@ -103,45 +103,41 @@ impl Marks<'_> {
 #[derive(Clone, Copy, PartialEq, Eq, Debug)]
 pub struct BothWays;
 
-// The rules of a table, with the masks of the rejected ones: bit i at name h says that those of layer i with that head are rejected.
+// A rule of a table by its row, with the masks of the rejected ones.
 #[derive(Clone, Copy)]
-pub struct Rules<'a> {
-    pub table: Table<'a>,
-    pub rejects: &'a [u32],
-    ghost masks: { length rejects.now ≡ max_names },
+struct RuleRow<'a> {
+    row: TableRow<'a>,
+    rejects: &'a [u32; MAX_NAMES],
 }
 
 // Kept: marks are lent as two slices, since with a struct of two `&mut` each step's clauses also say that it still holds those two.
-impl Rules<'_> {
-    // Whether a row adds its head: the head is not marked, the row is alive and its body is marked.
+impl RuleRow<'_> {
+    // Whether it adds its head: the head is not marked, the rule is alive and its body is marked.
     #[tactic(auto, using(crate::proofs::MarkLaws::adds_row))]
-    fn adds(&self, marks: &Marks, hints: &Hints, j: usize) -> bool
-        requires room { Room self.now.table.rows.now marks.now.positive.now marks.now.negative.now }
-        requires j_bound { j < row_count self.now.table.rows.now }
-        ensures { result ≡ adds marks.now.positive.now marks.now.negative.now self.now.rejects.now (row_at self.now.table.book.now self.now.table.rows.now j) }
+    fn adds(&self, marks: &Marks, hints: &Hints) -> bool
+        requires { Room self.now.row.table.rows.now marks.now.positive.now marks.now.negative.now }
+        ensures { result ≡ adds marks.now.positive.now marks.now.negative.now self.now.rejects.now (row_at self.now.row.table.book.now self.now.row.table.rows.now self.now.row.j) }
     {
-        !marks.name(self.table.head(j))
-            && self.table.alive(self.rejects, j)
-            && marks.body(self.table.body(j), hints.watched(j))
+        !marks.name(self.row.head())
+            && self.row.alive(self.rejects)
+            && marks.body(self.row.body(), hints.watched(self.row.j))
     }
 
-    // Marks a row's head if the row adds it, and says whether it did. Where the opposite is marked, it marks nothing.
+    // Marks its head if it adds that, and says whether it did. Where the opposite is marked, it marks nothing.
     fn add_head(
         &self,
         positive: &mut [bool],
         negative: &mut [bool],
         hints: &Hints,
-        j: usize,
     ) -> Result<bool, BothWays>
-        requires room { Room self.now.table.rows.now positive.old negative.old }
-        requires j_bound { j < row_count self.now.table.rows.now }
-        ensures { Tried self.now.table.book.now self.now.table.rows.now self.now.rejects.now j positive.old negative.old positive.new negative.new result }
+        requires { Room self.now.row.table.rows.now positive.old negative.old }
+        ensures { Tried self.now.row.table.book.now self.now.row.table.rows.now self.now.rejects.now self.now.row.j positive.old negative.old positive.new negative.new result }
     {
         let marks = Marks { positive, negative };
-        if !self.adds(&marks, hints, j) {
+        if !self.adds(&marks, hints) {
             return Ok(false);
         }
-        let h = self.table.head(j);
+        let h = self.row.head();
         if marks.name(opposite(h)) {
             return Err(BothWays);
         }
@@ -153,6 +149,59 @@ impl Rules<'_> {
         Ok(true)
     }
 
+    // Lets it wait for a literal of its body that is not marked, and says whether there is one. It is looked for from the one on that the
+    // row watches, which stays from filling to filling: what kept a row from adding its head at one setting often does at the next.
+    fn wait(&self, marks: &Marks, hints: &mut Hints) -> bool {
+        let body = self.row.body();
+        match marks.unmarked(body, hints.watched(self.row.j)) {
+            Some(i) => {
+                let name = waiting_name(Literal::from_bytes(body[2 * i], body[2 * i + 1]));
+                hints.wait(self.row.j, i, name);
+                true
+            }
+            None => false,
+        }
+    }
+
+    // Tries it where it may still add its head: adds that, or lets the row wait. Says whether the head was added.
+    fn settle(&self, positive: &mut [bool], negative: &mut [bool], hints: &mut Hints) -> bool
+        requires { Room self.now.row.table.rows.now positive.old negative.old }
+        ensures { Grown self.now.row.table.book.now self.now.row.table.rows.now self.now.rejects.now positive.old negative.old positive.new negative.new }
+    {
+        let marks = Marks { positive, negative };
+        if marks.name(self.row.head())
+            || !self.row.alive(self.rejects)
+            || self.wait(&marks, hints)
+        {
+            return false;
+        }
+        if let Ok(true) = self.add_head(positive, negative, hints) {
+            hints.remember(self.row.j);
+            return true;
+        }
+        false
+    }
+}
+
+// The rules of a table, with the masks of the rejected ones: bit i at name h says that those of layer i with that head are rejected.
+#[derive(Clone, Copy)]
+pub struct Rules<'a> {
+    pub table: Table<'a>,
+    pub rejects: &'a [u32; MAX_NAMES],
+}
+
+impl<'a> Rules<'a> {
+    fn row(&self, j: usize) -> RuleRow<'a>
+        requires { j < row_count self.now.table.rows.now }
+        ensures row_is { (result.row.table ≡ self.now.table) × (result.row.j ≡ j) }
+        ensures rejects_is { result.rejects ≡ self.now.rejects }
+    {
+        RuleRow {
+            row: self.table.row(j),
+            rejects: self.rejects,
+        }
+    }
+
     // Tries the rows of the trail in their order: what was reached one after the other at the last setting is often reached so at the
     // next.
     fn replay(&self, positive: &mut [bool], negative: &mut [bool], hints: &Hints)
@@ -162,51 +211,9 @@ impl Rules<'_> {
         for row in hints.trail() {
             let j = *row as usize;
             if j < self.table.len() {
-                let _ = self.add_head(positive, negative, hints, j);
+                let _ = self.row(j).add_head(positive, negative, hints);
             }
         }
-    }
-
-    // Lets a row wait for a literal of its body that is not marked, and says whether there is one. It is looked for from the one on that
-    // the row watches, which stays from filling to filling: what kept a row from adding its head at one setting often does at the next.
-    fn wait(&self, marks: &Marks, hints: &mut Hints, j: usize) -> bool
-        requires { (j < row_count self.now.table.rows.now) × (j < max_rules) }
-    {
-        let body = self.table.body(j);
-        match marks.unmarked(body, hints.watched(j)) {
-            Some(i) => {
-                let name = waiting_name(Literal::from_bytes(body[2 * i], body[2 * i + 1]));
-                hints.wait(j, i, name);
-                true
-            }
-            None => false,
-        }
-    }
-
-    // Tries a row that may still add its head: adds it, or lets the row wait. Says whether it was added.
-    fn settle(
-        &self,
-        positive: &mut [bool],
-        negative: &mut [bool],
-        hints: &mut Hints,
-        j: usize,
-    ) -> bool
-        requires room { Room self.now.table.rows.now positive.old negative.old }
-        requires j_bound { (j < row_count self.now.table.rows.now) × (j < max_rules) }
-        ensures { Grown self.now.table.book.now self.now.table.rows.now self.now.rejects.now positive.old negative.old positive.new negative.new }
-    {
-        let marks = Marks { positive, negative };
-        if marks.name(self.table.head(j))
-            || !self.table.alive(self.rejects, j)
-            || self.wait(&marks, hints, j)
-        {
-            return false;
-        }
-        if let Ok(true) = self.add_head(positive, negative, hints, j) {
-            hints.remember(j);
-            return true;
-        }
-        false
     }
 
     // Marks more of what follows, by waiting lists: a row waits for a literal of its body that is not marked, and is tried again when that
@@ -229,8 +236,9 @@ impl Rules<'_> {
                     return;
                 }
                 waiting = hints.next_waiting(j);
-                if self.settle(positive, negative, hints, j) {
-                    hints.push_marked(self.table.head(j));
+                let rule = self.row(j);
+                if rule.settle(positive, negative, hints) {
+                    hints.push_marked(rule.row.head());
                 }
             } else if let Some(h) = hints.pop_marked() {
                 waiting = hints.first_waiting(h);
@@ -256,7 +264,7 @@ impl Rules<'_> {
     {
         let mut added = false;
         for j in 0..self.table.len() {
-            if self.add_head(positive, negative, hints, j)? {
+            if self.row(j).add_head(positive, negative, hints)? {
                 hints.remember(j);
                 added = true;
             }
@@ -279,7 +287,7 @@ impl Rules<'_> {
         self.replay(positive, negative, hints);
         let added = self.pass(positive, negative, hints)?;
         if added {
-            'passes: while self.pass(positive, negative, hints)? {
+            while self.pass(positive, negative, hints)? {
                 self.propagate(positive, negative, hints);
             }
         }

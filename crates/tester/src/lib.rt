@@ -16,31 +16,27 @@ ghost use Rattle.tester.specs.Masks.{RejectedMasks, Supports, Others};
 
 use base::{MAX_ATOMS, MAX_NAMES};
 use filling::{Hints, Rules, clear_marks};
-use table::{Table, atom_holds, opposite};
+use table::{Table, TableRow, atom_holds, opposite};
 
 // The layers in which a row rejects rules: none, unless its body holds.
-fn row_mask(table: Table, m: &[bool], j: usize) -> u32
-    requires { j < row_count table.rows.now }
-    ensures { result ≡ cond (body_holds m.now (row_at table.entry.book.now table.entry.rows.now j)) (overridden table.entry.rows.now j) 0 }
+fn row_mask(row: TableRow, m: &[bool]) -> u32
+    ensures { result ≡ cond (body_holds m.now (row_at row.entry.table.book.now row.entry.table.rows.now row.entry.j)) (overridden row.entry.table.rows.now row.entry.j) 0 }
 {
-    let mask = table.overridden(j);
-    if mask != 0 && table.holds(m, j) {
-        mask
-    } else {
-        0
-    }
+    let mask = row.overridden();
+    if mask != 0 && row.holds(m) { mask } else { 0 }
 }
 
 // Bit i at name h: rules of layer i with that head are rejected. The array is lent, all 0.
 #[tactic(auto, using(crate::proofs::MaskLaws::rejects_skip, crate::proofs::MaskLaws::rejects_more))]
-fn reject(table: Table, m: &[bool], rejects: &mut [u32])
+fn reject(table: Table, m: &[bool], rejects: &mut [u32; MAX_NAMES])
     requires { rejects.old ≡ replicate max_names 0 }
     ensures { RejectedMasks table.entry.book.now table.entry.rows.now m.now rejects.new (row_count table.entry.rows.now) }
 {
     for j in 0..table.len() {
-        let mask = row_mask(table, m, j);
+        let row = table.row(j);
+        let mask = row_mask(row, m);
         if mask != 0 {
-            rejects[opposite(table.head(j))] |= mask;
+            rejects[opposite(row.head())] |= mask;
         }
     }
 }
@@ -65,9 +61,10 @@ fn supported(rules: &Rules, m: &[bool], atoms: &mut [bool]) -> bool
 {
     clear_marks(atoms);
     for j in 0..rules.table.len() {
-        if rules.table.holds(m, j) {
-            let h = rules.table.head(j);
-            let lives = rules.table.alive(rules.rejects, j);
+        let row = rules.table.row(j);
+        if row.holds(m) {
+            let h = row.head();
+            let lives = row.alive(rules.rejects);
             if lives && !name_holds(m, h) {
                 return true;
             }
@@ -99,11 +96,11 @@ fn mark_agrees(positive: &[bool], negative: &[bool], m: &[bool], f: usize) -> bo
     atom_holds(positive, f) == stands && atom_holds(negative, f) != stands
 }
 
-// Whether the marks of the atoms below n are what the interpretation says of them.
-fn marks_agree(positive: &[bool], negative: &[bool], m: &[bool], n: usize) -> bool
-    ensures { result ≡ all (marks_agree positive.now negative.now m.now) (up_to n) }
+// Whether the marks of each atom are what the interpretation says of it.
+fn marks_agree(positive: &[bool], negative: &[bool], m: &[bool]) -> bool
+    ensures { result ≡ all (marks_agree positive.now negative.now m.now) (up_to (length m.now)) }
 {
-    (0..n).all(|f| mark_agrees(positive, negative, m, f))
+    (0..m.len()).all(|f| mark_agrees(positive, negative, m, f))
 }
 
 // Whether an interpretation is a stable model of the program that the rows and masks tabulate, where it is known which rules are rejected
@@ -111,19 +108,16 @@ fn marks_agree(positive: &[bool], negative: &[bool], m: &[bool], n: usize) -> bo
 pub fn settles(
     rules: &Rules,
     m: &[bool],
-    n: usize,
     positive: &mut [bool],
     negative: &mut [bool],
     hints: &mut Hints,
 ) -> bool
-    requires well_formed { WellFormed (tabled rules.now.table.book.now rules.now.table.rows.now n) }
-    requires tabulates { Tabulates (tabled rules.now.table.book.now rules.now.table.rows.now n) rules.now.table.book.now rules.now.table.rows.now }
-    requires n_value { n ≡ (tabled rules.now.table.book.now rules.now.table.rows.now n).atoms }
-    requires n_le_max_atoms { n ≤ max_atoms }
-    requires m_len { length m.now ≡ n }
+    requires well_formed { WellFormed (tabled rules.now.table.book.now rules.now.table.rows.now (length m.now)) }
+    requires tabulates { Tabulates (tabled rules.now.table.book.now rules.now.table.rows.now (length m.now)) rules.now.table.book.now rules.now.table.rows.now }
+    requires m_few { length m.now ≤ max_atoms }
     requires rejected_masks { RejectedMasks rules.now.table.book.now rules.now.table.rows.now m.now rules.now.rejects.now (row_count rules.now.table.rows.now) }
-    requires positive_len { (length positive.old ≡ n) × (length negative.old ≡ n) }
-    ensures { result ≡ stable (tabled rules.now.table.book.now rules.now.table.rows.now n) m.now }
+    requires marks_len { (length positive.old ≡ length m.now) × (length negative.old ≡ length m.now) }
+    ensures { result ≡ stable (tabled rules.now.table.book.now rules.now.table.rows.now (length m.now)) m.now }
 {
     if supported(rules, m, positive) {
         return false;
@@ -132,20 +126,19 @@ pub fn settles(
     if rules.fill(positive, negative, hints).is_err() {
         return false;
     }
-    marks_agree(positive, negative, m, n)
+    marks_agree(positive, negative, m)
 }
 
 // Whether an interpretation is a stable model of the program that the rows and masks tabulate. `hints` is what an earlier filling left.
 // In a frame of its own, so that its arrays take the stack where those lay that the table was made with.
 #[inline(never)]
-pub fn is_stable(table: Table, m: &[bool], n: usize, hints: &mut Hints) -> bool
-    requires well_formed { WellFormed (tabled table.book.now table.rows.now n) }
-    requires tabulates { Tabulates (tabled table.book.now table.rows.now n) table.book.now table.rows.now }
-    requires n_value { n ≡ (tabled table.book.now table.rows.now n).atoms }
-    requires n_le_max_atoms { n ≤ max_atoms }
-    requires m_len { length m.now ≡ n }
-    ensures { result ≡ stable (tabled table.entry.book.now table.entry.rows.now n) m.now }
+pub fn is_stable(table: Table, m: &[bool], hints: &mut Hints) -> bool
+    requires well_formed { WellFormed (tabled table.book.now table.rows.now (length m.now)) }
+    requires tabulates { Tabulates (tabled table.book.now table.rows.now (length m.now)) table.book.now table.rows.now }
+    requires m_few { length m.now ≤ max_atoms }
+    ensures { result ≡ stable (tabled table.entry.book.now table.entry.rows.now (length m.now)) m.now }
 {
+    let n = m.len();
     let mut rejects: [u32; MAX_NAMES] = [0; MAX_NAMES];
     reject(table, m, &mut rejects);
     let mut positive = [false; MAX_ATOMS];
@@ -154,5 +147,5 @@ pub fn is_stable(table: Table, m: &[bool], n: usize, hints: &mut Hints) -> bool
         table,
         rejects: &rejects,
     };
-    settles(&rules, m, n, &mut positive[..n], &mut negative[..n], hints)
+    settles(&rules, m, &mut positive[..n], &mut negative[..n], hints)
 }

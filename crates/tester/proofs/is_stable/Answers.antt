@@ -4,4 +4,4 @@ use Rattle.tester.proofs.is_stable.Goals as goal
 
 pub settles-requires : goal.settles-requires
 settles-requires c =
-    record { well_formed = c.requires.well_formed; tabulates = c.requires.tabulates; n_value = c.requires.n_value; n_le_max_atoms = c.requires.n_le_max_atoms; m_len = c.requires.m_len; rejected_masks = c.reject.ensures; positive_len = (search rules, search rules) }
+    record { well_formed = c.requires.well_formed; tabulates = c.requires.tabulates; m_few = c.requires.m_few; rejected_masks = c.reject.ensures; marks_len = (search rules, search rules) }

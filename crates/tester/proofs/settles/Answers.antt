@@ -1,7 +1,8 @@
 -- A violated row or a conflict rules stability out; else what is filled from the defaults is what is derived, and the comparison
 -- decides.
-use mathlib.Core.Path.{sym, subst, ◌∙◌}
-use Rattle.table.proofs.TabledLaws.{tabled-free}
+use mathlib.Core.Path.{refl, sym, subst}
+use lib.ListN.{length}
+use Rattle.table.proofs.TabledLaws.{tabled-atoms, tabled-free}
 use Rattle.tester.specs.Masks.{Others}
 use Rattle.tester.proofs.TestLaws.{room_for, violated_unstable, conflict_unstable, agree_stable}
 use borrow.Author.Rules.{rules}
@@ -9,16 +10,16 @@ use Rattle.tester.proofs.settles.Goals as goal
 
 pub returns-then-supported : goal.returns-then-supported
 returns-then-supported c =
-    violated_unstable c.requires.tabulates c.requires.rejected_masks c.requires.well_formed (c.requires.m_len ∙ c.requires.n_value) (c.supported.ensures.violation c.if-supported.true)
+    violated_unstable c.requires.tabulates c.requires.rejected_masks c.requires.well_formed (sym (tabled-atoms _ _ _)) (c.supported.ensures.violation c.if-supported.true)
 
 pub fill-requires : goal.fill-requires
 fill-requires c =
-    room_for c.requires.tabulates c.requires.well_formed c.requires.n_value c.requires.n_le_max_atoms _ _ (search rules) (search rules)
+    room_for c.requires.tabulates c.requires.well_formed (sym (tabled-atoms _ _ _)) c.requires.m_few _ _ (search rules) (search rules)
 
 pub returns-then-is_err : goal.returns-then-is_err
 returns-then-is_err c =
-    conflict_unstable c.requires.tabulates c.requires.rejected_masks c.requires.well_formed c.requires.n_value (search rules) (c.supported.ensures.support c.if-supported.false) (subst (Others _ _) {y = c.args.n} (search rules) c.mark_defaults.ensures) c.fill.ensures c.requires.m_len (sym c.if-is_err.ensures.value)
+    conflict_unstable c.requires.tabulates c.requires.rejected_masks c.requires.well_formed (sym (tabled-atoms _ _ _)) (search rules) (c.supported.ensures.support c.if-supported.false) (subst (Others _ _) {y = length c.args.m.now} (search rules) c.mark_defaults.ensures) c.fill.ensures refl (sym c.if-is_err.ensures.value)
 
 pub returns : goal.returns
 returns c =
-    agree_stable c.requires.tabulates c.requires.rejected_masks c.requires.well_formed c.requires.n_value (search rules) (c.supported.ensures.support c.if-supported.false) (subst (Others _ _) {y = c.args.n} (search rules) c.mark_defaults.ensures) c.fill.ensures c.requires.m_len (sym c.if-is_err.ensures.value) (tabled-free c.args.rules.now.table.book.now c.args.rules.now.table.rows.now c.args.n) c.marks_agree.result c.marks_agree.ensures
+    agree_stable c.requires.tabulates c.requires.rejected_masks c.requires.well_formed (sym (tabled-atoms _ _ _)) (search rules) (c.supported.ensures.support c.if-supported.false) (subst (Others _ _) {y = length c.args.m.now} (search rules) c.mark_defaults.ensures) c.fill.ensures refl (sym c.if-is_err.ensures.value) (tabled-free c.args.rules.now.table.book.now c.args.rules.now.table.rows.now _) c.marks_agree.result c.marks_agree.ensures

@@ -15,13 +15,13 @@ pub returns-then-not-name_holds : goal.returns-then-not-name_holds
 returns-then-not-name_holds c =
     record {
       support = λ e. absurd (true≢false e);
-      violation = λ e. violation_at c.loop-j.j (search rules) c.alive-lives.result c.alive-lives.ensures c.if-lives.true c.holds.result c.holds.ensures c.if-holds.true c.head-h.result c.head-h.ensures.0 c.name_holds.result c.name_holds.ensures (ap not c.if-not-name_holds.true);
+      violation = λ e. violation_at c.loop-j.j (search rules) c.alive-lives.result (rw (c.row-row.ensures.table_is, c.row-row.ensures.number_is) at c.alive-lives.ensures) c.if-lives.true c.holds.result (rw (c.row-row.ensures.table_is, c.row-row.ensures.number_is) at c.holds.ensures) c.if-holds.true c.head-h.result (rw (c.row-row.ensures.table_is, c.row-row.ensures.number_is) at c.head-h.ensures.0) c.name_holds.result c.name_holds.ensures (ap not c.if-not-name_holds.true);
     }
 
 pub loop-j-preserved : goal.loop-j-preserved
 loop-j-preserved c =
     elim c.if-holds.branch [
-      | then-holds+else-lives+then-h-atoms v ↦ rw v.atoms-is (supported_more c.loop-j.invariant v.head-h.result v.head-h.ensures.0 c.holds.result v.if-h-atoms.true c.holds.ensures v.if-holds.true)
-      | then-holds+else-lives+else-h-atoms v ↦ rw v.atoms-is (supported_other c.loop-j.invariant v.head-h.result v.head-h.ensures.0 v.if-h-atoms.false)
-      | else-holds v ↦ rw v.atoms-is (supported_not c.loop-j.invariant c.holds.result c.holds.ensures v.if-holds.false)
+      | then-holds+else-lives+then-h-atoms v ↦ rw v.atoms-is (supported_more c.loop-j.invariant v.head-h.result (rw (c.row-row.ensures.table_is, c.row-row.ensures.number_is) at v.head-h.ensures.0) c.holds.result v.if-h-atoms.true (rw (c.row-row.ensures.table_is, c.row-row.ensures.number_is) at c.holds.ensures) v.if-holds.true)
+      | then-holds+else-lives+else-h-atoms v ↦ rw v.atoms-is (supported_other c.loop-j.invariant v.head-h.result (rw (c.row-row.ensures.table_is, c.row-row.ensures.number_is) at v.head-h.ensures.0) v.if-h-atoms.false)
+      | else-holds v ↦ rw v.atoms-is (supported_not c.loop-j.invariant c.holds.result (rw (c.row-row.ensures.table_is, c.row-row.ensures.number_is) at c.holds.ensures) v.if-holds.false)
     ]

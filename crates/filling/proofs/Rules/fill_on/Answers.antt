@@ -12,17 +12,17 @@ use Rattle.filling.proofs.Rules.fill_on.Goals as goal
 
 pub returns-in_err-pass : goal.returns-in_err-pass
 returns-in_err-pass c =
-    let clash : FilledOn c.args.self.now.table.book.now c.args.self.now.table.rows.now c.args.self.now.rejects.now c.args.positive.now c.args.negative.now c.pass-in-passes.new.positive c.pass-in-passes.new.negative true = clashed c.passes.invariant.grown c.in_err-pass.ensures refl in
+    let clash : FilledOn c.args.self.now.table.book.now c.args.self.now.table.rows.now c.args.self.now.rejects.now c.args.positive.now c.args.negative.now c.pass-in-loop-positive.new.positive c.pass-in-loop-positive.new.negative true = clashed c.loop-positive.invariant.grown c.in_err-pass.ensures refl in
     search (rules, clash)
 
-pub passes-smaller : goal.passes-smaller
-passes-smaller c =
+pub loop-positive-smaller : goal.loop-positive-smaller
+loop-positive-smaller c =
     omega (arith, rw c.if-branch.true at c.in_ok-pass.ensures.fewer, grown-fewer c.propagate.ensures (search rules) (search rules))
 
-pub passes-preserved : goal.passes-preserved
-passes-preserved c =
-    record { grown = grown_both (grown_both c.passes.invariant.grown c.in_ok-pass.ensures.grown) c.propagate.ensures; room = room-same c.passes.invariant.room _ _ (search rules) (search rules); sizes = (search rules, search rules) }
+pub loop-positive-preserved : goal.loop-positive-preserved
+loop-positive-preserved c =
+    record { grown = grown_both (grown_both c.loop-positive.invariant.grown c.in_ok-pass.ensures.grown) c.propagate.ensures; room = room-same c.loop-positive.invariant.room _ _ (search rules) (search rules); sizes = (search rules, search rules) }
 
 pub returns-else-branch : goal.returns-else-branch
 returns-else-branch c =
-    filled c.passes.invariant.grown c.in_ok-pass.ensures (ap Ok c.if-branch.false)
+    filled c.loop-positive.invariant.grown c.in_ok-pass.ensures (ap Ok c.if-branch.false)
