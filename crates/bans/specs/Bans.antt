@@ -1,5 +1,5 @@
 -- The constraints that count at a driven layer: where the body of each stands in the book. Assumes nothing.
-use Rattle.std.specs.Prelude.{◌≡◌, List, map, ℕ, ◌<◌, ◌≤◌, length, get_or, take}
+use Rattle.std.specs.Prelude.{◌≡◌, List, map, ℕ, ◌<◌, ◌≤◌, length, get_or}
 use Rattle.base.specs.Bounds.{max_rules}
 use Rattle.format.specs.Book.{Literal, literals_of}
 use Rattle.models.specs.Program.{Program, constrained}
@@ -28,9 +28,8 @@ barred book rows bans n = constrained (tabled book rows n) (bodies_of book bans)
 abbrev pub BansFit : List ℕ → List Span → Type 0
 BansFit book bans = (k : ℕ) → k < length bans → SpanFits book (nth_ban bans k)
 
--- the first `count` places are those of these bodies, in order
-pub record BansMade (bodies : List (List Literal)) (book : List ℕ) (bans : List Span) (count : ℕ) : Type 0 where
-  pub room : count ≤ max_rules
-  pub size : length bans ≡ max_rules
-  pub fits : BansFit book (take count bans)
-  pub bodies_are : bodies_of book (take count bans) ≡ bodies
+-- the places are those of these bodies, in order
+pub record BansMade (bodies : List (List Literal)) (book : List ℕ) (bans : List Span) : Type 0 where
+  pub room : length bans ≤ max_rules
+  pub fits : BansFit book bans
+  pub bodies_are : bodies_of book bans ≡ bodies

@@ -2,60 +2,57 @@
 // whether some body holds in a finished state.
 #![tactic(auto)]
 
-ghost use Rattle.std.specs.Prelude.{◌≡◌, ◌&&◌, map, ◌<◌, ◌≤◌, eqb, length, drop};
-ghost use Rattle.base.specs.Bounds.{max_layers, max_rules};
+ghost use Rattle.std.specs.Prelude.{◌≡◌, map, drop};
+ghost use Rattle.std.proofs.Props.{props};
 ghost use Rattle.base.specs.Lists.{all, any, filter};
-ghost use Rattle.layers.specs.Masks.{bit_of};
-ghost use Rattle.format.specs.Book.{literal_of, rule_of, records, is_falsity};
+ghost use Rattle.format.specs.Book.{rule_of, records};
 ghost use Rattle.models.specs.StableModels.{holds};
-ghost use Rattle.table.specs.Rows.{span_bytes, takes_constraint};
-ghost use Rattle.table.specs.Table.{program_of, RuleRecords, Prepared};
+ghost use Rattle.table.specs.Rows.{takes_constraint};
+ghost use Rattle.table.specs.Table.{program_of};
 ghost use Rattle.bans.specs.Bans.{bodies_of, BansFit, BansMade};
 
-use base::MAX_LAYERS;
-use table::{Span, body_holds, gather, relevant_layers, span_bytes};
+use base::MAX_RULES;
+use table::{RuleSection, Source, Span, body_holds, gather, span_bytes};
 
-// Whether the body of some constraint holds in a state.
-pub fn banned(book: &[u8], bans: &[Span], m: &[bool]) -> bool
-    requires { BansFit book.now bans.now }
-    ensures { result ≡ any (all (holds m.now)) (bodies_of book.now bans.now) }
-{
-    for ban in bans {
-        if body_holds(m, span_bytes(book, *ban)) {
-            return true;
-        }
+// Where the bodies of the constraints stand, with the book that they lie in.
+#[derive(Clone, Copy)]
+pub struct Bans<'a> {
+    pub book: &'a [u8],
+    pub spans: &'a [Span],
+    pub ghost fit: { BansFit book.now spans.now } by { Prim.hlevel props },
+}
+
+impl<'a> Bans<'a> {
+    // Whether the body of some constraint holds in a state.
+    pub fn banned(self, m: &[bool]) -> bool
+        ensures { result ≡ any (all (holds m.now)) (bodies_of self.entry.book.now self.entry.spans.now) }
+    {
+        self.spans
+            .iter()
+            .any(|ban| body_holds(m, span_bytes(self.book, *ban)))
     }
-    false
 }
 
-// Writes where the bodies of the constraints stand whose layer is in the mask, in their order, and says how many there are.
+// Writes where the bodies of the constraints stand whose layer is in the mask, in their order.
 #[tactic(auto, using(crate::proofs::BanLaws::bans_made))]
-pub fn make_bans(book: &[u8], first: usize, mask: u32, bans: &mut [Span]) -> usize
-    requires rule_records { RuleRecords (drop first book.now) }
-    requires first_in_bounds { first ≤ length book.now }
-    requires book_len_bound { length book.now < 65536 }
-    requires bans_len { length bans.old ≡ max_rules }
-    ensures { BansMade (map (λ x. x.body) (filter (takes_constraint mask) (map rule_of (records (drop first book.now))))) book.now bans.new result }
+pub fn make_bans<'r, 'a: 'r>(
+    rules: RuleSection<'a>,
+    mask: u32,
+    bans: &'r mut [Span; MAX_RULES],
+) -> Bans<'r>
+    ensures made { BansMade (map (λ x. x.body) (filter (takes_constraint mask) (map rule_of (records (drop rules.entry.first rules.entry.book.now))))) rules.entry.book.now result.spans.now }
+    ensures book_is { result.book ≡ rules.entry.book }
 {
-    gather(book, first, mask, bans)
+    Bans {
+        book: rules.book,
+        spans: gather(rules, mask, bans),
+    }
 }
 
-// Writes where the bodies of the constraints stand that count at a layer, of that layer and of those below it that are not switched off, and says how
-// many there are.
-// Kept: a count beside the caller's array (no heap), as in `rule_table`.
-pub fn ban_table(
-    book: &[u8],
-    first: usize,
-    layer: usize,
-    off: u32,
-    lower: [u32; MAX_LAYERS],
-    bans: &mut [Span],
-) -> usize
-    requires prepared { Prepared book.now first lower }
-    requires layer_lt_max_layers { layer < max_layers }
-    requires bans_len { length bans.old ≡ max_rules }
-    ensures { BansMade (program_of book.now layer off).constraints book.now bans.new result }
+// Writes where the bodies of the constraints stand that count at a layer, of that layer and of those below it that are not switched off.
+pub fn ban_table<'r, 'a: 'r>(source: &Source<'a>, bans: &'r mut [Span; MAX_RULES]) -> Bans<'r>
+    ensures made { BansMade (program_of source.now.book.now source.now.layer source.now.off).constraints source.now.book.now result.spans.now }
+    ensures book_is { result.book ≡ source.now.book }
 {
-    let mask = relevant_layers(lower, layer, off);
-    make_bans(book, first, mask, bans)
+    make_bans(source.rules(), source.relevant(), bans)
 }

@@ -4,16 +4,14 @@ use mathlib.Core.Path.{◌≡◌, refl, sym, ap, subst, ◌∙◌}
 use mathlib.Core.Logic.{⊎_elim}
 use mathlib.Core.Bool.{Bool, not, ◌&&◌, ◌||◌}
 use mathlib.Core.List.Memᴰ
-use mathlib.Core.List.{List, ◌++◌, map}
+use mathlib.Core.List.{List, map}
 use Prim.Native.Nat.{ℕ, ◌*◌, ◌-◌, ◌%◌, ◌^◌, ◌<◌}
 use native.Mathlib.Decide.{ℕ_discrete}
 use native.Mathlib.Omega.{arith}
 use borrow.Author.Tests.{eq-eqb, ne_eqb}
 use lib.Bits.{bit_or, bit_and, bit_xor}
 use lib.Dec.{T, eqb, eqb_refl, eqb→eq}
-use lib.ListN.{length, get_or, take, drop, length-take}
-use lib.Seq.{take-append_seam}
-use borrow.Rule.Slice.PartMut.{put_mid, same_len_mid}
+use lib.ListN.{get_or, drop}
 use Rattle.base.specs.Bounds.{max_layers}
 use Rattle.base.specs.Lists.{filter}
 use Rattle.layers.specs.Layers.{below}
@@ -146,22 +144,12 @@ module _ (book : List ℕ) (first : ℕ) (lower : List ℕ) (w : Prepared book f
       exact = row-exact;
     }
 
-module _ (book : List ℕ) (first mask : ℕ) (rows : List Row) (k : ℕ) (w : RowsMade book first mask rows k) where
-  -- the first k rows come back with their masks, in front of the rest
-  module _ (part : List Row) (r : SameRules (take k rows) part) where
-    part-size : length part ≡ k
-    part-size = r.size ∙ simp length-take (omega (arith, w.size, w.room))
-
-    in_front : take k (put_mid 0 k rows part) ≡ part
-    in_front = ap (λ (n : ℕ). take n (part ++ drop k rows)) (sym part-size) ∙ take-append_seam part (drop k rows)
-
-    pub table-made : (lower : List ℕ) (p : Prepared book first lower) (layer off : ℕ) (h : layer < max_layers) → RelevantLayers lower layer off mask
-        → Overridden book (take k rows) lower part (row_count (take k rows))
-        → TableMade (program_of book layer off) book (put_mid 0 k rows part) k
-    table-made lower p layer off h em o = record {
-      room = w.room;
-      size = same_len_mid 0 k rows part r.size ∙ w.size;
-      table =
-          subst (Tabulates (program_of book layer off) book) (sym in_front)
-          (tabulates book first lower p layer off h mask em part (fits-same r w.fits) (rows_same r book ∙ w.rules) (overridden-same r o));
-    }
+module _ (book : List ℕ) (first mask : ℕ) (rows : List Row) (w : RowsMade book first mask rows) where
+  -- the rows come back with their masks
+  pub table-made : (part : List Row) (r : SameRules rows part) (lower : List ℕ) (p : Prepared book first lower) (layer off : ℕ) (h : layer < max_layers) → RelevantLayers lower layer off mask
+      → Overridden book rows lower part (row_count rows)
+      → TableMade (program_of book layer off) book part
+  table-made part r lower p layer off h em o = record {
+    room = omega (arith, w.room, r.size);
+    table = tabulates book first lower p layer off h mask em part (fits-same r w.fits) (rows_same r book ∙ w.rules) (overridden-same r o);
+  }

@@ -5,7 +5,6 @@ use mathlib.Core.Bool.{Bool, ◌&&◌}
 use mathlib.Core.List.{List, []}
 use Prim.Native.Nat.{ℕ, ◌<◌}
 use lib.Dec.{T, eqb, eqb_refl, eqb→eq}
-use lib.ListN.{take}
 use Rattle.base.specs.Lists.{any, up_to}
 use Rattle.base.proofs.Members.{◌∈◌, and_left, and_right, and_both, any_at, any_of, same_test}
 use Rattle.base.proofs.UpTo.{up_to_lt, up_to_has}
@@ -92,12 +91,12 @@ module _ {P : Program} {book : List ℕ} {rows : List Row} (w : Tabulates P book
     exact = λ j h i b. let x = w.exact j h i b in (x.0, x.1, x.2, overrides_into j h x.0 x.1 x.3);
   }
 
--- the table as the code lends it, with n for the facts of its program
-module _ {P : Program} {book : List ℕ} {rows : List Row} {count : ℕ} (made : TableMade P book rows count) {n : ℕ} (e : n ≡ P.atoms) where
-  pub lent_alike : (bodies : List (List Literal)) → bodies ≡ P.constraints → Alike P (constrained (tabled book (take count rows) n) bodies)
-  lent_alike bodies eb = subst (λ (k : ℕ). Alike P (constrained (tabled book (take count rows) k) bodies)) (sym e) (tabled-alike made.table bodies eb)
+-- the table as the code makes it, with n for the facts of its program
+module _ {P : Program} {book : List ℕ} {rows : List Row} (made : TableMade P book rows) {n : ℕ} (e : n ≡ P.atoms) where
+  pub lent_alike : (bodies : List (List Literal)) → bodies ≡ P.constraints → Alike P (constrained (tabled book rows n) bodies)
+  lent_alike bodies eb = subst (λ (k : ℕ). Alike P (constrained (tabled book rows k) bodies)) (sym e) (tabled-alike made.table bodies eb)
 
-  pub lent_tabled : Tabulates (tabled book (take count rows) n) book (take count rows)
+  pub lent_tabled : Tabulates (tabled book rows n) book rows
   lent_tabled =
-      subst (λ (k : ℕ). Tabulates (tabled book (take count rows) k) book (take count rows)) (sym e)
+      subst (λ (k : ℕ). Tabulates (tabled book rows k) book rows) (sym e)
       (tabled-table made.table)

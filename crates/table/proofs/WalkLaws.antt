@@ -183,10 +183,9 @@ module _ {E : Type 0} (takes : Rule → Bool) (stands : List ℕ → E → Rule 
             (stand_more (stands book) (take k out) w.done e (rule_at book at) w.entries es);
       }
 
-    pub walk_end : length book ≤ at → Gathered takes stands book first mask out k
+    pub walk_end : length book ≤ at → Gathered takes stands book first mask (take k out)
     walk_end h = record {
-      room = omega (arith, w.room);
-      size = w.size;
+      room = omega (arith, w.room, length-take k out);
       entries =
           subst (Stand (stands book) (take k out))
           (sym (append-nil w.done) ∙ ap (λ (x : List Rule). w.done ++ x) (sym (rules_end counts book at h)) ∙ w.made) w.entries;
@@ -210,15 +209,14 @@ module _ {E V : Type 0} (value : E → V) (of_rule : Rule → V) (fits : E → T
   stand_fits (e ∷ es) (r ∷ rs) s d (suc j) h = stand_fits es rs s.1 d j (omega arith)
 
 -- ---- rows
-pub rows_made : {book : List ℕ} {first mask : ℕ} {rows : List Row} {k : ℕ} → Gathered (λ r. not (is_constraint r)) RowOf book first mask rows k → RowsMade book first mask rows k
+pub rows_made : {book : List ℕ} {first mask : ℕ} {rows : List Row} → Gathered (λ r. not (is_constraint r)) RowOf book first mask rows → RowsMade book first mask rows
 unfolding rows_of takes_rule
-rows_made {book} {first} {mask} {rows} {k} w =
-    let fit = stand_fits (row_rule book) (λ r. r) (RowFits book) (take k rows) _ w.entries NO_ROW in
+rows_made {book} {first} {mask} {rows} w =
+    let fit = stand_fits (row_rule book) (λ r. r) (RowFits book) rows _ w.entries NO_ROW in
     record {
       room = w.room;
-      size = w.size;
       fits = record { bounded = record { name = λ j b. (fit j b).0; layer_low = λ j b. (fit j b).1 }; part = λ j b. (fit j b).2 };
-      rules = stand_values (row_rule book) (λ r. r) (RowFits book) (take k rows) _ w.entries ∙ map-id (filter (takes_rule mask) (rules_from book first));
+      rules = stand_values (row_rule book) (λ r. r) (RowFits book) rows _ w.entries ∙ map-id (filter (takes_rule mask) (rules_from book first));
     }
 
 -- the row of a record, whose head has a name

@@ -33,11 +33,10 @@ Stand stands [] (r ∷ rs) = ⊥
 Stand stands (e ∷ es) [] = ⊥
 Stand stands (e ∷ es) (r ∷ rs) = stands e r × Stand stands es rs
 
--- the first `count` entries stand for the rules that pass the mask and are taken, in order
-pub record Gathered {E : Type 0} (takes : Rule → Bool) (stands : List ℕ → E → Rule → Type 0) (book : List ℕ) (first mask : ℕ) (out : List E) (count : ℕ) : Type 0 where
-  pub room : count ≤ max_rules
-  pub size : length out ≡ max_rules
-  pub entries : Stand (stands book) (take count out) (filter (λ r. in_mask mask r && takes r) (map rule_of (records (drop first book))))
+-- the entries stand for the rules that pass the mask and are taken, in order
+pub record Gathered {E : Type 0} (takes : Rule → Bool) (stands : List ℕ → E → Rule → Type 0) (book : List ℕ) (first mask : ℕ) (out : List E) : Type 0 where
+  pub room : length out ≤ max_rules
+  pub entries : Stand (stands book) out (filter (λ r. in_mask mask r && takes r) (map rule_of (records (drop first book))))
 
 -- a row of the rule
 abbrev pub RowOf : List ℕ → Row → Rule → Type 0

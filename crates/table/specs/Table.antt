@@ -1,5 +1,5 @@
 -- What the table of a program says, and what it is made from. Assumes nothing.
-use Rattle.std.specs.Prelude.{◌≡◌, Bool, true, false, not, ◌&&◌, ◌||◌, ℕ, ◌<◌, ◌≤◌, T, eqb, length, get_or, take, drop}
+use Rattle.std.specs.Prelude.{◌≡◌, Bool, true, false, not, ◌&&◌, ◌||◌, ℕ, ◌<◌, ◌≤◌, T, eqb, length, get_or, drop}
 use mathlib.Core.List.{List, map, Memᴰ}
 use Rattle.base.specs.Bounds.{max_atoms, max_layers, max_rules}
 use Rattle.base.specs.Lists.{filter}
@@ -45,12 +45,11 @@ layer_counts lower layer off i = (eqb i layer || eqb (bit_of (get_or lower layer
 abbrev pub RelevantLayers : List ℕ → ℕ → ℕ → ℕ → Type 0
 RelevantLayers lower layer off mask = (i : ℕ) → eqb (bit_of mask i) 1 ≡ layer_counts lower layer off i
 
--- the first `count` rows are those of the rules that pass the mask, in order
-pub record RowsMade (book : List ℕ) (first mask : ℕ) (rows : List Row) (count : ℕ) : Type 0 where
-  pub room : count ≤ max_rules
-  pub size : length rows ≡ max_rules
-  pub fits : RowsFit book (take count rows)
-  pub rules : rows_of book (take count rows) ≡ filter (takes_rule mask) (map rule_of (records (drop first book)))
+-- the rows are those of the rules that pass the mask, in order
+pub record RowsMade (book : List ℕ) (first mask : ℕ) (rows : List Row) : Type 0 where
+  pub room : length rows ≤ max_rules
+  pub fits : RowsFit book rows
+  pub rules : rows_of book rows ≡ filter (takes_rule mask) (map rule_of (records (drop first book)))
 
 -- The table of a program: its rules as rows, each with the mask of the layers in which it overrides a rule.
 pub record Tabulates (P : Program) (book : List ℕ) (rows : List Row) : Type 0 where
@@ -62,8 +61,7 @@ pub record Tabulates (P : Program) (book : List ℕ) (rows : List Row) : Type 0 
   pub exact : (j : ℕ) → j < row_count rows → (i : ℕ) → bit_of (overridden rows j) i ≡ 1
       → (r : Rule) × Memᴰ r (rows_of book rows) × (r.layer ≡ i) × T (overrides P (row_at book rows j) r)
 
--- the first `count` rows are the table
-pub record TableMade (P : Program) (book : List ℕ) (rows : List Row) (count : ℕ) : Type 0 where
-  pub room : count ≤ max_rules
-  pub size : length rows ≡ max_rules
-  pub table : Tabulates P book (take count rows)
+-- the table, in the rows that there is room for
+pub record TableMade (P : Program) (book : List ℕ) (rows : List Row) : Type 0 where
+  pub room : length rows ≤ max_rules
+  pub table : Tabulates P book rows

@@ -2,7 +2,8 @@
 // overrides rules. Made once a call; bodies stay where they are in the book.
 #![tactic(auto)]
 
-ghost use Rattle.std.specs.Prelude.{List, ℕ, Bool, ◌≡◌, ◌*◌, ◌<◌, ◌≤◌, length, drop, not, ◌&&◌, eqb};
+ghost use Rattle.std.specs.Prelude.{List, ℕ, Bool, ◌≡◌, ◌+◌, ◌*◌, ◌<◌, ◌≤◌, length, get_or, drop, not, ◌&&◌, eqb};
+ghost use Rattle.std.proofs.Props.{props};
 ghost use Rattle.base.specs.Bounds.{max_atoms, max_names, max_layers, max_rules};
 ghost use Rattle.base.specs.Lists.{all, any};
 ghost use Rattle.layers.specs.Masks.{bit_of};
@@ -14,7 +15,7 @@ ghost use Rattle.table.specs.Rows.{in_mask, SpanFits, span_bytes, nth, row_rule,
 ghost use Rattle.table.specs.Overriding.{HeadLayers, unless_leaning, Overridden};
 ghost use Rattle.table.specs.Table.{program_of, RuleRecords, Prepared, RelevantLayers, RowsMade, TableMade};
 
-use base::{MAX_ATOMS, MAX_LAYERS, MAX_NAMES};
+use base::{MAX_ATOMS, MAX_LAYERS, MAX_NAMES, MAX_RULES};
 use format::{Literal, Literals};
 
 // Where a body stands in the book.
@@ -219,6 +220,51 @@ fn literal_named(h: usize) -> Literal
     }
 }
 
+// A record of the rules' section, by its offset in the book.
+#[derive(Clone, Copy)]
+pub struct RuleRecord<'a> {
+    pub book: &'a [u8],
+    pub at: usize,
+    pub ghost whole: { RuleAt book.now at },
+    pub ghost short: { length book.now < 65536 },
+}
+
+impl<'a> RuleRecord<'a> {
+    // The layer of its rule.
+    #[tactic(auto, unfolding(crate::specs::Records::rule_at))]
+    pub fn layer(self) -> usize
+        ensures { (result ≡ (rule_at self.entry.book.now self.entry.at).layer) × (result < max_layers) }
+    {
+        self.book[self.at + 1] as usize
+    }
+
+    // The head of its rule.
+    #[tactic(auto, unfolding(crate::specs::Records::rule_at))]
+    pub fn head(self) -> Literal
+        ensures { result ≡ (rule_at self.entry.book.now self.entry.at).head }
+    {
+        Literal::from_bytes(self.book[self.at + 2], self.book[self.at + 3])
+    }
+
+    // Where the body of its rule stands.
+    #[tactic(auto, unfolding(crate::specs::Records::rule_at))]
+    pub fn body(self) -> Span
+        ensures { BodyOf self.entry.book.now result (rule_at self.entry.book.now self.entry.at) }
+    {
+        Span {
+            start: (self.at + 4) as u32,
+            size: self.book[self.at] as u16 - 3,
+        }
+    }
+
+    // The offset behind it.
+    fn end(self) -> usize
+        ensures { result ≡ self.entry.at + 1 + get_or self.entry.book.now self.entry.at 0 }
+    {
+        self.at + 1 + self.book[self.at] as usize
+    }
+}
+
 // What one walk over the rules' records gathers: the row of each rule, or where the body of each constraint stands.
 pub trait FromRecord: Copy {
     // which rules give something
@@ -227,23 +273,8 @@ pub trait FromRecord: Copy {
     // what is gathered stands for a rule of the book
     ghost stands: { List ℕ → Self → Rule → Type 0 };
 
-    fn from_record(book: &[u8], at: usize) -> Option<Self>
-        requires whole { RuleAt book.now at }
-        requires book_len_bound { length book.now < 65536 }
-        ensures { Gives (takes (rule_at book.now at)) (λ e. stands book.now e (rule_at book.now at)) result };
-}
-
-// Where the body of the record at an offset stands.
-#[tactic(auto, unfolding(crate::specs::Records::rule_at))]
-fn body_span(book: &[u8], at: usize) -> Span
-    requires whole { RuleAt book.now at }
-    requires book_len_bound { length book.now < 65536 }
-    ensures { BodyOf book.now result (rule_at book.now at) }
-{
-    Span {
-        start: (at + 4) as u32,
-        size: book[at] as u16 - 3,
-    }
+    fn from_record(from: RuleRecord) -> Option<Self>
+        ensures { Gives (takes (rule_at from.entry.book.now from.entry.at)) (λ e. stands from.entry.book.now e (rule_at from.entry.book.now from.entry.at)) result };
 }
 
 impl FromRecord for Row {
@@ -252,15 +283,16 @@ impl FromRecord for Row {
     ghost stands = { RowOf };
 
     // A constraint has no row: its head has no name.
-    fn from_record(book: &[u8], at: usize) -> Option<Row> {
-        let head = Literal::from_bytes(book[at + 2], book[at + 3]);
+    #[tactic(auto, unfolding(format::specs::Book::is_constraint, crate::specs::Records::rule_at))]
+    fn from_record(from: RuleRecord) -> Option<Row> {
+        let head = from.head();
         if head.is_falsity() {
             return None;
         }
         Some(Row {
-            body: body_span(book, at),
+            body: from.body(),
             head: name_of(head) as u16,
-            layer: book[at + 1] as u16,
+            layer: from.layer() as u16,
             overridden: 0,
         })
     }
@@ -271,57 +303,67 @@ impl FromRecord for Span {
 
     ghost stands = { BodyOf };
 
-    fn from_record(book: &[u8], at: usize) -> Option<Span> {
-        if !Literal::from_bytes(book[at + 2], book[at + 3]).is_falsity() {
+    #[tactic(auto, unfolding(format::specs::Book::is_constraint))]
+    fn from_record(from: RuleRecord) -> Option<Span> {
+        if !from.head().is_falsity() {
             return None;
         }
-        Some(body_span(book, at))
+        Some(from.body())
     }
 }
 
-// What the record at an offset gives, if the mask has its layer.
-fn entry_at<E: FromRecord>(book: &[u8], at: usize, mask: u32) -> Option<E>
-    requires whole { RuleAt book.now at }
-    requires book_len_bound { length book.now < 65536 }
-    ensures { Gives (in_mask mask (rule_at book.now at) && E.takes (rule_at book.now at)) (λ e. E.stands book.now e (rule_at book.now at)) result }
+// What a record gives, if the mask has its layer.
+#[tactic(auto, unfolding(crate::specs::Rows::in_mask))]
+fn entry_of<E: FromRecord>(from: RuleRecord, mask: u32) -> Option<E>
+    ensures { Gives (in_mask mask (rule_at from.entry.book.now from.entry.at) && E.takes (rule_at from.entry.book.now from.entry.at)) (λ e. E.stands from.entry.book.now e (rule_at from.entry.book.now from.entry.at)) result }
 {
-    if !has_layer(mask, book[at + 1] as usize) {
+    if !has_layer(mask, from.layer()) {
         return None;
     }
-    E::from_record(book, at)
+    E::from_record(from)
 }
 
-// Writes what the rules give whose layer is in the mask, in their order, and says how many there are: one walk over the records.
+// The rules' section of a book: its records are the bytes from `first` on.
+#[derive(Clone, Copy)]
+pub struct RuleSection<'a> {
+    pub book: &'a [u8],
+    pub first: usize,
+    pub ghost records: { RuleRecords (drop first book.now) } by { Prim.hlevel props },
+    pub ghost starts: { first ≤ length book.now },
+    pub ghost short: { length book.now < 65536 },
+}
+
+// Writes what the rules give whose layer is in the mask, in their order, and lends the part that is filled: one walk over the records.
 // Kept: by offsets and not by `Records`, since what is written is where a body stands in the book.
-pub fn gather<E: FromRecord>(book: &[u8], first: usize, mask: u32, out: &mut [E]) -> usize
-    requires rule_records { RuleRecords (drop first book.now) }
-    requires first_in_bounds { first ≤ length book.now }
-    requires book_len_bound { length book.now < 65536 }
-    requires out_len { length out.old ≡ max_rules }
-    ensures { Gathered E.takes E.stands book.now first mask out.new result }
+pub fn gather<'r, E: FromRecord>(
+    rules: RuleSection,
+    mask: u32,
+    out: &'r mut [E; MAX_RULES],
+) -> &'r mut [E]
+    ensures { Gathered E.takes E.stands rules.entry.book.now rules.entry.first mask result.now }
 {
     let mut count = 0;
-    let mut at = first;
-    while at < book.len() {
-        if let Some(entry) = entry_at::<E>(book, at, mask) {
+    let mut at = rules.first;
+    while at < rules.book.len() {
+        let record = RuleRecord {
+            book: rules.book,
+            at,
+        };
+        if let Some(entry) = entry_of::<E>(record, mask) {
             out[count] = entry;
             count += 1;
         }
-        at = at + 1 + book[at] as usize;
+        at = record.end();
     }
-    count
+    &mut out[..count]
 }
 
-// Writes the rows of the rules whose layer is in the mask, in their order, and says how many there are.
+// Writes the rows of the rules whose layer is in the mask, in their order, and lends the part that is filled.
 #[tactic(auto, using(crate::proofs::WalkLaws::rows_made))]
-pub fn make_rows(book: &[u8], first: usize, mask: u32, rows: &mut [Row]) -> usize
-    requires rule_records { RuleRecords (drop first book.now) }
-    requires first_in_bounds { first ≤ length book.now }
-    requires book_len_bound { length book.now < 65536 }
-    requires rows_len { length rows.old ≡ max_rules }
-    ensures { RowsMade book.now first mask rows.new result }
+pub fn make_rows<'r>(rules: RuleSection, mask: u32, rows: &'r mut [Row; MAX_RULES]) -> &'r mut [Row]
+    ensures { RowsMade rules.entry.book.now rules.entry.first mask result.now }
 {
-    gather(book, first, mask, rows)
+    gather(rules, mask, rows)
 }
 
 // Bit i at name h: a row has this head, in layer i.
@@ -388,24 +430,48 @@ pub fn relevant_layers(lower: [u32; MAX_LAYERS], layer: usize, off: u32) -> u32
     all ^ (all & off)
 }
 
-// Writes the table of the program at a layer, of the rules of that layer and of those below it that are not switched off, and says how
-// many there are.
-// Kept: a count beside the caller's array (no heap), which a call lends again, as `&rows[..count]`, for each pass.
-pub fn rule_table(
-    book: &[u8],
-    first: usize,
-    layer: usize,
-    off: u32,
-    lower: [u32; MAX_LAYERS],
-    rows: &mut [Row],
-) -> usize
-    requires prepared { Prepared book.now first lower }
-    requires layer_lt_max_layers { layer < max_layers }
-    requires rows_len { length rows.old ≡ max_rules }
-    ensures { TableMade (program_of book.now layer off) book.now rows.new result }
-{
-    let mask = relevant_layers(lower, layer, off);
-    let count = make_rows(book, first, mask, rows);
-    overridden_layers(book, &mut rows[..count], lower);
-    count
+// What the table of a driven layer is made from: where the rules' records start in the book, the layer, the set of layers that are
+// switched off, and each layer's mask of the layers below it.
+#[derive(Clone, Copy)]
+pub struct Source<'a> {
+    pub book: &'a [u8],
+    pub first: usize,
+    pub layer: usize,
+    pub off: u32,
+    pub lower: [u32; MAX_LAYERS],
+    pub ghost prepared: { Prepared book.now first lower } by { Prim.hlevel props },
+    pub ghost layer_low: { layer < max_layers },
+}
+
+impl<'a> Source<'a> {
+    pub fn rules(&self) -> RuleSection<'a>
+        ensures { (result.book ≡ self.now.book) × (result.first ≡ self.now.first) }
+    {
+        RuleSection {
+            book: self.book,
+            first: self.first,
+        }
+    }
+
+    // The mask of the layers whose rules count.
+    pub fn relevant(&self) -> u32
+        ensures { RelevantLayers self.now.lower self.now.layer self.now.off result }
+    {
+        relevant_layers(self.lower, self.layer, self.off)
+    }
+
+    // Writes the table of the program at the layer, of the rules of that layer and of those below it that are not switched off.
+    pub fn rule_table<'r>(&self, rows: &'r mut [Row; MAX_RULES]) -> Table<'r>
+    where
+        'a: 'r,
+        ensures made { TableMade (program_of self.now.book.now self.now.layer self.now.off) self.now.book.now result.rows.now }
+        ensures book_is { result.book ≡ self.now.book }
+    {
+        let rows = make_rows(self.rules(), self.relevant(), rows);
+        overridden_layers(self.book, rows, self.lower);
+        Table {
+            book: self.book,
+            rows,
+        }
+    }
 }

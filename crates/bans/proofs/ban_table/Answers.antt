@@ -3,6 +3,8 @@ use Rattle.table.proofs.TableLaws.{constraints-relevant}
 use Rattle.bans.proofs.BanLaws.{made_of}
 use Rattle.bans.proofs.ban_table.Goals as goal
 
-pub returns : goal.returns
-returns c =
-    made_of (constraints-relevant c.args.book.now c.args.first c.args.lower c.requires.prepared c.args.layer c.args.off c.requires.layer_lt_max_layers c.relevant_layers-mask.result c.relevant_layers-mask.ensures) c.make_bans.ensures
+pub returns-clause-made : goal.returns-clause-made
+returns-clause-made c =
+    let s = c.args.source.now in
+    made_of (constraints-relevant s.book.now s.first s.lower s.prepared s.layer s.off s.layer_low _ c.relevant.ensures)
+    (rw (c.rules.ensures.0, c.rules.ensures.1) at c.make_bans.ensures.made)

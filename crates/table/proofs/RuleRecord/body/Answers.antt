@@ -2,9 +2,9 @@
 use mathlib.Core.Path.{refl}
 use native.Mathlib.Omega.{arith}
 use Rattle.table.specs.Records.{rule_at}
-use Rattle.table.proofs.body_span.Goals as goal
+use Rattle.table.proofs.RuleRecord.body.Goals as goal
 
 pub returns : goal.returns
 unfolding rule_at
 returns c =
-    (refl, omega (arith, c.requires.whole.ends, c.requires.whole.long))
+    (refl, omega (arith, c.args.self.whole.ends, c.args.self.whole.long))
