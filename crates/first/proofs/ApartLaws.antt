@@ -7,12 +7,11 @@ use mathlib.Core.List.{List, [], ◌∷◌, ◌++◌}
 use Prim.Native.Nat.{ℕ, zero, suc, ◌+◌, ◌-◌, ◌^◌, ◌<◌, ◌≤◌}
 use native.Mathlib.Decide.{dec_lt}
 use native.Mathlib.Omega.{arith}
-use borrow.Author.Tests.{lt-ltb, le-ltb}
-use lib.Bits.{bit_or}
+use borrow.Author.Tests.{le-ltb}
 use lib.Dec.{T, ltb}
 use mir.Val.{bool_byte}
 use lib.ListN.{length, get_or, drop}
-use lib.Seq.{drop-cons, get_or-take}
+use lib.Seq.{drop-cons}
 use native.Mathlib.Numerals.{add-one}
 use Rattle.base.specs.Lists.{cons_if, filter, up_to}
 use Rattle.base.proofs.Members.{◌∈◌}
@@ -26,11 +25,12 @@ use Rattle.bans.specs.Bans.{barred}
 use Rattle.setting.specs.Setting.{setting_of}
 use Rattle.plan.specs.Plan.{plan_bans}
 use Rattle.leaf.specs.Searchable.{Searchable}
-use Rattle.search.specs.declared.Space.{Space}
+use Rattle.search.specs.declared.space.Space.{Space}
 use Rattle.search.specs.declared.Turn.{Turn}
-use Rattle.search.specs.Decided.{undecided, Turned}
-use Rattle.search.specs.Space.{space_atoms, Ready, models_left}
+use Rattle.search.specs.Decided.{undecided, decided_turn, Turned}
+use Rattle.search.specs.Space.{space_atoms, models_left}
 use Rattle.search.proofs.AllowedLaws.{barred-listed, barred-size}
+use Rattle.search.proofs.ReadyLaws.{space_searchable}
 use Rattle.search.proofs.TurnLaws.{turned_first, turned_second, halves_are}
 use Rattle.first.specs.Nearest.{differs, distance}
 use Rattle.first.specs.InHand.{far, apart_at, Apart}
@@ -148,9 +148,9 @@ module _ {book : List ℕ} {rows : List Row} {atoms : List ℕ} {n : ℕ} (w : S
   }
 
 -- the first of the facts that are left, the i-th of all, is decided each way
-module _ {s : Space} (ready : Ready s) {turn : Turn} (t : Turned (space_atoms s) turn) (some : turn.left ≡ 0 → ⊥) (i : ℕ) (ei : i ≡ length (space_atoms s) - turn.left) (wanted : Interpretation) {apart : ℕ}
+module _ (s : Space) {turn : Turn} (t : Turned (space_atoms s) turn) (some : turn.left ≡ 0 → ⊥) (i : ℕ) (ei : i ≡ length (space_atoms s) - turn.left) (wanted : Interpretation) {apart : ℕ}
     (away : Apart wanted (undecided (space_atoms s) turn.left) (models_left s turn) turn.left apart)
-    {first second : Turn} (e₁ : first ≡ record turn { left = turn.left - 1; denied = bit_or turn.denied (2 ^ i) }) (e₂ : second ≡ record turn { left = turn.left - 1; standing = bit_or turn.standing (2 ^ i) }) where
+    {first second : Turn} (e₁ : first ≡ decided_turn turn i false) (e₂ : second ≡ decided_turn turn i true) where
   abbrev atoms : List ℕ
   atoms = space_atoms s
 
@@ -192,13 +192,13 @@ module _ {s : Space} (ready : Ready s) {turn : Turn} (t : Turned (space_atoms s)
     pub apart_first : r ≡ bit_value (ltb f (length wanted) && not (beq (atom_holds wanted f) false)) 1 → Apart wanted (undecided atoms first.left) (models_left s first) first.left (apart + r)
     apart_first step =
         half_apart f is false r step first (ap (λ (h : Turn). h.left) e₁)
-        (λ m k. subst (λ (l : List Interpretation). m ∈ l) (sym (halves_are ready t some i ei e₁ e₂)) (Memᴰ.append_left _ k))
-        (λ m k. not_held (atom_holds m (get_or atoms i 0)) (group_lacks ready.table (plan_bans s.plan.now) (setting_of atoms first.standing) (turned_first ready t some i ei e₁ e₂).decided m k i
+        (λ m k. subst (λ (l : List Interpretation). m ∈ l) (sym (halves_are s t some i ei e₁ e₂)) (Memᴰ.append_left _ k))
+        (λ m k. not_held (atom_holds m (get_or atoms i 0)) (group_lacks (space_searchable s) (plan_bans s.plan.now) (setting_of atoms first.standing) (turned_first s t some i ei e₁ e₂).decided m k i
         (subst (λ (x : ℕ). bit_of x i ≡ 1) (sym (ap (λ (h : Turn). h.denied) e₁)) (or_right turn.denied (2 ^ i) i (bit-same i)))))
 
     pub apart_second : r ≡ bit_value (ltb f (length wanted) && not (beq (atom_holds wanted f) true)) 1 → Apart wanted (undecided atoms second.left) (models_left s second) second.left (apart + r)
     apart_second step =
         half_apart f is true r step second (ap (λ (h : Turn). h.left) e₂)
-        (λ m k. subst (λ (l : List Interpretation). m ∈ l) (sym (halves_are ready t some i ei e₁ e₂)) (Memᴰ.append_right (models_left s first) k))
-        (λ m k. passed (atom_holds m (get_or atoms i 0)) (group_has ready.table (plan_bans s.plan.now) (setting_of atoms second.standing) (turned_second ready t some i ei e₁ e₂).decided m k i
+        (λ m k. subst (λ (l : List Interpretation). m ∈ l) (sym (halves_are s t some i ei e₁ e₂)) (Memᴰ.append_right (models_left s first) k))
+        (λ m k. passed (atom_holds m (get_or atoms i 0)) (group_has (space_searchable s) (plan_bans s.plan.now) (setting_of atoms second.standing) (turned_second s t some i ei e₁ e₂).decided m k i
         (subst (λ (x : ℕ). bit_of x i ≡ 1) (sym (ap (λ (h : Turn). h.standing) e₂)) (or_right turn.standing (2 ^ i) i (bit-same i)))))

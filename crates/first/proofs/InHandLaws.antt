@@ -1,21 +1,17 @@
 -- What is in hand from model to model: one that comes later leaves it, one that does not takes its place, and two runs of models are one.
 -- Assumes nothing.
 use mathlib.Core.Path.{◌≡◌, refl, sym, ap, ap₂, subst, ◌∙◌}
-use mathlib.Core.Logic.{◌⊎◌, inl, inr}
-use mathlib.Core.Bool.{Bool, true, false, ◌&&◌, false≢true}
-use mathlib.Core.List.Memᴰ
-use mathlib.Core.List.{List, [], ◌∷◌, ◌++◌, append-nil, Memᴰ}
-use Prim.Native.Nat.{ℕ, ◌+◌, ◌-◌, ◌≤◌}
+use mathlib.Core.Bool.{Bool, true, false}
+use mathlib.Core.List.{List, [], ◌∷◌, ◌++◌}
+use Prim.Native.Nat.{ℕ, ◌≤◌}
 use native.Mathlib.Omega.{arith}
-use lib.ListN.{length, take, drop, drop_of_length-le}
+use lib.ListN.{length, take}
 use lib.Seq.{take_all}
-use Rattle.base.specs.Lists.{cons_if}
 use Rattle.insertion.specs.Sorted.{insert_past, insert_by, insert_all}
 use Rattle.insertion.specs.Runs.{bytes_before}
 use Rattle.insertion.proofs.SortedLaws.{insert_all-append}
 use Rattle.models.specs.StableModels.{Interpretation}
 use Rattle.models.specs.Listing.{record_size, record_of}
-use Rattle.models.proofs.RecordLaws.{record_length}
 use Rattle.std.specs.Prelude.{Option, Some, None}
 use Rattle.first.specs.declared.Held.{Held}
 use Rattle.first.specs.InHand.{far, closer, first_among, record_held, Outlined, InHand, Takes}

@@ -12,7 +12,6 @@ use lib.Bits.{bit_or}
 use lib.Dec.{T}
 use lib.ListN.{length, get_or, get_or-eq_default}
 use Rattle.base.specs.Bounds.{max_atoms, max_branching}
-use Rattle.base.specs.Lists.{cons_if}
 use Rattle.base.proofs.Members.{◌∈◌}
 use Rattle.layers.specs.Masks.{bit_of}
 use Rattle.layers.proofs.BitLaws.{no_bit, or_cases, or_left, or_right}

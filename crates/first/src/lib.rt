@@ -9,14 +9,14 @@ ghost use Rattle.models.specs.StableModels.{atom_holds};
 ghost use Rattle.models.specs.Listing.{bit_value, record_size, record_of};
 ghost use Rattle.insertion.specs.Runs.{bytes_before};
 ghost use Rattle.filling.specs.Marks.{Room};
-ghost use Rattle.search.specs.Space.{space_atoms, space_program, Ready, models_at, models_left};
+ghost use Rattle.search.specs.Space.{space_atoms, space_program, models_at, models_left};
 ghost use Rattle.search.specs.Decided.{undecided, Turned};
 ghost use Rattle.first.specs.InHand.{far, Sure, SureOf, StandingHas, Outlined, Takes, Apart, Later, Behind};
 
 use filling::{Hints, Rules, clear_marks};
 use nogoods::rejectable_masks;
 use records::{record_byte, record_of, record_size};
-use search::{Scratch, Space, Turn};
+use search::{Scratch, Space, Turn, promising};
 use table::Table;
 
 // What is kept of the state in hand, whose record stands in the lent part: its distance to the wanted state; of the branching facts, bit i
@@ -203,7 +203,6 @@ fn visit_first(
     part: &mut [u8],
     held: Option<Held>,
 ) -> Option<Held>
-    requires ready { Ready space.now }
     requires sure_len { (length wish.now.sure.now ≡ space.now.plan.now.n) × (length wish.now.wanted.now ≤ space.now.plan.now.n) }
     requires part_len { length part.old ≡ record_size space.now.plan.now.n }
     ensures { Takes (space_atoms space.now) wish.now.sure.now wish.now.wanted.now space.now.plan.now.n (models_at space.now standing) held part.old result part.new }
@@ -238,7 +237,6 @@ pub fn search_first(
     part: &mut [u8],
     held: Option<Held>,
 ) -> Option<Held>
-    requires ready { Ready space.now }
     requires turned { Turned (space_atoms space.now) turn }
     requires sure { Sure (space_program space.now) wish.now.sure.now }
     requires wanted_len_bound { length wish.now.wanted.now ≤ space.now.plan.now.n }
@@ -246,7 +244,7 @@ pub fn search_first(
     requires part_len { length part.old ≡ record_size space.now.plan.now.n }
     ensures { Takes (space_atoms space.now) wish.now.sure.now wish.now.wanted.now space.now.plan.now.n (models_left space.now turn) held part.old result part.new }
 {
-    if left_out(held, turn.standing, apart) || !space.promising(turn) {
+    if left_out(held, turn.standing, apart) || !promising(space.plan, turn) {
         return held;
     }
     if turn.left == 0 {
@@ -256,7 +254,23 @@ pub fn search_first(
     let i = atoms.len() - turn.left;
     let f = atoms[i] as usize;
     let denied = apart + step_apart(wish.wanted, f, false);
-    let half = search_first(space, wish, turn.without(i), denied, scratch, part, held);
+    let half = search_first(
+        space,
+        wish,
+        turn.decided(i, false),
+        denied,
+        scratch,
+        part,
+        held,
+    );
     let stands = apart + step_apart(wish.wanted, f, true);
-    search_first(space, wish, turn.with(i), stands, scratch, part, half)
+    search_first(
+        space,
+        wish,
+        turn.decided(i, true),
+        stands,
+        scratch,
+        part,
+        half,
+    )
 }

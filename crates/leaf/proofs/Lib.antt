@@ -4,3 +4,4 @@ pub mod ContestedLaws
 pub mod UncontestedLaws
 pub mod ModelLaws
 pub mod GoingOnLaws
+pub mod SearchableLaws

@@ -5,3 +5,4 @@ pub mod StepLaws
 pub mod RejectableLaws
 pub mod QuickLaws
 pub mod TurnLaws
+pub mod ReadyLaws

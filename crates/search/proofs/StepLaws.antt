@@ -1,8 +1,9 @@
 -- One call of the search: a leaf, or two halves with one fact decided each way. Used by visit_setting and search. Assumes nothing.
 use mathlib.Core.Path.{◌≡◌, refl, sym, ap, ap₂, subst, ◌∙◌}
+use mathlib.Core.Logic.{∥∥₁_map}
 use mathlib.Core.Bool.{Bool, true, false, not}
 use mathlib.Core.List.{List, [], ◌∷◌, ◌++◌}
-use Prim.Native.Nat.{ℕ, zero, suc, ◌+◌, ◌-◌, ◌/◌, ◌^◌, ◌<◌, ◌≤◌}
+use Prim.Native.Nat.{ℕ, zero, suc, ◌+◌, ◌-◌, ◌^◌, ◌<◌, ◌≤◌}
 use native.Mathlib.Nat.{pow-suc}
 use native.Mathlib.Omega.{arith}
 use lib.Pow.{pow_pos}
@@ -15,14 +16,14 @@ use Rattle.models.specs.StableModels.{Interpretation, holds}
 use Rattle.search.specs.declared.Goal.{Goal}
 use Rattle.search.specs.declared.Visit.{Visit}
 use Rattle.leaf.specs.Found.{at_setting, found_by}
-use Rattle.search.specs.Visits.{stopped, kept_by, Kept, visited, Searched}
+use Rattle.search.specs.Visits.{Searched}
 use Rattle.table.specs.Rows.{row_count}
 use Rattle.table.specs.Tabled.{tabled}
 use Rattle.table.proofs.TabledLaws.{tabled-free}
 use Rattle.bans.specs.Bans.{bodies_of, barred}
 use Rattle.plan.specs.Plan.{plan_rejecting, plan_bans}
-use Rattle.search.specs.declared.Space.{Space}
-use Rattle.search.specs.Space.{space_atoms, Ready, models_at}
+use Rattle.search.specs.declared.space.Space.{Space}
+use Rattle.search.specs.Space.{space_atoms, models_at}
 use Rattle.tester.specs.Masks.{RejectedMasks}
 use Rattle.setting.specs.Setting.{setting_of}
 use Rattle.rejecting.specs.declared.RejectingMasks.{RejectingMasks}
@@ -30,8 +31,10 @@ use Rattle.rejecting.specs.Rejecting.{RejectsAt}
 use Rattle.rejecting.proofs.RejectedLaws.{rejected_at}
 use Rattle.leaf.specs.Searchable.{Searchable}
 use Rattle.leaf.proofs.FoundLaws.{setting_one}
+use Rattle.leaf.proofs.SearchableLaws.{masks_again}
+use Rattle.search.proofs.ReadyLaws.{space_searchable}
 use Rattle.search.proofs.AllowedLaws.{setting_allowed, setting_without, barred-formed, barred-listed}
-use Rattle.search.proofs.VisitLaws.{searched-none, searched_one}
+use Rattle.search.proofs.VisitLaws.{searched-none}
 use Rattle.table.specs.declared.Row.{Row}
 use Rattle.table.specs.declared.Span.{Span}
 
@@ -45,7 +48,7 @@ at_leaf leaf [] o e = refl
 at_leaf leaf (f ∷ fs) o e = absurd (omega arith)
 
 -- ---- a setting, with what the plan lends: its facts, its rows that reject and its constraints
-module _ {s : Space} (ready : Ready s) (standing : ℕ) {atoms : List ℕ} (ea : atoms ≡ space_atoms s) where
+module _ (s : Space) (standing : ℕ) {atoms : List ℕ} (ea : atoms ≡ space_atoms s) where
   abbrev book : List ℕ
   book = s.table.book.now
 
@@ -53,13 +56,14 @@ module _ {s : Space} (ready : Ready s) (standing : ℕ) {atoms : List ℕ} (ea :
   rows = s.table.rows.now
 
   pub leaf_table : (k : ℕ) → k ≡ s.plan.now.n → Searchable book rows atoms k
-  leaf_table k ek = subst (λ (l : List ℕ). Searchable book rows l k) (sym ea) (subst (Searchable book rows (space_atoms s)) (sym ek) ready.table)
+  leaf_table k ek = subst (λ (l : List ℕ). Searchable book rows l k) (sym ea) (subst (Searchable book rows (space_atoms s)) (sym ek) (space_searchable s))
 
   pub leaf_masks : {rejecting : List RejectingMasks} → rejecting ≡ plan_rejecting s.plan.now → {rejects : List ℕ} → RejectsAt rejecting standing rejects → RejectedMasks book rows (setting_of atoms standing) rejects (row_count rows)
   leaf_masks er {rejects} r =
       subst (λ (l : List ℕ). RejectedMasks book rows (setting_of l standing) rejects (row_count rows)) (sym ea)
-      (rejected_at s.plan.now.n ready.table.formed (omega (arith, ready.table.size, ready.table.few)) ready.table.table ready.table.listed standing ready.planned.rejecting_masks
-      (subst (λ (l : List RejectingMasks). RejectsAt l standing rejects) er r))
+      (masks_again (∥∥₁_map s.ready (λ ready.
+      rejected_at s.plan.now.n ready.table.formed (omega (arith, ready.table.size, ready.table.few)) ready.table.table ready.table.listed standing ready.planned.rejecting_masks
+      (subst (λ (l : List RejectingMasks). RejectsAt l standing rejects) er r))))
 
   -- the model of the rules alone over k facts is `m`, if there is one, and stands as `state`
   module _ (k : ℕ) (ek : k ≡ s.plan.now.n) (ok : Bool) (m : Interpretation) (is : at_setting (tabled book rows k) atoms (setting_of atoms standing) ≡ cons_if ok m []) where

@@ -1,10 +1,10 @@
 -- From turn to turn of the recursion: of the facts that are left, the first is decided each way. Used by search and search_first.
 -- Assumes nothing.
-use mathlib.Core.Path.{◌≡◌, refl, sym, ap, ap₂, subst, ◌∙◌}
-use mathlib.Core.Logic.{◌⊎◌, inl, inr}
+use mathlib.Core.Path.{◌≡◌, sym, ap, ap₂, subst, ◌∙◌}
+use mathlib.Core.Logic.{◌⊎◌, inl, inr, ∥∥₁_elim}
 use mathlib.Core.Bool.{Bool, true, false}
 use mathlib.Core.List.{List, [], ◌++◌}
-use Prim.Native.Nat.{ℕ, ◌+◌, ◌-◌, ◌/◌, ◌^◌, ◌<◌, ◌≤◌}
+use Prim.Native.Nat.{ℕ, ◌+◌, ◌-◌, ◌^◌, ◌<◌, ◌≤◌}
 use native.Mathlib.Omega.{arith}
 use lib.Bits.{bit_or}
 use lib.ListN.{length, get_or, set, take, drop, length-drop, length-append}
@@ -16,21 +16,22 @@ use Rattle.setting.specs.Setting.{setting_of}
 use Rattle.setting.specs.RuleMasks.{Headed}
 use Rattle.setting.proofs.BitMaskLaws.{single}
 use Rattle.nogoods.specs.Nogoods.{Violated}
-use Rattle.plan.specs.Plan.{plan_heads, plan_nogoods, plan_bans}
+use Rattle.plan.specs.Plan.{plan_heads, plan_nogoods, plan_bans, Planned}
+use Rattle.std.proofs.Props.{props}
+use Rattle.search.proofs.ReadyLaws.{space_searchable}
 use Rattle.leaf.specs.Found.{at_setting, found_by}
 use Rattle.leaf.proofs.FoundLaws.{found_le}
 use Rattle.search.specs.declared.Goal.{Goal}
-use Rattle.search.specs.declared.Space.{Space}
+use Rattle.search.specs.declared.space.Space.{Space}
 use Rattle.search.specs.declared.Turn.{Turn}
 use Rattle.search.specs.declared.Visit.{Visit}
-use Rattle.search.specs.Decided.{Decided, undecided, Turned}
-use Rattle.search.specs.Space.{space_atoms, space_program, Ready, models_at, models_left}
+use Rattle.search.specs.Decided.{Decided, undecided, decided_turn, Turned}
+use Rattle.search.specs.Space.{space_atoms, space_program, models_at, models_left}
 use Rattle.search.specs.Visits.{RoomFor, Kept, Searched, Combines}
 use Rattle.search.proofs.QuickLaws as quick
 use Rattle.search.proofs.KeptLaws.{room_less, room-same}
 use Rattle.search.proofs.VisitLaws.{searched-count, seen_few, kept-after, searched_combined}
 use Rattle.search.proofs.StepLaws as steps
-use Rattle.table.specs.declared.Row.{Row}
 
 pub undecided-length : (atoms : List ℕ) (left : ℕ) → left ≤ length atoms → length (undecided atoms left) ≡ left
 undecided-length atoms left h = length-drop (length atoms - left) atoms ∙ omega arith
@@ -42,7 +43,7 @@ turned_start atoms left e = record { few = omega arith; decided = subst (λ (l :
     whole : atoms ≡ undecided atoms left
     whole = ap (λ (k : ℕ). drop k atoms) {x = 0} {y = length atoms - left} (omega arith)
 
-module _ {s : Space} (ready : Ready s) {turn : Turn} (t : Turned (space_atoms s) turn) where
+module _ (s : Space) {turn : Turn} (t : Turned (space_atoms s) turn) where
   abbrev atoms : List ℕ
   atoms = space_atoms s
 
@@ -62,12 +63,13 @@ module _ {s : Space} (ready : Ready s) {turn : Turn} (t : Turned (space_atoms s)
   pub none_promised : (r : Bool)
       → (r ≡ false → (Headed (plan_heads s.plan.now) turn.standing turn.denied → ⊥) ⊎ Violated (plan_nogoods s.plan.now) turn.standing turn.denied)
       → r ≡ false → models_left s turn ≡ []
-  none_promised r told e = go (told e)
+  none_promised r told e = ∥∥₁_elim s.ready (Prim.hlevel props) (λ ready. go ready.planned (told e))
     where
-      go : (Headed (plan_heads s.plan.now) turn.standing turn.denied → ⊥) ⊎ Violated (plan_nogoods s.plan.now) turn.standing turn.denied
+      go : Planned s.table.book.now s.table.rows.now atoms s.plan.now
+          → (Headed (plan_heads s.plan.now) turn.standing turn.denied → ⊥) ⊎ Violated (plan_nogoods s.plan.now) turn.standing turn.denied
           → models_left s turn ≡ []
-      go (inl f) = quick.none_headed ready.table bans ready.planned.rule_masks O t.decided f
-      go (inr x) = quick.none_allowed ready.table bans ready.planned.rule_masks O t.decided ready.planned.nogood_masks x
+      go planned (inl f) = quick.none_headed (space_searchable s) bans planned.rule_masks O t.decided f
+      go planned (inr x) = quick.none_allowed (space_searchable s) bans planned.rule_masks O t.decided planned.nogood_masks x
 
   -- no fact is left: the setting itself
   pub leaf_is : turn.left ≡ 0 → models_left s turn ≡ models_at s turn.standing
@@ -84,7 +86,7 @@ module _ {s : Space} (ready : Ready s) {turn : Turn} (t : Turned (space_atoms s)
   module _ (some : turn.left ≡ 0 → ⊥) (i : ℕ) (ei : i ≡ length (space_atoms s) - turn.left) where
     -- which there is
     pub at_small : i < max_branching
-    at_small = omega (arith, ei, some, t.few, ready.table.atoms_few)
+    at_small = omega (arith, ei, some, t.few, (space_searchable s).atoms_few)
 
     size : length U ≡ turn.left
     size = undecided-length atoms turn.left t.few
@@ -93,7 +95,7 @@ module _ {s : Space} (ready : Ready s) {turn : Turn} (t : Turned (space_atoms s)
     not_none e = some (sym size ∙ e)
 
     low : get_or U 0 0 < max_atoms
-    low = quick.first_small ready.table U O turn.standing turn.denied t.decided not_none
+    low = quick.first_small (space_searchable s) U O turn.standing turn.denied t.decided not_none
 
     abbrev later : List ℕ
     later = take (length U - 1) (drop 1 U)
@@ -114,16 +116,16 @@ module _ {s : Space} (ready : Ready s) {turn : Turn} (t : Turned (space_atoms s)
     turn_with a b d = record { few = omega (arith, t.few); decided = subst (λ (l : List ℕ). Decided atoms l (setting_of atoms a) a b) (later_is (setting_of atoms a) a b d) d }
 
     first_decided : Decided atoms later O turn.standing (bit_or turn.denied (2 ^ i))
-    first_decided = subst (λ (x : ℕ). Decided atoms later O turn.standing (bit_or turn.denied x)) bit_is (quick.decided_first atoms (quick.listed-once ready.table) ready.table.atoms_few U turn.standing turn.denied t.decided not_none low)
+    first_decided = subst (λ (x : ℕ). Decided atoms later O turn.standing (bit_or turn.denied x)) bit_is (quick.decided_first atoms (quick.listed-once (space_searchable s)) (space_searchable s).atoms_few U turn.standing turn.denied t.decided not_none low)
 
     second_decided : Decided atoms later (setting_of atoms (bit_or turn.standing (2 ^ i))) (bit_or turn.standing (2 ^ i)) turn.denied
-    second_decided = subst (λ (x : ℕ). Decided atoms later (setting_of atoms (bit_or turn.standing x)) (bit_or turn.standing x) turn.denied) bit_is (quick.decided_second atoms (quick.listed-once ready.table) ready.table.atoms_few U turn.standing turn.denied t.decided not_none low)
+    second_decided = subst (λ (x : ℕ). Decided atoms later (setting_of atoms (bit_or turn.standing x)) (bit_or turn.standing x) turn.denied) bit_is (quick.decided_second atoms (quick.listed-once (space_searchable s)) (space_searchable s).atoms_few U turn.standing turn.denied t.decided not_none low)
 
     later_same : later ≡ undecided atoms (turn.left - 1)
     later_same = later_is O turn.standing (bit_or turn.denied (2 ^ i)) first_decided
 
     -- the turns of the two halves
-    module _ {first second : Turn} (e₁ : first ≡ record turn { left = turn.left - 1; denied = bit_or turn.denied (2 ^ i) }) (e₂ : second ≡ record turn { left = turn.left - 1; standing = bit_or turn.standing (2 ^ i) }) where
+    module _ {first second : Turn} (e₁ : first ≡ decided_turn turn i false) (e₂ : second ≡ decided_turn turn i true) where
       pub turned_first : Turned atoms first
       turned_first = subst (Turned atoms) (sym e₁) (turn_with turn.standing (bit_or turn.denied (2 ^ i)) first_decided)
 
@@ -133,8 +135,8 @@ module _ {s : Space} (ready : Ready s) {turn : Turn} (t : Turned (space_atoms s)
       -- the two halves are the whole
       pub halves_are : models_left s turn ≡ models_left s first ++ models_left s second
       halves_are =
-          steps.both_halves leaf U O not_none O (quick.first_half_lem atoms (quick.listed-once ready.table) ready.table.atoms_few U turn.standing turn.denied t.decided not_none low)
-          (setting_of atoms (bit_or turn.standing (2 ^ i))) (subst (λ (x : ℕ). set (set O (get_or U 0 0) false) (get_or U 0 0) true ≡ setting_of atoms (bit_or turn.standing x)) bit_is (quick.second_half_lem atoms (quick.listed-once ready.table) ready.table.atoms_few U turn.standing turn.denied t.decided not_none low))
+          steps.both_halves leaf U O not_none O (quick.first_half_lem atoms (quick.listed-once (space_searchable s)) (space_searchable s).atoms_few U turn.standing turn.denied t.decided not_none low)
+          (setting_of atoms (bit_or turn.standing (2 ^ i))) (subst (λ (x : ℕ). set (set O (get_or U 0 0) false) (get_or U 0 0) true ≡ setting_of atoms (bit_or turn.standing x)) bit_is (quick.second_half_lem atoms (quick.listed-once (space_searchable s)) (space_searchable s).atoms_few U turn.standing turn.denied t.decided not_none low))
           ∙ ap (λ (l : List ℕ). found_by leaf l O ++ found_by leaf l (setting_of atoms (bit_or turn.standing (2 ^ i)))) later_same
           ∙ sym (ap₂ (λ (x y : Turn). models_left s x ++ models_left s y) e₁ e₂)
 
@@ -143,7 +145,7 @@ module _ {s : Space} (ready : Ready s) {turn : Turn} (t : Turned (space_atoms s)
 
       half_few : (h : Turn) → h.left ≡ turn.left - 1 → length (models_left s h) ≤ 2 ^ (turn.left - 1)
       half_few h e =
-          let f : length (models_left s h) ≤ 2 ^ length (undecided atoms h.left) = found_le leaf (steps.leaf_one s.table.book.now s.table.rows.now bans atoms s.plan.now.n ready.table) (undecided atoms h.left) (setting_of atoms h.standing) in
+          let f : length (models_left s h) ≤ 2 ^ length (undecided atoms h.left) = found_le leaf (steps.leaf_one s.table.book.now s.table.rows.now bans atoms s.plan.now.n (space_searchable s)) (undecided atoms h.left) (setting_of atoms h.standing) in
           subst (λ (k : ℕ). length (models_left s h) ≤ 2 ^ k) (undecided-length atoms h.left (omega (arith, e, t.few)) ∙ e) f
 
       left_first : first.left ≡ turn.left - 1

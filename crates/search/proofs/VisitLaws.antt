@@ -1,21 +1,19 @@
 -- Searches one after the other are one search, and what a search leaves behind. Assumes nothing.
-use mathlib.Core.Path.{◌≡◌, refl, sym, ap, ap₂, subst, ◌∙◌}
+use mathlib.Core.Path.{◌≡◌, refl, sym, ap, ap₂, ◌∙◌}
 use mathlib.Core.Bool.{Bool, true, false, false≢true}
 use mathlib.Core.List.{List, [], ◌∷◌, ◌++◌, append_assoc, append-nil}
-use Prim.Native.Nat.{ℕ, ◌+◌, ◌≤◌, ◌<◌}
+use Prim.Native.Nat.{ℕ, ◌+◌, ◌≤◌}
 use native.Mathlib.Omega.{arith}
-use borrow.Author.Tests.{lt-ltb, le-ltb}
-use lib.Dec.{ltb}
 use mir.Val.{bool_byte}
 use lib.ListN.{length, length-append}
 use Rattle.models.specs.StableModels.{Interpretation, atom_holds}
 use Rattle.models.specs.Listing.{bit_value}
 use Rattle.records.proofs.PackLaws.{bit_le}
-use Rattle.condition.specs.Code.{code_holds, StackFits}
+use Rattle.condition.specs.Code.{code_holds}
 use Rattle.search.specs.declared.Goal.{Goal}
 use Rattle.search.specs.declared.Goal.TheVariants as goals
 use Rattle.search.specs.declared.Visit.{Visit}
-use Rattle.search.specs.Visits.{Asks, weight_of, total_of, kept_by, RoomFor, reaches, stopped, Kept, visited, Searched, Combines}
+use Rattle.search.specs.Visits.{weight_of, total_of, kept_by, RoomFor, reaches, stopped, Kept, visited, Searched, Combines}
 use Rattle.search.proofs.KeptLaws.{room_less, room-same, kept-none}
 
 -- ---- the counters

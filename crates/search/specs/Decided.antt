@@ -1,5 +1,5 @@
 -- How far the recursion is: the atoms that are left to decide, and those decided, as masks. Assumes nothing.
-use Rattle.std.specs.Prelude.{◌≡◌, not, ℕ, ◌-◌, ◌<◌, ◌≤◌, T, length, get_or, drop}
+use Rattle.std.specs.Prelude.{◌≡◌, Bool, true, false, not, ℕ, ◌-◌, ◌^◌, ◌<◌, ◌≤◌, T, length, get_or, drop, bit_or}
 use mathlib.Core.List.{List, Memᴰ}
 use Rattle.base.specs.Bounds.{max_atoms}
 use Rattle.layers.specs.Masks.{bit_of}
@@ -23,6 +23,11 @@ pub record Decided (atoms undecided : List ℕ) (o : Interpretation) (standing d
 -- the last `left` atoms, which are not decided yet
 abbrev pub undecided : List ℕ → ℕ → List ℕ
 undecided atoms left = drop (length atoms - left) atoms
+
+-- one fact fewer is left: the i-th is decided to stand, or not to
+abbrev pub decided_turn : Turn → ℕ → Bool → Turn
+decided_turn turn i true = record turn { left = turn.left - 1; standing = bit_or turn.standing (2 ^ i) }
+decided_turn turn i false = record turn { left = turn.left - 1; denied = bit_or turn.denied (2 ^ i) }
 
 -- how far the recursion is: so many atoms are left, and the masks have the others as the setting of `standing` decides them
 pub record Turned (atoms : List ℕ) (turn : Turn) : Type 0 where

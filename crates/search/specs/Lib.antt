@@ -1,3 +1,4 @@
+pub mod Ready
 pub mod Space
 pub mod Visits
 pub mod Decided

@@ -3,11 +3,10 @@
 use Rattle.std.specs.Prelude.{List, ℕ}
 use Rattle.models.specs.Program.{Program}
 use Rattle.models.specs.StableModels.{Interpretation}
-use Rattle.plan.specs.Plan.{plan_atoms, planned_program, Planned}
+use Rattle.plan.specs.Plan.{plan_atoms, planned_program}
 use Rattle.setting.specs.Setting.{setting_of}
 use Rattle.leaf.specs.Found.{at_setting, found_by}
-use Rattle.leaf.specs.Searchable.{Searchable}
-use Rattle.search.specs.declared.Space.{Space}
+use Rattle.search.specs.declared.space.Space.{Space}
 use Rattle.search.specs.declared.Turn.{Turn}
 use Rattle.search.specs.Decided.{undecided}
 
@@ -18,11 +17,6 @@ space_atoms s = plan_atoms s.plan.now
 -- the program that the table and the plan stand for
 abbrev pub space_program : Space → Program
 space_program s = planned_program s.table.book.now s.table.rows.now s.plan.now
-
--- the table and the plan can be searched
-pub record Ready (s : Space) : Type 0 where
-  pub table : Searchable s.table.book.now s.table.rows.now (space_atoms s) s.plan.now.n
-  pub planned : Planned s.table.book.now s.table.rows.now (space_atoms s) s.plan.now
 
 -- the stable models of the setting of a mask: there is at most one
 abbrev pub models_at : Space → ℕ → List Interpretation

@@ -1,29 +1,27 @@
-// The search through the settings of the branching facts: one recursion, which the listing and a fact's place share.
+// The search through the settings of the branching facts: one recursion, whatever is asked of the models that it meets (`Goal`).
 #![tactic(auto)]
 
-ghost use Rattle.std.specs.Prelude.{◌≡◌, ◌⊎◌, false, [], ◌∷◌, ◌+◌, ◌-◌, ◌^◌, ◌<◌, ◌≤◌, length, bit_or, MatchOption};
+ghost use Rattle.std.specs.Prelude.{◌≡◌, ◌⊎◌, false, [], ◌∷◌, ◌+◌, ◌^◌, ◌<◌, ◌≤◌, length};
 ghost use Rattle.base.specs.Bounds.{max_atoms, max_branching};
 ghost use Rattle.setting.specs.RuleMasks.{Headed};
 ghost use Rattle.nogoods.specs.Nogoods.{Violated};
 ghost use Rattle.plan.specs.Plan.{plan_heads, plan_nogoods};
-ghost use Rattle.search.specs.Space.{space_atoms, Ready, models_at, models_left};
-ghost use Rattle.search.specs.Decided.{Turned};
+ghost use Rattle.search.specs.Space.{space_atoms, models_at, models_left};
+ghost use Rattle.search.specs.Decided.{decided_turn, Turned};
 ghost use Rattle.search.specs.Visits.{Asks, weight_of, kept_by, RoomFor, stopped, Kept, visited, Searched, Combines};
 
 mod scratch;
+mod space;
 
-use bans::banned;
 use condition::{Code, evaluate};
-use filling::Rules;
-use leaf::{Leaf, Setting};
 use merging::merge;
 use nogoods::has_nogood;
 use plan::Plan;
 use records::{add_state, put_state, record_size};
-use rejecting::{clear_at, reject_at};
 pub use scratch::Scratch;
 use setting::headed;
-use table::{Table, atom_holds};
+pub use space::Space;
+use table::atom_holds;
 
 // What the search is for: every record, how many models there are, whether a fact stands in some but not in all, in how many models each
 // fact stands, or in how many the condition of these codes holds.
@@ -74,10 +72,7 @@ impl Goal<'_> {
         ensures { part.new ≡ kept_by self.now (length state.now) count (state.now ∷ []) part.old }
     {
         match self {
-            Goal::List => {
-                let n = state.len();
-                put_state(state, n, part, count * record_size(n))
-            }
+            Goal::List => put_state(state, part, count * record_size(state.len())),
             Goal::Sums => add_state(state, part),
             _ => {}
         }
@@ -119,92 +114,32 @@ pub struct Turn {
 }
 
 impl Turn {
-    // One fact fewer is left: the i-th is decided not to stand.
-    pub fn without(self, i: usize) -> Turn
+    // One fact fewer is left: the i-th is decided to stand, or not to.
+    pub fn decided(self, i: usize, stands: bool) -> Turn
         requires { (0 < self.left) × (i < max_branching) }
-        ensures { result ≡ record self { left = self.left - 1; denied = bit_or self.denied (2 ^ i) } }
+        ensures { result ≡ decided_turn self i stands }
     {
-        Turn {
+        let bit = 1 << (i as u32);
+        let mut next = Turn {
             left: self.left - 1,
-            denied: self.denied | 1 << (i as u32),
             ..self
-        }
-    }
-
-    // One fact fewer is left: the i-th is decided to stand.
-    pub fn with(self, i: usize) -> Turn
-        requires { (0 < self.left) × (i < max_branching) }
-        ensures { result ≡ record self { left = self.left - 1; standing = bit_or self.standing (2 ^ i) } }
-    {
-        Turn {
-            left: self.left - 1,
-            standing: self.standing | 1 << (i as u32),
-            ..self
-        }
-    }
-}
-
-// What a search goes through: the table of a book's rules that count, and the plan of it.
-#[derive(Clone, Copy)]
-pub struct Space<'a> {
-    pub table: Table<'a>,
-    pub plan: &'a Plan,
-}
-
-impl Space<'_> {
-    // Nothing is decided: all branching facts are left.
-    pub fn start(&self) -> Turn
-        ensures { result ≡ record { left = length (space_atoms self.now); standing = 0; denied = 0 } }
-    {
-        Turn {
-            left: self.plan.atoms().len(),
-            standing: 0,
-            denied: 0,
-        }
-    }
-
-    // The stable model at a setting, if there is one: that of the rules alone, unless the body of a constraint holds in it. A constraint's
-    // facts need not branch, so it is tested on the finished state.
-    pub fn find_model<'s>(&self, standing: u32, scratch: &'s mut Scratch) -> Option<&'s [bool]>
-        requires { Ready self.now }
-        ensures { MatchOption result (models_at self.now standing ≡ []) (λ m. (models_at self.now standing ≡ m.now ∷ []) × (length m.now ≡ self.now.plan.now.n)) }
-    {
-        let n = self.plan.n;
-        let rejecting = self.plan.rejecting();
-        reject_at(rejecting, standing, &mut scratch.rejects);
-        let leaf = Leaf {
-            rules: Rules {
-                table: self.table,
-                rejects: &scratch.rejects,
-            },
-            setting: Setting {
-                atoms: self.plan.atoms(),
-                standing,
-            },
         };
-        let found = leaf.model_at(
-            &mut scratch.positive[0..n],
-            &mut scratch.negative[0..n],
-            &mut scratch.early[0..n],
-            &mut scratch.hints,
-        );
-        clear_at(rejecting, &mut scratch.rejects);
-        let state = &scratch.positive[0..n];
-        if found && !banned(self.table.book, self.plan.bans(), state) {
-            Some(state)
+        if stands {
+            next.standing |= bit;
         } else {
-            None
+            next.denied |= bit;
         }
+        next
     }
+}
 
-    // Whether the quick tests leave it open that a setting of the facts that are left has a stable model: each fact that stands is the head
-    // of a rule that may yet be reached, and no nogood is decided.
-    pub fn promising(&self, turn: Turn) -> bool
-        ensures { result ≡ false → (Headed (plan_heads self.now.plan.now) turn.standing turn.denied → ⊥) ⊎ Violated (plan_nogoods self.now.plan.now) turn.standing turn.denied }
-    {
-        headed(self.plan.heads(), turn.standing, turn.denied)
-            && !has_nogood(self.plan.nogoods(), turn.standing, turn.denied)
-    }
+// Whether the quick tests leave it open that a setting of the facts that are left has a stable model: each fact that stands is the head of
+// a rule that may yet be reached, and no nogood is decided.
+pub fn promising(plan: &Plan, turn: Turn) -> bool
+    ensures { result ≡ false → (Headed (plan_heads plan.now) turn.standing turn.denied → ⊥) ⊎ Violated (plan_nogoods plan.now) turn.standing turn.denied }
+{
+    headed(plan.heads(), turn.standing, turn.denied)
+        && !has_nogood(plan.nogoods(), turn.standing, turn.denied)
 }
 
 // Visits the stable model of one setting, if there is one. It is a function of its own so that the recursion's frames stay small.
@@ -216,7 +151,6 @@ pub fn visit_setting(
     part: &mut [u8],
     v: Visit,
 ) -> Visit
-    requires ready { Ready space.now }
     requires kept { Kept goal.now space.now.plan.now.n (length (models_at space.now standing)) v part.old }
     requires count_bound { (v.count < 4294967296) × (stopped goal.now v ≡ false) }
     ensures { Searched goal.now space.now.plan.now.n (models_at space.now standing) v part.old result part.new }
@@ -237,21 +171,20 @@ pub fn search(
     part: &mut [u8],
     v: Visit,
 ) -> Visit
-    requires ready { Ready space.now }
     requires turned { Turned (space_atoms space.now) turn }
     requires kept { Kept goal.now space.now.plan.now.n (length (models_left space.now turn)) v part.old }
     requires left_bound { v.count + 2 ^ turn.left ≤ 4294967296 }
     ensures { Searched goal.now space.now.plan.now.n (models_left space.now turn) v part.old result part.new }
 {
-    if goal.stops(v) || !space.promising(turn) {
+    if goal.stops(v) || !promising(space.plan, turn) {
         return v;
     }
     if turn.left == 0 {
         return visit_setting(space, goal, turn.standing, scratch, part, v);
     }
     let i = space.plan.atoms().len() - turn.left;
-    let half = search(space, goal, turn.without(i), scratch, part, v);
-    let both = search(space, goal, turn.with(i), scratch, part, half);
+    let half = search(space, goal, turn.decided(i, false), scratch, part, v);
+    let both = search(space, goal, turn.decided(i, true), scratch, part, half);
     goal.combine(space.plan.n, v.count, half.count, both.count, part);
     both
 }

@@ -1,8 +1,7 @@
 -- One fact is compared, where the wanted state has it.
-use Rattle.std.proofs.Common.{refl, ◌∙◌}
+use Rattle.std.proofs.Common.{◌∙◌}
 use borrow.Author.Tests.{lt-ltb, le-ltb}
 use Rattle.models.specs.StableModels.{atom_holds}
-use Rattle.models.specs.Listing.{bit_value}
 use Rattle.first.proofs.ApartLaws.{bit_byte}
 use Rattle.first.proofs.step_apart.Goals as goal
 use Rattle.first.proofs.step_apart.Goals.{then-f-wanted, else-f-wanted}

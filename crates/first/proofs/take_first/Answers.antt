@@ -1,5 +1,5 @@
 -- The state met leaves the one in hand (`takes_later`) or takes its place (`takes_first`, `takes_new`).
-use Rattle.std.proofs.Common.{refl, ap, ◌∙◌, ◌≡◌, length}
+use Rattle.std.proofs.Common.{refl, ◌≡◌, length}
 use Rattle.models.specs.Listing.{record_of}
 use Rattle.first.proofs.InHandLaws.{takes_later, takes_first, takes_new, record_taken}
 use Rattle.first.proofs.take_first.Goals as goal

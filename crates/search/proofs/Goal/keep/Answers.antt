@@ -1,11 +1,11 @@
 -- One law a goal.
-use Rattle.std.proofs.Common.{refl, arith}
-use Rattle.search.proofs.KeptLaws.{times_fit, place-fits, sums_fit, keep_listed, keep_sums, keep_others}
+use Rattle.std.proofs.Common.{refl}
+use Rattle.search.proofs.KeptLaws.{place-fits, sums_fit, keep_listed, keep_sums, keep_others}
 use Rattle.search.proofs.Goal.keep.Goals as goal
 
 pub put_state-requires : goal.put_state-requires
 put_state-requires c =
-    (refl, c.requires.0, place-fits c.args.self.now _ c.args.count _ c.args.part.now c.in-List.is c.record_size.ensures.0 c.requires.2)
+    (c.requires.0, place-fits c.args.self.now _ c.args.count _ c.args.part.now c.in-List.is c.record_size.ensures.0 c.requires.2)
 
 pub add_state-requires : goal.add_state-requires
 add_state-requires c =

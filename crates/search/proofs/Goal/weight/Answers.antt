@@ -1,7 +1,5 @@
 -- One law a goal.
-use Rattle.std.proofs.Common.{refl, sym, ap, subst, ◌∙◌}
-use Rattle.models.specs.Listing.{bit_value}
-use Rattle.search.specs.declared.Goal.{Goal}
+use Rattle.std.proofs.Common.{refl, subst}
 use Rattle.search.specs.Visits.{Asks, weight_of}
 use Rattle.search.proofs.VisitLaws.{weighs_bit, weighs_none}
 use Rattle.search.proofs.Goal.weight.Goals as goal

@@ -1,10 +1,9 @@
 -- A test that fails says why.
-use Rattle.std.proofs.Common.{sym, subst, ◌∙◌, List, inl, inr}
-use mathlib.Core.Bool.{false≢true}
+use Rattle.std.proofs.Common.{subst, List, inr}
 use borrow.Author.Tests.{not-false}
 use Rattle.nogoods.specs.declared.Nogood.{Nogood}
 use Rattle.nogoods.specs.Nogoods.{Violated}
-use Rattle.search.proofs.Space.promising.Goals as goal
+use Rattle.search.proofs.promising.Goals as goal
 
 pub returns-then-headed : goal.returns-then-headed
 returns-then-headed c =
