@@ -2,7 +2,7 @@
 -- records. The proof of `find_cut` cites it. Assumes nothing.
 use mathlib.Core.Path.{◌≡◌, refl, sym, ap, ap₂, subst, ◌∙◌}
 use mathlib.Core.Logic.{◌⊎◌, inl, inr}
-use mathlib.Core.Bool.{true, false}
+use mathlib.Core.Bool.{Bool, true, false}
 use mathlib.Core.List.Memᴰ
 use mathlib.Core.List.{List, [], ◌∷◌, ◌++◌}
 use Prim.Native.Nat.{ℕ, zero, suc, ◌+◌, ◌-◌, ◌*◌, ◌/◌, ◌≤◌, ◌<◌}
@@ -19,7 +19,7 @@ use Rattle.insertion.proofs.RunLaws.{flat_append, flat_at}
 use Rattle.insertion.proofs.SortedLaws as insertion-laws
 use Rattle.merging.specs.Merging.{rec_at, GoesIn, Two, Parted}
 use Rattle.merging.proofs.MergeLaws as sorted
-use Rattle.merging.proofs.PlaceLaws.{place-room}
+use Rattle.merging.proofs.PlaceLaws.{lent, place-room, told}
 
 -- byte strings neither of which comes before the other are the same
 pub bytes_same : (x y : List ℕ) → bytes_before x y ≡ false → bytes_before y x ≡ false → x ≡ y
@@ -96,22 +96,56 @@ all-low : (ps qs : List (List ℕ)) (a : ℕ) → Up bytes_before ps → Up byte
     → (l r : List ℕ) → l ∈ take (suc a) ps → r ∈ drop 0 qs → bytes_before r l ≡ false
 all-low ps qs a u v e b l r i j = le_le r (get_or qs 0 []) l (up_behind qs 0 v r j) (le_le (get_or qs 0 []) (get_or ps a []) l b (up_last ps a u (omega arith) l i))
 
--- offsets
-pub run_sizes : (n m w len : ℕ) → 0 < n → 0 < m → len ≡ (n + m) * w → (w ≤ n * w) × (n * w + m * w ≡ len) × (n * w + w ≤ len)
-run_sizes n m w len hn hm e =
+-- offsets: each run has a record, and so do the places where the longer one is cut
+pub record RunSizes (n m w len : ℕ) : Type 0 where
+  pub first : w ≤ n * w
+  pub both : n * w + m * w ≡ len
+  pub second : n * w + w ≤ len
+  pub first_half : n / 2 * w + w ≤ len
+  pub second_half : n * w + m / 2 * w + w ≤ len
+
+-- what the contract of `find_cut` asks for
+abbrev pub TwoRuns : ℕ → ℕ → ℕ → ℕ → Type 0
+TwoRuns n m w len = (0 < n) × (0 < m) × (0 < w) × (len ≡ (n + m) * w)
+
+pub run_sizes : (n m w len : ℕ) → TwoRuns n m w len → RunSizes n m w len
+run_sizes n m w len h =
+    let hn : 0 < n = h.0 in
+    let hm : 0 < m = h.1 in
+    let e : len ≡ (n + m) * w = h.3 in
     let a : 1 * w ≤ n * w = mul-le-mul_right w hn in
     let b : 1 * w ≤ m * w = mul-le-mul_right w hm in
     let s : (n + m) * w ≡ n * w + m * w = omega arith in
-    (omega (arith, a), omega (arith, e, s), omega (arith, b, e, s))
-
-pub first_room : (n m w len : ℕ) → 0 < n → 0 < m → len ≡ (n + m) * w → n / 2 * w + w ≤ len
-first_room n m w len hn hm e = omega (arith, place-room w 0 n (n / 2) len (omega arith) (omega (arith, (run_sizes n m w len hn hm e).1)))
-
-pub second_room : (n m w len : ℕ) → 0 < n → 0 < m → len ≡ (n + m) * w → n * w + m / 2 * w + w ≤ len
-second_room n m w len hn hm e = place-room w (n * w) m (m / 2) len (omega arith) (omega (arith, (run_sizes n m w len hn hm e).1))
+    let i : n / 2 < n = omega arith in
+    let j : m / 2 < m = omega arith in
+    record {
+      first = omega arith;
+      both = omega arith;
+      second = omega arith;
+      first_half = omega (arith, place-room w 0 n (n / 2) len i (omega arith));
+      second_half = place-room w (n * w) m (m / 2) len j (omega arith);
+    }
 
 -- the four cuts
-module _ (w n m : ℕ) (part : List ℕ) (hn : 0 < n) (hm : 0 < m) (len : length part ≡ (n + m) * w) where
+module _ (w n m : ℕ) (part : List ℕ) (runs : TwoRuns n m w (length part)) where
+  abbrev hn : 0 < n
+  hn = runs.0
+
+  abbrev hm : 0 < m
+  hm = runs.1
+
+  sizes : RunSizes n m w (length part)
+  sizes = run_sizes n m w (length part) runs
+
+  -- what the two comparisons say: of the records where the runs meet, and of the first and the last one
+  pub meet_told : (r : Bool) → r ≡ bytes_before (take (length (lent (n * w - w) (n * w) part)) (drop (n * w) part)) (lent (n * w - w) (n * w) part)
+      → bytes_before (rec_at w (n * w) part) (rec_at w (n * w - w) part) ≡ r
+  meet_told = told w (n * w - w) (n * w) part (omega (arith, sizes.first)) (omega (arith, sizes.first, sizes.second)) (n * w)
+
+  pub ends_told : (r : Bool) → r ≡ bytes_before (take (length (lent (length part - w) (length part) part)) (drop 0 part)) (lent (length part - w) (length part) part)
+      → bytes_before (rec_at w 0 part) (rec_at w (length part - w) part) ≡ r
+  ends_told = told w (length part - w) (length part) part (omega (arith, sizes.second)) (omega (arith, sizes.second)) 0
+
   -- one less than so many
   before_last : (k : ℕ) → 0 < k → (a : ℕ) × (k ≡ suc a) × (k * w - w ≡ a * w)
   before_last zero h = absurd (omega arith)
@@ -149,7 +183,7 @@ module _ (w n m : ℕ) (part : List ℕ) (hn : 0 < n) (hm : 0 < m) (len : length
           let z : 0 ≡ 0 * w = omega arith in
           let s : m * w ≡ suc q.0 * w = ap (λ (x : ℕ). x * w) q.1 in
           let t : suc q.0 * w ≡ w + q.0 * w = omega arith in
-          let y : length part - w ≡ n * w + q.0 * w = omega (arith, (run_sizes n m w (length part) hn hm len).1, s, t) in
+          let y : length part - w ≡ n * w + q.0 * w = omega (arith, sizes.both, s, t) in
           let f : rec_at w 0 part ≡ get_or xs 0 [] = ap (λ (x : ℕ). rec_at w x part) z ∙ first_rec h 0 hn in
           let g : rec_at w (length part - w) part ≡ get_or ys q.0 [] = ap (λ (x : ℕ). rec_at w x part) y ∙ second_rec h q.0 (omega (arith, q.1)) in
           all-low ys xs q.0 h.second_up h.first_up (h.second_count ∙ q.1) (sym (ap₂ bytes_before f g) ∙ b) l r (subst (λ (x : ℕ). l ∈ take x ys) q.1 i) j
@@ -165,7 +199,7 @@ module _ (w n m : ℕ) (part : List ℕ) (hn : 0 < n) (hm : 0 < m) (len : length
           let f : n * w ≡ w = ap (λ (x : ℕ). x * w) (sym e) ∙ omega arith in
           let g : n * w - w ≡ 0 = omega arith in
           let s : m * w ≡ w = ap (λ (x : ℕ). x * w) d ∙ omega arith in
-          let t : length part - w ≡ n * w = omega (arith, (run_sizes n m w (length part) hn hm len).1) in
+          let t : length part - w ≡ n * w = omega (arith, sizes.both) in
           absurd (subst T (sym b ∙ ap₂ (λ (x y : ℕ). bytes_before (rec_at w x part) (rec_at w y part)) (sym g) t ∙ bytes_asym (rec_at w (n * w) part) (rec_at w (n * w - w) part) a) tt)
 
   pub cut_first : (j : ℕ) → m ≤ n → bytes_before (rec_at w (n * w) part) (rec_at w (n * w - w) part) ≡ true → bytes_before (rec_at w 0 part) (rec_at w (length part - w) part) ≡ true

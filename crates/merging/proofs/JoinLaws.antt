@@ -16,16 +16,8 @@ use Rattle.insertion.proofs.ByteOrder.{bytes_le_lt, bytes_asym}
 use Rattle.insertion.proofs.RunLaws.{flat_append, flat-length}
 use Rattle.merging.specs.Merging.{Two, Parted, Merged}
 use Rattle.merging.proofs.MergeLaws.{drop-from, merge_halves, insert_all-nothing}
+use Rattle.merging.proofs.RotateLaws.{turned, lent_length}
 use Rattle.merging.proofs.CutLaws.{bytes_same}
-
--- two lists that change places
-module _ (A B q : List ℕ) (a : ℕ) (e : q ≡ A ++ B) (h : length A ≡ a) where
-  turned : drop a q ++ take a q ≡ B ++ A
-  turned = ap₂ (λ (x y : List ℕ). x ++ y) (ap (drop a) e ∙ drop_at A B a h) (ap (take a) e ∙ take_at A B a h)
-
--- a part from a to e
-pub lent_length : (a e : ℕ) (q : List ℕ) → e ≤ length q → length (take (e - a) (drop a q)) ≡ e - a
-lent_length a e q h = length-take-le (e - a) (drop a q) (omega (arith, length-drop a q))
 
 -- the offsets of a cut
 pub record CutSizes (w n m i j len : ℕ) : Type 0 where

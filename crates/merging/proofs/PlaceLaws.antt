@@ -1,7 +1,7 @@
 -- Searching by halves for the place of a record: what is known between two bounds, and what one turn makes of it. The proof of `place`
 -- cites it. Assumes nothing.
 use mathlib.Core.Path.{◌≡◌, sym, ap, ap₂, subst, ◌∙◌}
-use mathlib.Core.Bool.{true, false}
+use mathlib.Core.Bool.{Bool, true, false}
 use mathlib.Core.List.{List}
 use Prim.Native.Nat.{ℕ, suc, ◌+◌, ◌-◌, ◌*◌, ◌/◌, ◌≤◌, ◌<◌}
 use native.Mathlib.Nat.{mul-le-mul_right, suc_inj}
@@ -29,6 +29,21 @@ place-room w from count m n h b =
 pub rec_len : (w at : ℕ) (part : List ℕ) → at + w ≤ length part → length (rec_at w at part) ≡ w
 rec_len w at part h = length-take-le w (drop at part) (omega (arith, length-drop at part))
 
+-- a lent record, and comparing with it
+abbrev pub lent : ℕ → ℕ → List ℕ → List ℕ
+lent a e part = take (e - a) (drop a part)
+
+module _ (w a e : ℕ) (part : List ℕ) (h : e - a ≡ w) (b : a + w ≤ length part) where
+  pub lent_len : length (lent a e part) ≡ w
+  lent_len = ap (λ (k : ℕ). length (take k (drop a part))) h ∙ rec_len w a part b
+
+  pub lent_before : (at : ℕ) → bytes_before (take (length (lent a e part)) (drop at part)) (lent a e part) ≡ bytes_before (rec_at w at part) (rec_at w a part)
+  lent_before at = ap₂ (λ (x : ℕ) (y : List ℕ). bytes_before (take x (drop at part)) y) lent_len (ap (λ (k : ℕ). take k (drop a part)) h)
+
+  -- what the comparison with it says
+  pub told : (at : ℕ) (r : Bool) → r ≡ bytes_before (take (length (lent a e part)) (drop at part)) (lent a e part) → bytes_before (rec_at w at part) (rec_at w a part) ≡ r
+  told at r q = sym (q ∙ lent_before at)
+
 module _ (w from count at : ℕ) (part : List ℕ) where
   pub placing_start : Placing w from count at part 0 count
   placing_start = record { order = omega arith; within = omega arith; low = λ i e. absurd (omega (arith, e)); high = λ h. absurd (omega arith) }
@@ -53,11 +68,3 @@ module _ (w from count at : ℕ) (part : List ℕ) where
 -- half way between two bounds
 pub half_room : (w from count lo hi n : ℕ) → lo < hi → hi ≤ count → from + count * w ≤ n → from + (lo + (hi - lo) / 2) * w + w ≤ n
 half_room w from count lo hi n h k b = place-room w from count (lo + (hi - lo) / 2) n (omega arith) b
-
--- a lent record, and comparing with it
-module _ (w a e : ℕ) (part : List ℕ) (h : e - a ≡ w) (b : a + w ≤ length part) where
-  pub lent_len : length (take (e - a) (drop a part)) ≡ w
-  lent_len = ap (λ (k : ℕ). length (take k (drop a part))) h ∙ rec_len w a part b
-
-  pub lent_before : (at : ℕ) → bytes_before (take (length (take (e - a) (drop a part))) (drop at part)) (take (e - a) (drop a part)) ≡ bytes_before (rec_at w at part) (rec_at w a part)
-  lent_before at = ap₂ (λ (x : ℕ) (y : List ℕ). bytes_before (take x (drop at part)) y) lent_len (ap (λ (k : ℕ). take k (drop a part)) h)

@@ -1,10 +1,14 @@
 -- Two rising runs of records of one width, one behind the other in a part, and what merging them in place makes of the part.
 -- Assumes nothing.
-use Rattle.std.specs.Prelude.{◌≡◌, true, false, ℕ, suc, ◌+◌, ◌*◌, ◌≤◌, ◌<◌, length, take, drop}
+use Rattle.std.specs.Prelude.{◌≡◌, true, false, ℕ, suc, ◌+◌, ◌-◌, ◌*◌, ◌≤◌, ◌<◌, length, take, drop}
 use mathlib.Core.List.{List, ◌++◌, Memᴰ}
 use Rattle.base.specs.Lists.{flat}
 use Rattle.insertion.specs.Sorted.{insert_all, Up}
 use Rattle.insertion.specs.Runs.{bytes_before, Wide}
+
+-- the first s bytes and the last s have changed places
+abbrev pub swapped : ℕ → List ℕ → List ℕ
+swapped s l = drop (length l - s) l ++ (take (length l - s - s) (drop s l) ++ take s l)
 
 -- the record at an offset
 abbrev pub rec_at : ℕ → ℕ → List ℕ → List ℕ

@@ -1,5 +1,4 @@
--- `place` meets its contract: the record in front of lo comes before the one sought, and the one at hi does not. What lies between falls.
--- Assumes nothing.
+-- The record in front of lo comes before the one sought, and the one at hi does not. What lies between falls. Assumes nothing.
 use Prim.Native.Nat.{◌-◌}
 use Rattle.merging.proofs.PlaceLaws.{Placing}
 use Rattle.merging.proofs.place.Given as goal
