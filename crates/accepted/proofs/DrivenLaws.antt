@@ -1,14 +1,14 @@
 -- A driven layer, and a set of layers switched off: causes 9 and 19 after those of the book, and what a call knows where none of them
 -- applies. Used by `check_layer` and by the calls above. Assumes nothing.
 use mathlib.Core.Path.{◌≡◌, refl, sym, subst, ap, ◌∙◌}
-use mathlib.Core.Bool.{Bool, true, false, not, ◌&&◌}
+use mathlib.Core.Bool.{false, not, ◌&&◌}
 use mathlib.Core.List.Memᴰ
 use mathlib.Core.List.{List, ◌++◌}
 use Prim.Native.Nat.{ℕ, ◌+◌, ◌-◌, ◌/◌, ◌%◌, ◌^◌, ◌<◌, ◌≤◌}
 use native.Mathlib.Nat.{div-eq_of_lt, div-div-eq-div-mul, pow-le-pow_right}
 use native.Mathlib.Decide.{dec_lt, ℕ_discrete}
 use native.Mathlib.Omega.{arith}
-use borrow.Author.Tests.{ltb-true, lt-ltb, le-ltb, le-leb, not-false, ne_eqb}
+use borrow.Author.Tests.{ltb-true, le-leb, not-false, ne_eqb}
 use lib.Dec.{T, eqb, leb, ltb, eqb→eq, leb→le}
 use lib.Pow.{pow-add}
 use Rattle.base.specs.Bounds.{max_layers}
@@ -19,9 +19,9 @@ use Rattle.layers.specs.Masks.{bit_of}
 use Rattle.layers.proofs.BitLaws.{no_bit, some-bit}
 use Rattle.format.specs.Book.{layer_count, book_of}
 use Rattle.models.specs.Program.{in_set}
-use Rattle.book.specs.Causes.{Test, tests, verdict_if, first_of, verdict}
+use Rattle.book.specs.Causes.{Test, tests, first_of, verdict}
 use Rattle.book.specs.declared.Cause.{Cause}
-use Rattle.book.specs.declared.Cause.TheVariants.{NoSuchLayer, NoSuchLayerOff}
+use Rattle.book.specs.declared.Cause.TheVariants.{NoSuchLayer}
 use Rattle.std.specs.Prelude.{Ok, Err}
 use Rattle.accepted.specs.Accepted.{IsAccepted}
 use Rattle.accepted.specs.Driven.{is_no_such_layer, has_absent_layer, driven_tests, layer_tests}

@@ -2,8 +2,8 @@
 // bytes are believed because the check has walked them.
 #![tactic(auto)]
 
-ghost use Rattle.std.specs.Prelude.{◌≡◌, ◌<◌, ◌≤◌, length, IfOk};
-ghost use Rattle.base.specs.Bounds.{max_atoms, max_rules};
+ghost use Rattle.std.specs.Prelude.{◌≡◌, ◌<◌, ◌≤◌, IfOk};
+ghost use Rattle.base.specs.Bounds.{max_atoms};
 ghost use Rattle.layers.specs.Masks.{LowerMasks};
 ghost use Rattle.format.specs.Book.{arrows_of, book_of};
 ghost use Rattle.table.specs.Table.{TableMade};
@@ -13,10 +13,19 @@ ghost use Rattle.std.proofs.Props.{props};
 ghost use Rattle.accepted.specs.Accepted.{IsAccepted};
 ghost use Rattle.accepted.specs.Driven.{has_absent_layer, driven_tests, layer_tests};
 
-use bans::ban_table;
-use base::MAX_LAYERS;
+use bans::{Bans, ban_table};
+use base::{MAX_LAYERS, MAX_RULES};
 use book::{Cause, Header, check_book};
-use table::{Row, Span, rule_table};
+use table::{Row, Source, Span, Table};
+
+// The number of facts.
+#[tactic(auto, using(crate::proofs::RangeFacts::whole_book))]
+pub fn atom_count(book: &[u8]) -> usize
+    requires { IsAccepted book.now }
+    ensures { (result ≡ (book_of book.now).atoms) × (0 < result) × (result ≤ max_atoms) }
+{
+    Header::read(book).atoms
+}
 
 // Whether the set has a layer that a book of so many layers lacks. A book of MAX_LAYERS lacks none: every set is lawful there, and 32 bits
 // are never shifted by 32.
@@ -57,32 +66,45 @@ pub struct Driving<'a> {
 impl<'a> Driving<'a> {
     ghost use Rattle.accepted.specs.Driving.{driven_program};
 
-    // The number of facts.
-    #[tactic(auto, using(crate::proofs::RangeFacts::whole_book, crate::proofs::RangeFacts::atoms_are))]
+    // The number of the book's facts.
     pub fn atom_count(&self) -> usize
         ensures { (result ≡ (book_of self.now.book.now).atoms) × (0 < result) × (result ≤ max_atoms) }
     {
-        Header::read(self.book).atoms
+        atom_count(self.book)
     }
 
-    // Writes the table of the rules that count at the layer, and says how many there are.
+    // What the layer's table is made from.
     #[tactic(auto, using(crate::proofs::RangeFacts::whole_book, book::proofs::RangeLaws::header_in))]
-    pub fn prepare(&self, rows: &mut [Row]) -> usize
-        requires { length rows.old ≡ max_rules }
-        ensures { TableMade (driven_program self.now) self.now.book.now rows.new result }
+    fn source(&self) -> Source<'a>
+        ensures { (result.book ≡ self.now.book) × (result.layer ≡ self.now.layer) × (result.off ≡ self.now.off) }
     {
-        let from = Header::read(self.book).rules + 6;
-        rule_table(self.book, from, self.layer, self.off, self.lower, rows)
+        Source {
+            book: self.book,
+            first: Header::read(self.book).rules + 6,
+            layer: self.layer,
+            off: self.off,
+            lower: self.lower,
+        }
     }
 
-    // Writes where the bodies of the constraints that count at the layer stand, as `prepare` does the rules' rows, and says how many there are.
-    #[tactic(auto, using(crate::proofs::RangeFacts::whole_book, book::proofs::RangeLaws::header_in))]
-    pub fn prepare_bans(&self, bans: &mut [Span]) -> usize
-        requires { length bans.old ≡ max_rules }
-        ensures { BansMade (driven_program self.now).constraints self.now.book.now bans.new result }
+    // Writes the table of the rules that count at the layer, and lends it.
+    pub fn prepare<'r>(&self, rows: &'r mut [Row; MAX_RULES]) -> Table<'r>
+    where
+        'a: 'r,
+        ensures made { TableMade (driven_program self.now) self.now.book.now result.rows.now }
+        ensures book_is { result.book ≡ self.now.book }
     {
-        let from = Header::read(self.book).rules + 6;
-        ban_table(self.book, from, self.layer, self.off, self.lower, bans)
+        self.source().rule_table(rows)
+    }
+
+    // Writes where the bodies of the constraints that count at the layer stand, and lends them.
+    pub fn prepare_bans<'r>(&self, bans: &'r mut [Span; MAX_RULES]) -> Bans<'r>
+    where
+        'a: 'r,
+        ensures made { BansMade (driven_program self.now).constraints self.now.book.now result.spans.now }
+        ensures book_is { result.book ≡ self.now.book }
+    {
+        ban_table(&self.source(), bans)
     }
 }
 

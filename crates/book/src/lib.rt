@@ -1,14 +1,14 @@
 // The check of a book: the first of causes 1 to 8 that applies, or accepted, with each layer's mask of the layers below it.
 #![tactic(auto)]
 
-ghost use Rattle.std.specs.Prelude.{◌≡◌, not, true, false, map, ℕ, drop, IfOk, IfSome, is_none};
+ghost use Rattle.std.specs.Prelude.{◌≡◌, true, false, map, ℕ, drop, IfOk, IfSome, is_none};
 ghost use Rattle.base.specs.Bounds.{max_layers};
 ghost use Rattle.base.specs.Lists.{all, any};
 ghost use Rattle.layers.specs.Layers.{link, repeats, same_arrow};
 ghost use Rattle.layers.specs.Masks.{marked, LowerMasks};
 ghost use Rattle.format.specs.Book.{records, literals_of, arrow_of, arrow_records, rule_records, arrows_of};
 ghost use Rattle.format.specs.Sections.{has_broken_section};
-ghost use Rattle.book.specs.Causes.{arrow_ok, atom_below, head_ok, rule_ok, is_out_of_range, has_bad_record, repeats_arrow, tests, first_of, verdict, verdict_of};
+ghost use Rattle.book.specs.Causes.{arrow_ok, atom_below, head_ok, rule_ok, is_out_of_range, has_bad_record, tests, first_of, verdict, verdict_of};
 ghost use Rattle.book.specs.Header.{HeaderOf};
 ghost use Rattle.book.specs.Numbers.{number_of};
 ghost use Rattle.std.proofs.Props.{props};

@@ -1,7 +1,7 @@
 // A candidate's bytes: whether they have the form of one record (cause 10), and the state that they give.
 #![tactic(auto)]
 
-ghost use Rattle.std.specs.Prelude.{◌≡◌, ◌/◌, ◌<◌, ◌≤◌, length, take};
+ghost use Rattle.std.specs.Prelude.{◌≡◌, ◌≤◌, length, take};
 ghost use Rattle.base.specs.Bounds.{max_atoms};
 ghost use Rattle.models.specs.Listing.{record_size, bit_at, interpretation_of};
 ghost use Rattle.candidate.specs.Candidate.{is_bad_candidate};
@@ -35,8 +35,8 @@ pub fn read_candidate(candidate: &[u8], n: usize) -> [bool; MAX_ATOMS]
     ensures { take n result ≡ interpretation_of n candidate.now }
 {
     let mut m = [false; MAX_ATOMS];
-    for f in 0..n {
-        m[f] = bit_at(candidate, f);
+    for (f, holds) in m[..n].iter_mut().enumerate() {
+        *holds = bit_at(candidate, f);
     }
     m
 }

@@ -2,7 +2,7 @@
 // Every count and length is compared with what the walk over the records finds before anything uses it.
 #![tactic(auto)]
 
-ghost use Rattle.std.specs.Prelude.{◌≡◌, ◌&&◌, ◌+◌, ◌*◌, ◌≤◌, ◌<◌, eqb, length};
+ghost use Rattle.std.specs.Prelude.{◌≡◌, ◌&&◌, ◌+◌, ◌≤◌, ◌<◌, eqb, length};
 ghost use Rattle.std.specs.Iterator.{YieldsFirst, YieldsFirstBy, item_count};
 ghost use Rattle.format.specs.Book.{u16_at, u32_at, records, meets_end, literal_of, literals_of, is_falsity};
 ghost use Rattle.format.specs.Sections.{whole_section, has_broken_section};
@@ -20,6 +20,7 @@ impl Literal {
     pub fn from_bytes(a: u8, b: u8) -> Literal
         ensures { result ≡ literal_of a b }
     {
+        // Kept: the book's format is read here, where the top bit of the number is the sign.
         let number = usize::from(u16::from_be_bytes([a, b]));
         Literal {
             atom: number % 32768,
@@ -76,6 +77,7 @@ impl<'a> Iterator for Records<'a> {
 }
 
 // The two bytes at an offset as a big-endian number.
+// Kept: the documents give each field by its offset, and a chunk of s[at..] would be an Option that is never None.
 #[tactic(auto, unfolding(crate::specs::Book::u16_at))]
 pub fn be16(s: &[u8], at: usize) -> usize
     requires { at + 2 ≤ length s.now }
@@ -102,6 +104,7 @@ pub fn whole_records(part: &[u8], count: usize) -> bool
 {
     let mut rest = part;
     let mut n: usize = 0;
+    // Kept: the walk ends where a record is cut short, which `Records` does not tell; it counts no index.
     while let Some((len, others)) = rest.split_first() {
         let Some((_, others)) = others.split_at_checked(usize::from(*len)) else {
             return false;
