@@ -62,9 +62,9 @@ module _ {s : List ℕ} {codes : List Code} (h : CompiledTo s codes) (n : ℕ) w
       unfolding condition_tests first_of verdict_if
       unknown_name g = rw (good, shallow, names_are ∙ ap not (sym f ∙ g)) refl
 
-      pub all-ready : b ≡ true → CodedTo s n codes
+      pub none_applies : b ≡ true → CodedTo s n codes
       unfolding condition_tests first_of verdict_if StackFits code_holds fits_text fits_in
-      all-ready g = record {
+      none_applies g = record {
         none = rw (good, shallow, names_are ∙ ap not (sym f ∙ g)) refl;
         stack = omega (arith, ap (peak 1) (h.wrote), stack-low h.reads (omega (arith, e, deepest-depth h.reads)));
         value = λ m. ap (λ (l : List Code). odd (run m l 0)) (h.wrote) ∙ code_value m h.tree ∙ sym (ap (fits_in m) read);

@@ -16,8 +16,8 @@ use Rattle.grammar.specs.Reader.{bracket, NoDigit, Took, name_took}
 use Rattle.grammar.proofs.OneReadingLaws.{first_same, rest-same}
 use Rattle.condition.specs.Outcome.{NameOf, NameRead}
 
-pub no_digits : (s : List ℕ) → Digits 0 (take 0 s) 0
-no_digits s = none 0
+pub no_digits : Digits 0 [] 0
+no_digits = none 0
 
 digits_more : {v w c : ℕ} {t : List ℕ} → Digits v t w → Digit c → Digits v (t ++ (c ∷ [])) (w * 10 + (c - 48))
 digits_more (none v) k = more k (none _)

@@ -52,6 +52,7 @@ fn digit_of(c: u8) -> Option<u16>
 }
 
 // A name of one to four digits: how many, and the fact.
+#[tactic(auto, using(crate::proofs::NameLaws::no_digits, crate::proofs::NameLaws::small_so_far, crate::proofs::NameLaws::next_digit, crate::proofs::NameLaws::fifth_digit))]
 fn read_name(text: &[u8]) -> Option<(usize, u16)>
     ensures { NameRead text.now result }
 {
@@ -95,6 +96,7 @@ impl Reader<'_> {
 
     // Operands of `|`, from the left.
     #[cycle(or_and_bracket)]
+    #[tactic(auto, using(crate::proofs::ReaderLaws::first_operand, crate::proofs::ReaderLaws::next_operand))]
     fn or_level(&mut self) -> Option<()>
         ensures { Outcome (from disjunction nothing) self.old self.new result }
     {
@@ -108,6 +110,7 @@ impl Reader<'_> {
 
     // Operands of `&`, from the left.
     #[cycle(or_and_bracket)]
+    #[tactic(auto, using(crate::proofs::ReaderLaws::first_operand, crate::proofs::ReaderLaws::next_operand))]
     fn and_level(&mut self) -> Option<()>
         ensures { Outcome (from conjunction nothing) self.old self.new result }
     {
@@ -121,6 +124,7 @@ impl Reader<'_> {
 
     // An operand of `&`: a name, a bracket, or either behind `!`.
     #[cycle(or_and_bracket)]
+    #[tactic(auto, using(crate::proofs::ReaderLaws::negated_read, crate::proofs::ReaderLaws::name_read, crate::proofs::ReaderLaws::read_from))]
     fn bracket_level(&mut self) -> Option<()>
         ensures { Outcome bracket self.old self.new result }
     {
@@ -167,6 +171,7 @@ fn bracket_depth(text: &[u8]) -> usize
 
 // A condition's postfix code, or none where the text is empty, over 255 bytes long or outside the grammar. Where more brackets stand open at once
 // than can be shut, nothing is read: this bounds the stack.
+#[tactic(auto, using(crate::proofs::CompileLaws::long_text, crate::proofs::CompileLaws::deep_text, crate::proofs::CompileLaws::no_text, crate::proofs::CompileLaws::whole_or_none))]
 fn compile(text: &[u8]) -> Option<Postfix>
     ensures { Compiles text.now result }
 {
@@ -190,6 +195,7 @@ fn names_below(codes: &[Code], n: usize) -> bool
 }
 
 // Reads a condition over n facts, or says the first of causes 16, 17 and 11 that applies.
+#[tactic(auto, using(crate::proofs::CauseLaws::bad_condition, crate::proofs::CauseLaws::too_deep, crate::proofs::CauseLaws::unknown_name, crate::proofs::CauseLaws::none_applies))]
 pub fn read_condition(text: &[u8], n: usize) -> Result<Postfix, Cause>
     ensures { Prepares text.now n result }
 {
@@ -207,6 +213,7 @@ pub fn read_condition(text: &[u8], n: usize) -> Result<Postfix, Cause>
 }
 
 // Pushes a bit on a stack of bits, the top in the lowest. A number is all the stack that a condition needs: 16 brackets deep, it has at most 36 bits.
+#[tactic(auto, using(crate::proofs::RunLaws::pushed))]
 fn push(stack: u64, bit: bool) -> u64
     requires { 2 * stack + 1 < 2 ^ 64 }
     ensures { result ≡ push stack bit }
@@ -215,6 +222,7 @@ fn push(stack: u64, bit: bool) -> u64
 }
 
 // Runs one code on the stack.
+#[tactic(auto, unfolding(models::specs::StableModels::atom_holds))]
 fn run_code(code: Code, state: &[bool], stack: u64) -> u64
     requires { Fits code stack }
     ensures { result ≡ step state.now code stack }
@@ -230,6 +238,7 @@ fn run_code(code: Code, state: &[bool], stack: u64) -> u64
 }
 
 // The value of a condition in a state, by its code.
+#[tactic(auto, using(crate::proofs::RunLaws::running_start, crate::proofs::RunLaws::running_room, crate::proofs::RunLaws::running_next, crate::proofs::RunLaws::running_end))]
 pub fn evaluate(codes: &[Code], state: &[bool]) -> bool
     requires { StackFits codes.now }
     ensures { result ≡ code_holds codes.now state.now }

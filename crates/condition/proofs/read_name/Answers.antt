@@ -1,32 +1,12 @@
 -- `read_name` meets its contract: the digits go as far as they can, and are four at most (NameLaws).
-use Rattle.condition.proofs.NameLaws.{no_digits, next_digit, small_so_far, fifth_digit, ends_there, ends_before, name_or_none}
+use Rattle.condition.proofs.NameLaws.{fifth_digit, ends_there, ends_before, name_or_none}
 use native.Mathlib.Omega.{arith}
 use Rattle.condition.proofs.read_name.Goals as goal
 use Rattle.condition.proofs.read_name.Goals.{else-loop-c-test, then-loop-c-test+in_default}
 
-pub loop-c-init : goal.loop-c-init
-loop-c-init c =
-    record { all = omega arith; few = omega arith; number = no_digits c.args.text.now }
-
 pub returns-then-digits-eq-MAX_DIGITS : goal.returns-then-digits-eq-MAX_DIGITS
 returns-then-digits-eq-MAX_DIGITS c =
     fifth_digit c.args.text.now c.in-Some.d c.loop-c.invariant.number c.loop-c.invariant.all (omega arith) c.in-Some.ensures c.if-digits-eq-MAX_DIGITS.true
-
-pub overflow_mul-fact : goal.overflow_mul-fact
-overflow_mul-fact c =
-    omega (arith, small_so_far c.args.text.now c.loop-c.invariant.number c.loop-c.invariant.few c.if-digits-eq-MAX_DIGITS.false)
-
-pub overflow_add-fact : goal.overflow_add-fact
-overflow_add-fact c =
-    omega (arith, small_so_far c.args.text.now c.loop-c.invariant.number c.loop-c.invariant.few c.if-digits-eq-MAX_DIGITS.false, c.in-Some.ensures)
-
-pub loop-c-preserved : goal.loop-c-preserved
-loop-c-preserved c =
-    record {
-      all = omega (arith, c.loop-c.invariant.all);
-      few = omega (arith, c.loop-c.invariant.few, c.if-digits-eq-MAX_DIGITS.false);
-      number = next_digit c.args.text.now c.in-Some.d c.loop-c.invariant.number c.loop-c.invariant.all (omega arith) c.in-Some.ensures;
-    }
 
 pub returns : goal.returns
 returns c =
