@@ -14,7 +14,7 @@ use Rattle.std.specs.Bool.{then_some}
 use Rattle.condition.specs.declared.Code.{Code}
 use Rattle.condition.specs.declared.Code.TheVariants as code
 use Rattle.condition.specs.declared.Reader.{Reader}
-use Rattle.condition.specs.Code.{postfix}
+use Rattle.condition.specs.Code.{code_of, postfix}
 use Rattle.condition.specs.Outcome.{NameOf}
 use Rattle.condition.specs.Readers.{Passes, Written, Outcome}
 
@@ -36,11 +36,6 @@ pub outcome_from : (k : Task) {old mid : Reader} (new : Reader) (r : Option (Uni
 outcome_from k new r e h = subst (λ (x : Reader). Outcome k x new r) e h
 
 -- ---- operands
--- an operator in postfix code
-abbrev code_of : Operator → Code
-code_of disjunction = code.Or
-code_of conjunction = code.And
-
 -- the condition so far, of the operands that were passed
 pub record Operands (o : Operator) (old new : Reader) : Type 0 where
   pub tree : Condition

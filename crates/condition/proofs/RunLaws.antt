@@ -1,4 +1,5 @@
--- Running postfix code on a stack of bits comes to the condition's value. Used by `run_code`, `evaluate` and `read_condition`. Assumes nothing.
+-- Running postfix code on a stack of bits comes to the condition's value. Used by `push`, `evaluate` and `read_condition`.
+-- Assumes nothing.
 use mathlib.Core.Path.{◌≡◌, refl, sym, ap, ap₂, subst, ◌∙◌}
 use mathlib.Core.Bool.{Bool, true, false, not, ◌&&◌, ◌||◌}
 use mathlib.Core.List.{List, [], ◌∷◌, ◌++◌, append_assoc, append-nil}

@@ -5,8 +5,14 @@ use Rattle.std.specs.List.{list_all}
 use Rattle.models.specs.StableModels.{Interpretation, atom_holds}
 use Rattle.models.specs.Listing.{bit_value}
 use Rattle.grammar.specs.Conditions.{Condition, Atom, Not, And, Or, Bracket, opening, closing}
+use Rattle.grammar.specs.Reader.{Operator, disjunction, conjunction}
 use Rattle.condition.specs.declared.Code.{Code}
 use Rattle.condition.specs.declared.Code.TheVariants as code
+
+-- the code of an operator that stands between operands
+abbrev pub code_of : Operator → Code
+code_of conjunction = code.And
+code_of disjunction = code.Or
 
 -- operands first, then the operator
 unfoldable pub postfix : Condition → List Code

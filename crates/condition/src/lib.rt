@@ -169,8 +169,8 @@ fn bracket_depth(text: &[u8]) -> usize
     most
 }
 
-// A condition's postfix code, or none where the text is empty, over 255 bytes long or outside the grammar. Where more brackets stand open at once
-// than can be shut, nothing is read: this bounds the stack.
+// A condition's postfix code, or none where the text is empty, over 255 bytes long or outside the grammar. Where more brackets stand open
+// at once than can be shut, nothing is read: this bounds the stack.
 #[tactic(auto, using(crate::proofs::CompileLaws::long_text, crate::proofs::CompileLaws::deep_text, crate::proofs::CompileLaws::no_text, crate::proofs::CompileLaws::whole_or_none))]
 fn compile(text: &[u8]) -> Option<Postfix>
     ensures { Compiles text.now result }
@@ -212,7 +212,8 @@ pub fn read_condition(text: &[u8], n: usize) -> Result<Postfix, Cause>
     }
 }
 
-// Pushes a bit on a stack of bits, the top in the lowest. A number is all the stack that a condition needs: 16 brackets deep, it has at most 36 bits.
+// Pushes a bit on a stack of bits, the top in the lowest. A number is all the stack that a condition needs: 16 brackets deep, it has at
+// most 36 bits.
 #[tactic(auto, using(crate::proofs::RunLaws::pushed))]
 fn push(stack: u64, bit: bool) -> u64
     requires { 2 * stack + 1 < 2 ^ 64 }

@@ -1,4 +1,5 @@
--- A relation between at most `max_layers` layers as masks, as the code keeps it: bit j of mask i is set where i is related to j. Assumes nothing.
+-- A relation between at most `max_layers` layers as masks, as the code keeps it: bit j of mask i is set where i is related to j.
+-- Assumes nothing.
 use Rattle.std.specs.Prelude.{◌≡◌, Bool, List, ℕ, ◌/◌, ◌%◌, ◌^◌, ◌<◌, T, eqb, get_or}
 use Rattle.base.specs.Bounds.{max_layers}
 use Rattle.layers.specs.Layers.{Arrow, below}
