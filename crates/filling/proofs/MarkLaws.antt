@@ -6,17 +6,18 @@ use mathlib.Core.Path.{◌≡◌, refl, sym, ap, subst, ◌∙◌}
 use mathlib.Core.Bool.{Bool, true, false, not, ◌&&◌, cond}
 use mathlib.Core.Logic.{◌⊎◌, inl, inr}
 use mathlib.Core.List.{List, [], ◌∷◌}
-use Prim.Native.Nat.{ℕ, zero, suc, ◌+◌, ◌*◌, ◌-◌, ◌/◌, ◌<◌, ◌≤◌}
+use Rattle.std.proofs.lemmas.List.{drop_min}
+use Prim.Native.Nat.{ℕ, zero, suc, ◌+◌, ◌*◌, ◌-◌, min, ◌<◌, ◌≤◌}
 use native.Mathlib.Decide.{ℕ_discrete}
 use native.Mathlib.Omega.{arith}
 use borrow.Author.Tests.{not-true}
 use lib.Dec.{T}
-use lib.ListN.{length, get_or, set, replicate, get_or-eq_default}
+use lib.ListN.{length, get_or, set, drop, replicate, get_or-eq_default}
 use lib.Seq.{get_or-set_same, get_or-set_other}
 use Rattle.base.specs.Bounds.{max_atoms}
 use Rattle.base.specs.Lists.{all}
 use Rattle.base.proofs.MapLaws.{constant_at}
-use Rattle.format.specs.Book.{Literal, literal_of, literals_of}
+use Rattle.format.specs.Book.{Literal, literals_of}
 use Rattle.models.specs.StableModels.{atom_holds, complement}
 use Rattle.table.specs.Names.{literal_named}
 use Rattle.table.specs.Rows.{row_count, head_name, row_body, row_at, alive}
@@ -96,19 +97,25 @@ pub adds_row : (p q : List Bool) (book : List ℕ) (rows : List Row) (rejects : 
 unfolding adds row_at
 adds_row p q book rows rejects j = refl
 
--- a literal of the bytes that fails a test, by its number
+-- the literals of the bytes from a number on
+literals_drop : (s : List ℕ) (i : ℕ) → literals_of (drop (2 * i) s) ≡ drop i (literals_of s)
+unfolding literals_of
+literals_drop s zero = refl
+literals_drop [] (suc i) = let two : 2 * suc i ≡ suc (suc (2 * i)) = omega arith in rw two refl
+literals_drop (a ∷ []) (suc i) = let two : 2 * suc i ≡ suc (suc (2 * i)) = omega arith in rw two refl
+literals_drop (a ∷ b ∷ s) (suc i) = let two : 2 * suc i ≡ suc (suc (2 * i)) = omega arith in rw two (literals_drop s i)
+
+pub literals_start : (s : List ℕ) (i : ℕ) → literals_of (drop (min (2 * i) (length s)) s) ≡ drop i (literals_of s)
+literals_start s i = ap literals_of (drop_min (2 * i) s) ∙ literals_drop s i
+
+-- one of them fails a test
 and-off : (c d : Bool) → false ≡ d → false ≡ (c && d)
 and-off true d e = e
 and-off false d e = refl
 
-pub literal_fails : (t : Literal → Bool) (s : List ℕ) (i : ℕ) → i < length s / 2 → (r : Bool) → r ≡ t (literal_of (get_or s (2 * i) 0) (get_or s (2 * i + 1) 0)) → not r ≡ true → false ≡ all t (literals_of s)
-unfolding literals_of all
-literal_fails t [] i h r e n = absurd (omega arith)
-literal_fails t (a ∷ []) i h r e n = absurd (omega arith)
-literal_fails t (a ∷ b ∷ s) zero h r e n = ap (λ (x : Bool). x && all t (literals_of s)) (sym (not-true r n) ∙ e)
-literal_fails t (a ∷ b ∷ s) (suc i) h r e n =
-    let two : 2 * suc i ≡ suc (suc (2 * i)) = omega arith in
-    let three : 2 * suc i + 1 ≡ suc (suc (2 * i + 1)) = omega arith in
-    and-off (t (literal_of a b)) (all t (literals_of s))
-    (literal_fails t s i (omega arith) r
-    (e ∙ ap (λ (x : ℕ). t (literal_of (get_or (a ∷ b ∷ s) x 0) (get_or (a ∷ b ∷ s) (2 * suc i + 1) 0))) two ∙ ap (λ (x : ℕ). t (literal_of (get_or s (2 * i) 0) (get_or (a ∷ b ∷ s) x 0))) three) n)
+pub one_fails : (t : Literal → Bool) (ls : List Literal) (i : ℕ) {l : Literal} {rest : List Literal} → drop i ls ≡ l ∷ rest → not (t l) ≡ true → false ≡ all t ls
+unfolding all
+one_fails t [] zero e n = absurd (cc)
+one_fails t [] (suc i) e n = absurd (cc)
+one_fails t (x ∷ ls) zero e n = grind (arith, not-true)
+one_fails t (x ∷ ls) (suc i) e n = and-off (t x) (all t ls) (one_fails t ls i e n)

@@ -60,12 +60,8 @@ impl Hints {
     }
 
     // The number of the literal that a row watches.
-    pub(crate) fn watched(&self, j: usize) -> usize {
-        if j < MAX_RULES {
-            self.watched[j] as usize
-        } else {
-            0
-        }
+    pub(crate) fn watched(&self, j: usize) -> u16 {
+        self.watched.get(j).copied().unwrap_or(0)
     }
 
     // The rows of the trail, in the order in which they added their heads.

@@ -4,7 +4,7 @@
 // `hints` is what one filling leaves for the next. Nothing rests on it but speed, so no contract speaks of it.
 #![tactic(auto)]
 
-ghost use Rattle.std.specs.Prelude.{IfSome, ◌/◌, ◌≡◌, false, ◌<◌, ◌≤◌, length, replicate};
+ghost use Rattle.std.specs.Prelude.{IfSome, ◌/◌, ◌≡◌, false, ◌<◌, ◌≤◌, length, drop, replicate};
 ghost use Rattle.std.specs.Result.{is_err};
 ghost use Rattle.base.specs.Bounds.{max_names, max_rules};
 ghost use Rattle.base.specs.Lists.{all};
@@ -61,42 +61,38 @@ impl Marks<'_> {
     }
 
     // Whether every literal of a body's bytes is marked. The one numbered `watch` is tried first.
-    fn body(&self, body: &[u8], watch: usize) -> bool
+    fn body(&self, body: &[u8], watch: u16) -> bool
         ensures { result ≡ all (literal_marked self.now.positive.now self.now.negative.now) (literals_of body.now) }
     {
-        if watch < body.len() / 2
-            && !self.literal(Literal::from_bytes(body[2 * watch], body[2 * watch + 1]))
+        if let Some(l) = literals_from(body, watch).next()
+            && !self.literal(l)
         {
             return false;
         }
         Literals(body).all(|l| self.literal(l))
     }
 
-    // The number of a literal of a body's bytes that is not marked, of those numbered from `from` up to `to`.
-    fn unmarked_between(&self, body: &[u8], from: usize, to: usize) -> Option<usize>
-        requires { to ≤ length body.now / 2 }
-        ensures { IfSome result (λ i. i < length body.now / 2) }
-    {
-        for i in from..to {
-            if !self.literal(Literal::from_bytes(body[2 * i], body[2 * i + 1])) {
-                return Some(i);
-            }
+    // A literal of a body's bytes that is not marked, with its number. It is looked for from the one numbered `watch` on and then from the
+    // first on.
+    fn unmarked(&self, body: &[u8], watch: u16) -> Option<(usize, Literal)> {
+        let from = usize::from(watch);
+        let mut late = literals_from(body, watch).enumerate();
+        if let Some((i, l)) = late.find(|(_, l)| !self.literal(*l)) {
+            return Some((from.saturating_add(i), l));
         }
-        None
+        let mut early = Literals(body).enumerate().take(from);
+        early.find(|(_, l)| !self.literal(*l))
     }
+}
 
-    // The number of a literal of a body's bytes that is not marked, looked for from the one numbered `watch` on and then from the first
-    // on.
-    fn unmarked(&self, body: &[u8], watch: usize) -> Option<usize>
-        ensures { IfSome result (λ i. i < length body.now / 2) }
-    {
-        let count = body.len() / 2;
-        let from = watch.min(count);
-        match self.unmarked_between(body, from, count) {
-            Some(i) => Some(i),
-            None => self.unmarked_between(body, 0, from),
-        }
-    }
+// The literals of a body's bytes from a number on.
+#[tactic(auto, using(crate::proofs::MarkLaws::literals_start))]
+fn literals_from(body: &[u8], from: u16) -> Literals<'_>
+    ensures { literals_of result.0.now ≡ drop from (literals_of body.now) }
+{
+    let at = 2 * usize::from(from);
+    let (_, rest) = body.split_at(at.min(body.len()));
+    Literals(rest)
 }
 
 // A fact is reached both ways.
@@ -152,15 +148,11 @@ impl RuleRow<'_> {
     // Lets it wait for a literal of its body that is not marked, and says whether there is one. It is looked for from the one on that the
     // row watches, which stays from filling to filling: what kept a row from adding its head at one setting often does at the next.
     fn wait(&self, marks: &Marks, hints: &mut Hints) -> bool {
-        let body = self.row.body();
-        match marks.unmarked(body, hints.watched(self.row.j)) {
-            Some(i) => {
-                let name = waiting_name(Literal::from_bytes(body[2 * i], body[2 * i + 1]));
-                hints.wait(self.row.j, i, name);
-                true
-            }
-            None => false,
+        let unmarked = marks.unmarked(self.row.body(), hints.watched(self.row.j));
+        if let Some((i, l)) = unmarked {
+            hints.wait(self.row.j, i, waiting_name(l));
         }
+        unmarked.is_some()
     }
 
     // Tries it where it may still add its head: adds that, or lets the row wait. Says whether the head was added.
