@@ -12,8 +12,8 @@ use Rattle.format.specs.Book.{Literal, literals_of, is_constraint}
 use Rattle.table.specs.declared.Span.{Span}
 use Rattle.table.specs.declared.TheConstants.{NO_SPAN}
 use Rattle.table.specs.Rows.{SpanFits, span_bytes, takes_constraint}
-use Rattle.table.specs.Records.{Gathered, BodyOf}
-use Rattle.table.proofs.WalkLaws.{rules_from, stand_values, stand_fits}
+use Rattle.table.specs.Records.{Gathered, BodyOf, rules_from}
+use Rattle.table.proofs.WalkLaws.{stand_values, stand_fits}
 use Rattle.bans.specs.Bans.{body_of, bodies_of, BansFit, BansMade}
 
 -- each lies in the book, at whatever default it is read

@@ -2,11 +2,11 @@
 // whether some body holds in a finished state.
 #![tactic(auto)]
 
-ghost use Rattle.std.specs.Prelude.{◌≡◌, map, drop};
+ghost use Rattle.std.specs.Prelude.{◌≡◌, map};
 ghost use Rattle.std.proofs.Props.{props};
 ghost use Rattle.base.specs.Lists.{all, any, filter};
-ghost use Rattle.format.specs.Book.{rule_of, records};
 ghost use Rattle.models.specs.StableModels.{holds};
+ghost use Rattle.table.specs.Records.{rules_from};
 ghost use Rattle.table.specs.Rows.{takes_constraint};
 ghost use Rattle.table.specs.Table.{program_of};
 ghost use Rattle.bans.specs.Bans.{bodies_of, BansFit, BansMade};
@@ -40,7 +40,7 @@ pub fn make_bans<'r, 'a: 'r>(
     mask: u32,
     bans: &'r mut [Span; MAX_RULES],
 ) -> Bans<'r>
-    ensures made { BansMade (map (λ x. x.body) (filter (takes_constraint mask) (map rule_of (records (drop rules.entry.first rules.entry.book.now))))) rules.entry.book.now result.spans.now }
+    ensures made { BansMade (map (λ x. x.body) (filter (takes_constraint mask) (rules_from rules.entry.book.now rules.entry.first))) rules.entry.book.now result.spans.now }
     ensures book_is { result.book ≡ rules.entry.book }
 {
     Bans {

@@ -26,6 +26,7 @@ use Rattle.models.proofs.LeastLaws.{literal_same, literal_refl}
 use Rattle.models.proofs.SelfLeaningLaws.{overrides-asks, overrides_of}
 use Rattle.table.specs.Names.{literal_named}
 use Rattle.table.specs.declared.Row.{Row}
+use Rattle.table.specs.Records.{rules_from}
 use Rattle.table.specs.Rows.{row_count, head_name, row_layer, overridden, row_at, rows_of, in_mask, takes_rule, takes_constraint, RowsFit, SameRules}
 use Rattle.table.specs.Overriding.{OpposedAt, Overridden}
 use Rattle.table.specs.Table.{program_of, Prepared, layer_counts, RelevantLayers, RowsMade, Tabulates, TableMade}
@@ -89,20 +90,20 @@ module _ (book : List ℕ) (first : ℕ) (lower : List ℕ) (w : Prepared book f
       (λ t. w.lower_sound r.layer layer h (eqb→eq (bit_of (get_or lower layer 0) r.layer) 1 t))
       (λ t. subst (λ (x : ℕ). T (eqb x 1)) (sym (w.lower_full r.layer layer (rule_low r k) h t)) tt))
 
-  rules-relevant : filter (takes_rule mask) (map rule_of (records (drop first book))) ≡ (program_of book layer off).rules
+  rules-relevant : filter (takes_rule mask) (rules_from book first) ≡ (program_of book layer off).rules
   unfolding program_at takes_rule
   rules-relevant =
       ap (filter (takes_rule mask)) (sym w.rules_are)
       ∙ filter-within (takes_rule mask) (λ r. relevant (book_of book) layer off r && not (is_constraint r)) (book_of book).rules (λ r k. ap (λ (c : Bool). c && not (is_constraint r)) (mask-relevant r k))
 
-  pub constraints-relevant : map (λ r. r.body) (filter (takes_constraint mask) (map rule_of (records (drop first book)))) ≡ (program_of book layer off).constraints
+  pub constraints-relevant : map (λ r. r.body) (filter (takes_constraint mask) (rules_from book first)) ≡ (program_of book layer off).constraints
   unfolding program_at takes_constraint
   constraints-relevant =
       ap (λ (rs : List Rule). map (λ r. r.body) (filter (takes_constraint mask) rs)) (sym w.rules_are)
       ∙ ap (map (λ r. r.body))
       (filter-within (takes_constraint mask) (λ r. relevant (book_of book) layer off r && is_constraint r) (book_of book).rules (λ r k. ap (λ (c : Bool). c && is_constraint r) (mask-relevant r k)))
 
-  module _ (rows : List Row) (fits : RowsFit book rows) (rs : rows_of book rows ≡ filter (takes_rule mask) (map rule_of (records (drop first book))))
+  module _ (rows : List Row) (fits : RowsFit book rows) (rs : rows_of book rows ≡ filter (takes_rule mask) (rules_from book first))
       (un : Overridden book rows lower rows (row_count rows)) where
     row-full : (j : ℕ) → j < row_count rows → (x : ℕ) → x < row_count rows → T (overrides (program_of book layer off) (row_at book rows j) (row_at book rows x)) → bit_of (overridden rows j) (row_at book rows x).layer ≡ 1
     unfolding row_at program_at

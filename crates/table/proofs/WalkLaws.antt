@@ -1,5 +1,5 @@
--- The rows are made in one walk over the rules' records by length byte: what the record at an offset gives, what the walk keeps,
--- and that it ends with the rows of the rules that pass the mask. Used by make_rows. Assumes nothing.
+-- The rules' section, record by record: what the record at an offset gives, what the walk over the section keeps, and that it ends with the entries
+-- of the rules that pass the mask. Used by the section's iterator and by gather. Assumes nothing.
 use mathlib.Core.Path.{◌≡◌, refl, sym, ap, ap₂, subst, ◌∙◌}
 use mathlib.Core.Bool.{Bool, true, false, not, ◌&&◌, false≢true}
 use mathlib.Core.List.Memᴰ
@@ -9,17 +9,17 @@ use native.Mathlib.Decide.{dec_lt}
 use native.Mathlib.Omega.{arith}
 use lib.ListN.{length, get_or, set, length-set, take, drop, length-take}
 use lib.Seq.{get_or-take, get_or-drop, drop-drop, take-nil}
-use Rattle.std.proofs.lemmas.List.{take_more_set, map-id}
+use Rattle.std.proofs.lemmas.List.{take_more_set, map-id, length-map}
 use Rattle.base.specs.Bounds.{max_atoms, max_names, max_layers, max_rules}
 use Rattle.base.specs.Lists.{cons_if, filter}
-use Rattle.format.specs.Book.{Literal, Rule, literal_of, literals_of, rule_of, is_constraint, records, meets_end, record_end}
+use Rattle.format.specs.Book.{Literal, Rule, literal_of, literals_of, rule_of, is_constraint, records, record_end}
 use Rattle.base.proofs.Members.{◌∈◌}
 use Rattle.format.proofs.Offsets.{records_cut, records_done, meets_fails, meets_more, count-more}
 use Rattle.table.specs.Names.{literal_named}
 use Rattle.table.specs.declared.Row.{Row}
 use Rattle.table.specs.declared.TheConstants.{NO_ROW}
 use Rattle.table.specs.Rows.{row_rule, rows_of, in_mask, takes_rule, RowFits}
-use Rattle.table.specs.Records.{head_at, rule_at, RuleAt, Stand, Gathered, RowOf, BodyOf}
+use Rattle.table.specs.Records.{head_at, rule_at, RuleAt, rules_from, Stand, Gathered, RowOf, BodyOf}
 use Rattle.table.specs.declared.Span.{Span}
 use Rattle.table.specs.Table.{RuleRecord, RuleRecords, RowsMade}
 
@@ -47,19 +47,12 @@ rule_here s at k =
     byte i j a e = get_or-take (get_or s at 0) (drop (at + 1) s) i 0 (omega arith) ∙ get_or-drop (at + 1) s i 0 ∙ ap (λ (n : ℕ). get_or s n 0) e
 
 -- what the record at an offset gives
-pub record RecordAt (s : List ℕ) (at : ℕ) : Type 0 where
-  pub here : RuleAt s at
-  pub count : length (records (drop at s)) ≡ 1 + length (records (drop (at + 1 + get_or s at 0) s))
-  pub whole : meets_end (drop (at + 1 + get_or s at 0) s) ≡ true
-  pub each : (r : List ℕ) → r ∈ records (drop (at + 1 + get_or s at 0) s) → RuleRecord r
-  pub rules : (p : Rule → Bool) → filter p (map rule_of (records (drop at s))) ≡ cons_if (p (rule_at s at)) (rule_at s at) (filter p (map rule_of (records (drop (at + 1 + get_or s at 0) s))))
-
-module _ (s : List ℕ) (at : ℕ) (h : at < length s) (w : meets_end (drop at s) ≡ true) (every : (r : List ℕ) → r ∈ records (drop at s) → RuleRecord r) where
+module _ (s : List ℕ) (at : ℕ) (h : at < length s) (w : RuleRecords (drop at s)) where
   room : get_or s at 0 ≤ length s - (at + 1)
   room = go (dec_lt (length s - (at + 1)) (get_or s at 0))
     where
       go : Dec (length s - (at + 1) < get_or s at 0) → get_or s at 0 ≤ length s - (at + 1)
-      go (yes b) = absurd (false≢true (sym (meets_fails s at h b) ∙ w))
+      go (yes b) = absurd (false≢true (sym (meets_fails s at h b) ∙ w.whole))
       go (no b) = omega arith
 
   end_is : record_end s at ≡ at + 1 + get_or s at 0
@@ -73,35 +66,32 @@ module _ (s : List ℕ) (at : ℕ) (h : at < length s) (w : meets_end (drop at s
       ∙ ap (λ (k : ℕ). take k (drop (at + 1) s) ∷ records (drop (at + 1 + get_or s at 0) s)) {x = at + 1 + get_or s at 0 - (at + 1)} {y = get_or s at 0} (omega arith)
 
   first_record : RuleRecord (take (get_or s at 0) (drop (at + 1) s))
-  first_record = every (take (get_or s at 0) (drop (at + 1) s)) (subst (λ (rs : List (List ℕ)). take (get_or s at 0) (drop (at + 1) s) ∈ rs) (sym split) (Memᴰ.head refl))
+  first_record = w.each (take (get_or s at 0) (drop (at + 1) s)) (subst (λ (rs : List (List ℕ)). take (get_or s at 0) (drop (at + 1) s) ∈ rs) (sym split) (Memᴰ.head refl))
 
   size : 3 ≤ get_or s at 0
   size = omega (arith, first_record.long, length-take (get_or s at 0) (drop (at + 1) s))
 
-  pub record_at_lem : RecordAt s at
-  unfolding filter rule_at is_constraint
-  record_at_lem = record {
-    here = record {
-      long = size;
-      ends = omega (arith, room);
-      layer_low = subst (λ (r : Rule). r.layer < max_layers) (rule_here s at size) first_record.layer_low;
-      atom_low = λ e. subst (λ (r : Rule). r.head.atom < max_atoms) (rule_here s at size) (first_record.atom_low (ap is_constraint (rule_here s at size) ∙ e));
-    };
-    count = count-more s at h;
-    whole = sym (meets_more s at h room) ∙ w;
-    each = λ r k. every r (subst (λ (rs : List (List ℕ)). r ∈ rs) (sym split) (Memᴰ.tail k));
-    rules = λ p.
-        ap (λ (rs : List (List ℕ)). filter p (map rule_of rs)) split
-        ∙ ap (λ (r : Rule). cons_if (p r) r (filter p (map rule_of (records (drop (at + 1 + get_or s at 0) s))))) (rule_here s at size);
+  pub record_here : RuleAt s at
+  unfolding rule_at is_constraint
+  record_here = record {
+    long = size;
+    ends = omega (arith, room);
+    layer_low = subst (λ (r : Rule). r.layer < max_layers) (rule_here s at size) first_record.layer_low;
+    atom_low = λ e. subst (λ (r : Rule). r.head.atom < max_atoms) (rule_here s at size) (first_record.atom_low (ap is_constraint (rule_here s at size) ∙ e));
   }
 
--- the rules of the records from an offset on
-abbrev pub rules_from : List ℕ → ℕ → List Rule
-rules_from s at = map rule_of (records (drop at s))
+  pub records_left : RuleRecords (drop (at + 1 + get_or s at 0) s)
+  records_left = record {
+    whole = sym (meets_more s at h room) ∙ w.whole;
+    few = omega (arith, w.few, count-more s at h);
+    each = λ r k. w.each r (subst (λ (rs : List (List ℕ)). r ∈ rs) (sym split) (Memᴰ.tail k));
+  }
 
-rules_end : (p : Rule → Bool) (s : List ℕ) (at : ℕ) → length s ≤ at → filter p (rules_from s at) ≡ []
-unfolding filter
-rules_end p s at h = ap (λ (rs : List (List ℕ)). filter p (map rule_of rs)) (records_done s at h)
+  pub rules_left : rules_from s at ≡ rule_at s at ∷ rules_from s (at + 1 + get_or s at 0)
+  rules_left = ap (map rule_of) split ∙ ap (λ (r : Rule). r ∷ rules_from s (at + 1 + get_or s at 0)) (rule_here s at size)
+
+pub no_rules_left : (s : List ℕ) (at : ℕ) → length s ≤ at → rules_from s at ≡ []
+no_rules_left s at h = ap (map rule_of) (records_done s at h)
 
 -- ---- the walk
 stand_more : {E : Type 0} (stands : E → Rule → Type 0) (es : List E) (rs : List Rule) (e : E) (r : Rule) → Stand stands es rs → stands e r → Stand stands (es ++ (e ∷ [])) (rs ++ (r ∷ []))
@@ -114,82 +104,64 @@ module _ {E : Type 0} (takes : Rule → Bool) (stands : List ℕ → E → Rule 
   abbrev pub counts : Rule → Bool
   counts r = in_mask mask r && takes r
 
-  -- it has come to an offset, with k entries written, which stand for the rules passed that count
-  pub record WalkedTo (out : List E) (k at : ℕ) : Type 0 where
-    pub within : at ≤ length book
-    pub whole : meets_end (drop at book) ≡ true
-    pub room : k + length (records (drop at book)) ≤ max_rules
-    pub each : (r : List ℕ) → r ∈ records (drop at book) → RuleRecord r
+  -- these rules are left, with k entries written, which stand for the rules passed that count
+  pub record WalkedTo (out : List E) (k : ℕ) (left : List Rule) : Type 0 where
+    pub room : k + length left ≤ max_rules
     pub size : length out ≡ max_rules
     pub done : List Rule
-    pub made : done ++ filter counts (rules_from book at) ≡ filter counts (rules_from book first)
+    pub made : done ++ filter counts left ≡ filter counts (rules_from book first)
     pub entries : Stand (stands book) (take k out) done
 
-  pub walk_start : (out : List E) → length out ≡ max_rules → RuleRecords (drop first book) → first ≤ length book → WalkedTo out 0 first
-  walk_start out e w h = record {
-    within = h;
-    whole = w.whole;
-    room = omega (arith, w.few);
-    each = w.each;
+  pub walk_start : (out : List E) → length out ≡ max_rules → RuleRecords (drop first book) → WalkedTo out 0 (rules_from book first)
+  walk_start out e w = record {
+    room = omega (arith, w.few, length-map (records (drop first book)) rule_of);
     size = e;
     done = [];
     made = refl;
     entries = tt;
   }
 
-  module _ {out : List E} {k at : ℕ} (w : WalkedTo out k at) where
-    module _ (h : at < length book) where
-      record_at : RecordAt book at
-      record_at = record_at_lem book at h w.whole w.each
+  module _ {out : List E} {k : ℕ} {r : Rule} {all left : List Rule} (at : WalkedTo out k all) (e : all ≡ r ∷ left) where
+    w : WalkedTo out k (r ∷ left)
+    w = subst (WalkedTo out k) e at
 
-      pub here : RuleAt book at
-      here = record_at.here
+    -- there is room for one more
+    pub free : k < max_rules
+    free = omega (arith, w.room)
 
-      -- there is room for one more
-      pub free : k < max_rules
-      free = omega (arith, w.room, record_at.count)
-
-      later : List Rule
-      later = filter counts (rules_from book (at + 1 + get_or book at 0))
-
-      pub walk_skip : counts (rule_at book at) ≡ false → WalkedTo out k (at + 1 + get_or book at 0)
-      unfolding cons_if later
-      walk_skip n = record {
-        within = here.ends;
-        whole = record_at.whole;
-        room = omega (arith, w.room, record_at.count);
-        each = record_at.each;
-        size = w.size;
-        done = w.done;
-        made = ap (λ (x : List Rule). w.done ++ x) (sym (record_at.rules counts ∙ ap (λ (c : Bool). cons_if c (rule_at book at) later) n)) ∙ w.made;
-        entries = w.entries;
-      }
-
-      pub walk_more : (e : E) → stands book e (rule_at book at) → counts (rule_at book at) ≡ true → WalkedTo (set out k e) (k + 1) (at + 1 + get_or book at 0)
-      unfolding cons_if later
-      walk_more e es t = record {
-        within = here.ends;
-        whole = record_at.whole;
-        room = omega (arith, w.room, record_at.count);
-        each = record_at.each;
-        size = length-set out k e ∙ w.size;
-        done = w.done ++ (rule_at book at ∷ []);
-        made =
-            append_assoc w.done (rule_at book at ∷ []) later
-            ∙ ap (λ (x : List Rule). w.done ++ x) (sym (record_at.rules counts ∙ ap (λ (c : Bool). cons_if c (rule_at book at) later) t))
-            ∙ w.made;
-        entries =
-            subst (λ (xs : List E). Stand (stands book) xs (w.done ++ (rule_at book at ∷ []))) (sym (take_more_set out k e (omega (arith, w.size, free))))
-            (stand_more (stands book) (take k out) w.done e (rule_at book at) w.entries es);
-      }
-
-    pub walk_end : length book ≤ at → Gathered takes stands book first mask (take k out)
-    walk_end h = record {
-      room = omega (arith, w.room, length-take k out);
-      entries =
-          subst (Stand (stands book) (take k out))
-          (sym (append-nil w.done) ∙ ap (λ (x : List Rule). w.done ++ x) (sym (rules_end counts book at h)) ∙ w.made) w.entries;
+    pub walk_skip : counts r ≡ false → WalkedTo out k left
+    unfolding filter cons_if
+    walk_skip n = record {
+      room = omega (arith, w.room);
+      size = w.size;
+      done = w.done;
+      made = ap (λ (c : Bool). w.done ++ cons_if c r (filter counts left)) (sym n) ∙ w.made;
+      entries = w.entries;
     }
+
+    pub walk_more : (entry : E) → stands book entry r → counts r ≡ true → WalkedTo (set out k entry) (k + 1) left
+    unfolding filter cons_if
+    walk_more entry es t = record {
+      room = omega (arith, w.room);
+      size = length-set out k entry ∙ w.size;
+      done = w.done ++ (r ∷ []);
+      made =
+          append_assoc w.done (r ∷ []) (filter counts left)
+          ∙ ap (λ (c : Bool). w.done ++ cons_if c r (filter counts left)) (sym t)
+          ∙ w.made;
+      entries =
+          subst (λ (xs : List E). Stand (stands book) xs (w.done ++ (r ∷ []))) (sym (take_more_set out k entry (omega (arith, w.size, free))))
+          (stand_more (stands book) (take k out) w.done entry r w.entries es);
+    }
+
+  pub walk_end : {out : List E} {k : ℕ} {all : List Rule} → WalkedTo out k all → all ≡ [] → Gathered takes stands book first mask (take k out)
+  unfolding filter
+  walk_end {out} {k} at e =
+      let w : WalkedTo out k [] = subst (WalkedTo out k) e at in
+      record {
+        room = omega (arith, w.room, length-take k out);
+        entries = subst (Stand (stands book) (take k out)) (sym (append-nil w.done) ∙ w.made) w.entries;
+      }
 
 -- ---- what the entries say: their values are those of the rules, and each of them fits
 module _ {E V : Type 0} (value : E → V) (of_rule : Rule → V) (fits : E → Type 0) where

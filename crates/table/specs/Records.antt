@@ -21,6 +21,10 @@ pub record RuleAt (s : List ℕ) (at : ℕ) : Type 0 where
   pub layer_low : get_or s (at + 1) 0 < max_layers
   pub atom_low : is_falsity (head_at s at) ≡ false → (head_at s at).atom < max_atoms
 
+-- the rules of the records from an offset on
+abbrev pub rules_from : List ℕ → ℕ → List Rule
+rules_from s at = map rule_of (records (drop at s))
+
 -- an entry that stands for the rule, where the rule is taken
 abbrev pub Gives : {E : Type 0} → Bool → (E → Type 0) → Option E → Type 0
 Gives taken stands None = taken ≡ false
@@ -36,7 +40,7 @@ Stand stands (e ∷ es) (r ∷ rs) = stands e r × Stand stands es rs
 -- the entries stand for the rules that pass the mask and are taken, in order
 pub record Gathered {E : Type 0} (takes : Rule → Bool) (stands : List ℕ → E → Rule → Type 0) (book : List ℕ) (first mask : ℕ) (out : List E) : Type 0 where
   pub room : length out ≤ max_rules
-  pub entries : Stand (stands book) out (filter (λ r. in_mask mask r && takes r) (map rule_of (records (drop first book))))
+  pub entries : Stand (stands book) out (filter (λ r. in_mask mask r && takes r) (rules_from book first))
 
 -- a row of the rule
 abbrev pub RowOf : List ℕ → Row → Rule → Type 0

@@ -1,6 +1,6 @@
 -- What the table of a program says, and what it is made from. Assumes nothing.
 use Rattle.std.specs.Prelude.{◌≡◌, Bool, true, false, not, ◌&&◌, ◌||◌, ℕ, ◌<◌, ◌≤◌, T, eqb, length, get_or, drop}
-use mathlib.Core.List.{List, map, Memᴰ}
+use mathlib.Core.List.{List, Memᴰ}
 use Rattle.base.specs.Bounds.{max_atoms, max_layers, max_rules}
 use Rattle.base.specs.Lists.{filter}
 use Rattle.layers.specs.Layers.{below}
@@ -9,6 +9,7 @@ use Rattle.format.specs.Book.{Rule, records, meets_end, rule_of, is_constraint, 
 use Rattle.models.specs.Program.{Program, in_set, program_at}
 use Rattle.models.specs.StableModels.{overrides}
 use Rattle.table.specs.declared.Row.{Row}
+use Rattle.table.specs.Records.{rules_from}
 use Rattle.table.specs.Rows.{row_count, overridden, row_at, rows_of, takes_rule, RowsFit}
 
 -- the program that a book's bytes give at a layer, with the layers of a set switched off
@@ -33,7 +34,7 @@ pub record Prepared (book : List ℕ) (first : ℕ) (lower : List ℕ) : Type 0 
   pub rule_records_lem : RuleRecords (drop first book)
   pub starts : first ≤ length book
   pub short : length book < 65536
-  pub rules_are : (book_of book).rules ≡ map rule_of (records (drop first book))
+  pub rules_are : (book_of book).rules ≡ rules_from book first
   pub lower_sound : (i j : ℕ) → j < max_layers → bit_of (get_or lower j 0) i ≡ 1 → T (below (book_of book).arrows i j)
   pub lower_full : (i j : ℕ) → i < max_layers → j < max_layers → T (below (book_of book).arrows i j) → bit_of (get_or lower j 0) i ≡ 1
 
@@ -49,7 +50,7 @@ RelevantLayers lower layer off mask = (i : ℕ) → eqb (bit_of mask i) 1 ≡ la
 pub record RowsMade (book : List ℕ) (first mask : ℕ) (rows : List Row) : Type 0 where
   pub room : length rows ≤ max_rules
   pub fits : RowsFit book rows
-  pub rules : rows_of book rows ≡ filter (takes_rule mask) (map rule_of (records (drop first book)))
+  pub rules : rows_of book rows ≡ filter (takes_rule mask) (rules_from book first)
 
 -- The table of a program: its rules as rows, each with the mask of the layers in which it overrides a rule.
 pub record Tabulates (P : Program) (book : List ℕ) (rows : List Row) : Type 0 where

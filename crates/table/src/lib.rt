@@ -2,16 +2,17 @@
 // overrides rules. Made once a call; bodies stay where they are in the book.
 #![tactic(auto)]
 
-ghost use Rattle.std.specs.Prelude.{List, ℕ, Bool, ◌≡◌, ◌+◌, ◌*◌, ◌<◌, ◌≤◌, length, get_or, drop, not, ◌&&◌, eqb};
+ghost use Rattle.std.specs.Prelude.{List, ℕ, Bool, ◌≡◌, ◌+◌, ◌<◌, ◌≤◌, length, get_or, drop, not, ◌&&◌, eqb};
+ghost use Rattle.std.specs.Iterator.{item_count};
 ghost use Rattle.std.proofs.Props.{props};
-ghost use Rattle.base.specs.Bounds.{max_atoms, max_names, max_layers, max_rules};
+ghost use Rattle.base.specs.Bounds.{max_atoms, max_names, max_layers};
 ghost use Rattle.base.specs.Lists.{all, any};
 ghost use Rattle.layers.specs.Masks.{bit_of};
-ghost use Rattle.format.specs.Book.{Rule, literals_of, is_falsity, is_constraint};
+ghost use Rattle.format.specs.Book.{Rule, literals_of, is_constraint};
 ghost use Rattle.models.specs.StableModels.{atom_holds, complement, same_literal, holds, body_holds, leans_on_itself};
 ghost use Rattle.table.specs.Names.{literal_named};
 ghost use Rattle.table.specs.Records.{rule_at, RuleAt, Gives, Gathered, RowOf, BodyOf};
-ghost use Rattle.table.specs.Rows.{in_mask, SpanFits, span_bytes, nth, row_rule, row_count, head_name, row_layer, overridden, with_mask, row_body, row_at, alive, RowsBounded, RowsFit, SameRules};
+ghost use Rattle.table.specs.Rows.{in_mask, SpanFits, span_bytes, nth, row_rule, row_count, head_name, row_layer, overridden, row_body, row_at, alive, RowsBounded, RowsFit, SameRules};
 ghost use Rattle.table.specs.Overriding.{HeadLayers, unless_leaning, Overridden};
 ghost use Rattle.table.specs.Table.{program_of, RuleRecords, Prepared, RelevantLayers, RowsMade, TableMade};
 
@@ -70,7 +71,7 @@ pub fn body_holds(m: &[bool], body: &[u8]) -> bool
 }
 
 // The bytes of a body, as a part of the book that starts in its middle.
-pub fn span_bytes<'a>(book: &'a [u8], span: Span) -> &'a [u8]
+pub fn span_bytes(book: &[u8], span: Span) -> &[u8]
     requires { SpanFits book.now span }
     ensures { result.now ≡ span_bytes book.now span }
 {
@@ -180,6 +181,7 @@ impl<'a> TableRow<'a> {
 }
 
 // The name of the opposite literal.
+// Kept: a literal as a number, its sign an offset: rows hold it in 16 bits, and arrays of masks and marks are indexed by it.
 #[tactic(auto, using(crate::proofs::NameLaws::opposite_low, crate::proofs::NameLaws::opposite_high))]
 pub fn opposite(h: usize) -> usize
     requires { h < max_names }
@@ -205,7 +207,7 @@ fn name_of(l: Literal) -> usize
 
 // The literal of a name.
 #[tactic(auto, unfolding(crate::specs::Names::literal_named))]
-fn literal_named(h: usize) -> Literal
+pub fn literal_named(h: usize) -> Literal
     ensures { result ≡ literal_named h }
 {
     if h < MAX_ATOMS {
@@ -333,8 +335,30 @@ pub struct RuleSection<'a> {
     pub ghost short: { length book.now < 65536 },
 }
 
+// Its records, one after the other.
+impl<'a> Iterator for RuleSection<'a> {
+    type Item = RuleRecord<'a>;
+
+    ghost use Rattle.table.specs.Section.{GivesRecord};
+
+    ghost next_gives = { GivesRecord };
+
+    ghost remaining = { item_count (λ s. drop s.first s.book.now) };
+
+    fn next(&mut self) -> Option<RuleRecord<'a>> {
+        if self.book.len() <= self.first {
+            return None;
+        }
+        let record = RuleRecord {
+            book: self.book,
+            at: self.first,
+        };
+        self.first = record.end();
+        Some(record)
+    }
+}
+
 // Writes what the rules give whose layer is in the mask, in their order, and lends the part that is filled: one walk over the records.
-// Kept: by offsets and not by `Records`, since what is written is where a body stands in the book.
 pub fn gather<'r, E: FromRecord>(
     rules: RuleSection,
     mask: u32,
@@ -343,17 +367,11 @@ pub fn gather<'r, E: FromRecord>(
     ensures { Gathered E.takes E.stands rules.entry.book.now rules.entry.first mask result.now }
 {
     let mut count = 0;
-    let mut at = rules.first;
-    while at < rules.book.len() {
-        let record = RuleRecord {
-            book: rules.book,
-            at,
-        };
+    for record in rules {
         if let Some(entry) = entry_of::<E>(record, mask) {
             out[count] = entry;
             count += 1;
         }
-        at = record.end();
     }
     &mut out[..count]
 }

@@ -1,30 +1,38 @@
--- The invariant: the entries so far stand for the rules passed that count, and of the records left none passes the end. Each turn takes
--- one record, so the bytes left fall.
-use Rattle.table.proofs.WalkLaws.{here, free, walk_skip, walk_more, walk_end}
-use borrow.Author.Rules.{rules}
+-- The invariant: the entries so far stand for the rules passed that count, and there is room for those that are left.
+use mathlib.Core.Path.{refl, ◌∙◌}
 use native.Mathlib.Omega.{arith}
+use Rattle.table.proofs.WalkLaws.{walk_start, free, walk_skip, walk_more, walk_end}
 use Rattle.table.proofs.gather.Goals as goal
-use Rattle.table.proofs.gather.Goals.{in-Some, in_default}
 
-pub invariant_of-record : goal.invariant_of-record
-invariant_of-record g c =
-    record { whole = here _ _ _ _ _ c.loop-at.invariant (search rules); short = c.args.rules.short }
+pub loop-record-init : goal.loop-record-init
+loop-record-init g c =
+    rw c.into_iter-record-iterator.ensures.into_iter_gives
+    (record { same_book = refl; walked = walk_start _ _ _ _ _ _ c.told-out c.args.rules.records })
 
 pub listed : goal.listed
 listed g c =
-    omega (arith, c.loop-at.invariant.size, free _ _ _ _ _ c.loop-at.invariant (search rules))
+    let w = c.loop-record.invariant in
+    omega (arith, c.type_inv.out, free _ _ _ _ _ w.walked (rw w.same_book at c.in-Some.ensures.steps.2))
 
 pub bounds-out-count : goal.bounds-out-count
 bounds-out-count g c =
-    free _ _ _ _ _ c.loop-at.invariant (search rules)
+    let w = c.loop-record.invariant in
+    free _ _ _ _ _ w.walked (rw w.same_book at c.in-Some.ensures.steps.2)
 
-pub loop-at-preserved : goal.loop-at-preserved
-loop-at-preserved g c =
-    elim c.match-entry_of.branch [
-      | in-Some w ↦ rw (w.out-is, w.count-is, c.end-at.ensures) (walk_more _ _ _ _ _ c.loop-at.invariant (search rules) w.in-Some.entry w.in-Some.ensures.1 w.in-Some.ensures.0)
-      | in_default w ↦ rw (w.out-is, w.count-is, c.end-at.ensures) (walk_skip _ _ _ _ _ c.loop-at.invariant (search rules) w.in_default.ensures)
-    ]
+pub loop-record-preserved-in-Some-entry_of : goal.loop-record-preserved-in-Some-entry_of
+loop-record-preserved-in-Some-entry_of g c =
+    let w = c.loop-record.invariant in
+    let s = c.in-Some.ensures.steps in
+    let got = rw (s.0, w.same_book) at c.in-Some-entry_of.ensures in
+    record { same_book = s.1 ∙ w.same_book; walked = walk_more _ _ _ _ _ w.walked (rw w.same_book at s.2) c.in-Some-entry_of.entry got.1 got.0 }
+
+pub loop-record-preserved : goal.loop-record-preserved
+loop-record-preserved g c =
+    let w = c.loop-record.invariant in
+    let s = c.in-Some.ensures.steps in
+    record { same_book = s.1 ∙ w.same_book; walked = walk_skip _ _ _ _ _ w.walked (rw w.same_book at s.2) (rw (s.0, w.same_book) at c.in_default.ensures) }
 
 pub returns : goal.returns
 returns g c =
-    walk_end _ _ _ _ _ c.loop-at.invariant c.loop-at-test.false
+    let w = c.loop-record.invariant in
+    walk_end _ _ _ _ _ w.walked (rw w.same_book at c.in-None.ensures.steps)

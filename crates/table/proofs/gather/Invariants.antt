@@ -1,12 +1,13 @@
--- The invariant: the entries so far stand for the rules passed that count, and of the records left none passes the end. Each turn takes
--- one record, so the bytes left fall.
-use Prim.Native.Nat.{◌-◌}
-use lib.ListN.{length}
+-- The invariant: the entries so far stand for the rules passed that count, and there is room for those that are left.
+use mathlib.Core.Path.{◌≡◌}
+use Rattle.table.specs.Records.{rules_from}
 use Rattle.table.proofs.WalkLaws.{WalkedTo}
 use Rattle.table.proofs.gather.Given as goal
 
-abbrev pub invariant-loop-at : goal.invariant-loop-at
-invariant-loop-at g l = let e = g.E.FromRecord in WalkedTo e.takes e.stands l.rules.book.now l.rules.first l.mask l.out l.count l.at
-
-abbrev pub decreases-loop-at : goal.decreases-loop-at
-decreases-loop-at g l = length l.rules.book.now - l.at
+abbrev pub invariant-loop-record : goal.invariant-loop-record
+invariant-loop-record g l =
+    let e = g.E.FromRecord in
+    record {
+      same_book : l.record-iterator.book ≡ l.rules.book;
+      walked : WalkedTo e.takes e.stands l.rules.book.now l.rules.first l.mask l.out l.count (rules_from l.rules.book.now l.record-iterator.first);
+    }
