@@ -147,10 +147,10 @@ module _ (book : List ℕ) (first : ℕ) (lower : List ℕ) (w : Prepared book f
 
 module _ (book : List ℕ) (first mask : ℕ) (rows : List Row) (w : RowsMade book first mask rows) where
   -- the rows come back with their masks
-  pub table-made : (part : List Row) (r : SameRules rows part) (lower : List ℕ) (p : Prepared book first lower) (layer off : ℕ) (h : layer < max_layers) → RelevantLayers lower layer off mask
+  pub table_made : (part : List Row) (r : SameRules rows part) (lower : List ℕ) (p : Prepared book first lower) (layer off : ℕ) (h : layer < max_layers) → RelevantLayers lower layer off mask
       → Overridden book rows lower part (row_count rows)
       → TableMade (program_of book layer off) book part
-  table-made part r lower p layer off h em o = record {
+  table_made part r lower p layer off h em o = record {
     room = omega (arith, w.room, r.size);
     table = tabulates book first lower p layer off h mask em part (fits-same r w.fits) (rows_same r book ∙ w.rules) (overridden-same r o);
   }

@@ -1,5 +1,5 @@
--- The rules' section, record by record: what the record at an offset gives, what the walk over the section keeps, and that it ends with the entries
--- of the rules that pass the mask. Used by the section's iterator and by gather. Assumes nothing.
+-- The rules' section, record by record: what the record at an offset gives, what the walk over the section keeps, and that it ends with
+-- the entries of the rules that pass the mask. Used by the section's iterator and by gather. Assumes nothing.
 use mathlib.Core.Path.{◌≡◌, refl, sym, ap, ap₂, subst, ◌∙◌}
 use mathlib.Core.Bool.{Bool, true, false, not, ◌&&◌, false≢true}
 use mathlib.Core.List.Memᴰ

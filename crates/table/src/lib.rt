@@ -166,6 +166,7 @@ impl<'a> TableRow<'a> {
     }
 
     // Whether its body holds.
+    #[tactic(auto, unfolding(crate::specs::Rows::row_at, models::specs::StableModels::body_holds))]
     pub fn holds(self, m: &[bool]) -> bool
         ensures { result ≡ body_holds m.now (row_at self.entry.table.book.now self.entry.table.rows.now self.entry.j) }
     {
@@ -173,6 +174,7 @@ impl<'a> TableRow<'a> {
     }
 
     // Whether it is alive: its layer's bit is not set in the mask at its head's name.
+    #[tactic(auto, using(crate::proofs::RowLaws::alive_told))]
     pub fn alive(self, rejects: &[u32; MAX_NAMES]) -> bool
         ensures { result ≡ alive rejects.now (row_at self.entry.table.book.now self.entry.table.rows.now self.entry.j) }
     {
@@ -345,6 +347,7 @@ impl<'a> Iterator for RuleSection<'a> {
 
     ghost remaining = { item_count (λ s. drop s.first s.book.now) };
 
+    #[tactic(auto, using(crate::proofs::WalkLaws::record_here, crate::proofs::WalkLaws::records_left, crate::proofs::WalkLaws::rules_left, crate::proofs::WalkLaws::no_rules_left))]
     fn next(&mut self) -> Option<RuleRecord<'a>> {
         if self.book.len() <= self.first {
             return None;

@@ -1,9 +1,6 @@
 -- The invariant: the masks have the bit of every row passed.
-use mathlib.Core.Path.{refl, subst}
-use lib.ListN.{length}
-use Rattle.table.specs.Overriding.{HeadLayers}
+use mathlib.Core.Path.{refl}
 use Rattle.table.proofs.OverridingLaws.{heads-start, heads-more}
-use native.Mathlib.Omega.{arith}
 use Rattle.table.proofs.head_layers.Goals as goal
 
 pub loop-row-init : goal.loop-row-init
@@ -13,7 +10,3 @@ loop-row-init c =
 pub loop-row-preserved : goal.loop-row-preserved
 loop-row-preserved c =
     heads-more c.args.rows.now c.loop-row.masks c.loop-row.row-index _ _ c.loop-row.invariant refl (c.requires.name c.loop-row.row-index c.loop-row-test.true) refl (c.requires.layer_low c.loop-row.row-index c.loop-row-test.true)
-
-pub returns : goal.returns
-returns c =
-    subst (HeadLayers c.args.rows.now c.loop-row.masks) {x = c.loop-row.row-index} {y = length c.args.rows.now} (omega (arith, c.loop-row-test.false)) c.loop-row.invariant

@@ -1,12 +1,8 @@
 -- The invariant: the masks of the rows passed have the lower layers in which the opposite head stands, or none where the row leans on
 -- itself, and the rest of the rows is as it was.
-use mathlib.Core.Path.{subst}
-use lib.ListN.{length}
 use Rattle.table.specs.Rows.{row_at}
-use Rattle.table.specs.Overriding.{Overridden}
 use Rattle.table.proofs.RowLaws.{fits-same, name_kept, layer_kept}
 use Rattle.table.proofs.OverridingLaws.{overridden-start, rules-start, rules-more, overridden-more}
-use native.Mathlib.Omega.{arith}
 use Rattle.table.proofs.overridden_layers.Goals as goal
 
 pub loop-row-init : goal.loop-row-init
@@ -23,7 +19,3 @@ loop-row-preserved c =
       same = rules;
       masks = overridden-more c.args.book.now c.args.rows.now c.args.lower c.head_layers-heads.result c.loop-row.rows r c.loop-row.row-index _ c.opposite-o.result _ c.unless_leaning-row.result c.loop-row.invariant.masks c.loop-row-test.true c.head_layers-heads.ensures (name_kept r c.loop-row.row-index) c.opposite-o.ensures.0 (layer_kept r c.loop-row.row-index) c.unless_leaning-row.ensures;
     }
-
-pub returns : goal.returns
-returns c =
-    (c.loop-row.invariant.same, subst (Overridden c.args.book.now c.args.rows.now c.args.lower c.loop-row.rows) {x = c.loop-row.row-index} {y = length c.args.rows.now} (omega (arith, c.loop-row-test.false)) c.loop-row.invariant.masks)
