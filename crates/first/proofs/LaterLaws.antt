@@ -23,7 +23,7 @@ use Rattle.models.specs.Branching.{branching_atoms}
 use Rattle.models.specs.Listing.{record_of}
 use Rattle.models.proofs.InterpretationLaws.{◌⊏◌}
 use Rattle.records.proofs.OrderLaws.{record_rises}
-use Rattle.insertion.proofs.SortedLaws.{get_d_member}
+use Rattle.base.proofs.EntryLaws.{entry_in}
 use Rattle.bans.specs.Bans.{barred}
 use Rattle.leaf.specs.Found.{at_setting, found_by}
 use Rattle.leaf.specs.Searchable.{Searchable}
@@ -193,7 +193,7 @@ module _ {book : List ℕ} {rows : List Row} {atoms : List ℕ} {n : ℕ} (w : S
 
   -- what is decided is so in each
   decided_at : (m : Interpretation) → m ∈ group → (i : ℕ) → DecidedAt atoms undecided i → atom_holds m (get_or atoms i 0) ≡ atom_holds o (get_or atoms i 0)
-  decided_at m k i d = (decided_model m k).1 (get_or atoms i 0) (subst (λ (l : List ℕ). get_or atoms i 0 ∈ l) (barred-listed w bans) (get_d_member atoms i 0 d.0)) d.1
+  decided_at m k i d = (decided_model m k).1 (get_or atoms i 0) (subst (λ (l : List ℕ). get_or atoms i 0 ∈ l) (barred-listed w bans) (entry_in atoms i 0 d.0)) d.1
 
   pub group_has : (m : Interpretation) → m ∈ group → (i : ℕ) → bit_of standing i ≡ 1 → T (atom_holds m (get_or atoms i 0))
   group_has m k i e = let d = s.standing_in i e in subst T (sym (decided_at m k i d.0)) d.1

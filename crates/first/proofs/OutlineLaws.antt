@@ -20,7 +20,7 @@ use Rattle.models.specs.StableModels.{Interpretation, atom_holds}
 use Rattle.models.specs.Branching.{branching_atoms}
 use Rattle.bans.specs.Bans.{barred}
 use Rattle.insertion.proofs.Once.{Once}
-use Rattle.insertion.proofs.SortedLaws.{get_d_member}
+use Rattle.base.proofs.EntryLaws.{entry_in}
 use Rattle.setting.specs.Setting.{setting_of}
 use Rattle.setting.proofs.SettingLaws.{SetAt, stands_at}
 use Rattle.setting.proofs.BitMaskLaws.{single, single_only, single_has}
@@ -109,8 +109,8 @@ module _ (atoms : List ℕ) (sure : List Bool) (m : Interpretation) where
 once_at : (xs : List ℕ) → Once xs → (i j : ℕ) → i < length xs → j < length xs → get_or xs i 0 ≡ get_or xs j 0 → i ≡ j
 once_at [] o i j h k e = absurd (omega arith)
 once_at (x ∷ xs) o zero zero h k e = refl
-once_at (x ∷ xs) o zero (suc j) h k e = absurd (o.0 (subst (λ (y : ℕ). y ∈ xs) (sym e) (get_d_member xs j 0 (omega arith))))
-once_at (x ∷ xs) o (suc i) zero h k e = absurd (o.0 (subst (λ (y : ℕ). y ∈ xs) e (get_d_member xs i 0 (omega arith))))
+once_at (x ∷ xs) o zero (suc j) h k e = absurd (o.0 (subst (λ (y : ℕ). y ∈ xs) (sym e) (entry_in xs j 0 (omega arith))))
+once_at (x ∷ xs) o (suc i) zero h k e = absurd (o.0 (subst (λ (y : ℕ). y ∈ xs) e (entry_in xs i 0 (omega arith))))
 once_at (x ∷ xs) o (suc i) (suc j) h k e = ap suc (once_at xs o.1 i j (omega arith) (omega arith) e)
 
 module _ {book : List ℕ} {rows : List Row} {atoms : List ℕ} {n : ℕ} (w : Searchable book rows atoms n) (bans : List Span) (standing : ℕ) where
@@ -120,7 +120,7 @@ module _ {book : List ℕ} {rows : List Row} {atoms : List ℕ} {n : ℕ} (w : S
   setting_has : (m : Interpretation) → m ∈ at_setting B atoms (setting_of atoms standing) → StandingHas atoms m standing
   unfolding atom_holds
   setting_has m k i h t =
-      let inside : get_or atoms i 0 ∈ branching_atoms B = subst (λ (l : List ℕ). get_or atoms i 0 ∈ l) (barred-listed w bans) (get_d_member atoms i 0 h) in
+      let inside : get_or atoms i 0 ∈ branching_atoms B = subst (λ (l : List ℕ). get_or atoms i 0 ∈ l) (barred-listed w bans) (entry_in atoms i 0 h) in
       let v = setting_from B (barred-formed w bans) (setting_of atoms standing) m (subst (λ (l : List ℕ). m ∈ at_setting B l (setting_of atoms standing)) (barred-listed w bans) k) in
       let low : get_or atoms i 0 < max_atoms = omega (arith, branching-small B (barred-formed w bans) (get_or atoms i 0) inside, barred-size w bans, w.few) in
       let s : SetAt atoms standing (length atoms) (get_or atoms i 0) = stands_at atoms standing (get_or atoms i 0) low (subst T (v.2 (get_or atoms i 0) inside) t) in

@@ -15,10 +15,11 @@ use Rattle.table.specs.Rows.{head_name, row_at, alive}
 use Rattle.table.proofs.NameLaws.{name_low, name-high}
 use Rattle.leaf.specs.Contested.{Answered, Uncontested}
 use Rattle.table.specs.declared.Row.{Row}
+use Rattle.table.specs.declared.Table.{Table}
 
-module _ {book : List ℕ} {rows : List Row} {rejects : List ℕ} {m : Interpretation} where
+module _ {rejects : List ℕ} {m : Interpretation} where
   -- one row on, where row j is not contested
-  module _ {q : List Bool} {j : ℕ} (w : Uncontested book rows rejects m q j) where
+  module _ {book : List ℕ} {rows : List Row} {q : List Bool} {j : ℕ} (w : Uncontested book rows rejects m q j) where
     uncontested_more : (alive rejects (row_at book rows j) ≡ false → T (body_holds m (row_at book rows j)) → Answered m q (row_at book rows j).head) → Uncontested book rows rejects m q (j + 1)
     uncontested_more k = record { each = λ i b. go i b (dec_lt i j) }
       where
@@ -38,6 +39,13 @@ module _ {book : List ℕ} {rows : List Row} {rejects : List ℕ} {m : Interpret
     pub uncontested_not : (r : Bool) → r ≡ body_holds m (row_at book rows j) → r ≡ false → Uncontested book rows rejects m q (j + 1)
     uncontested_not r e n = uncontested_more (λ d u. absurd (subst T (sym e ∙ n) u))
 
+  -- the same, by the row as it is handed out
+  pub uncontested_row : {q : List Bool} {t table : Table} {i j : ℕ} → t ≡ table → i ≡ j → (Uncontested t.book.now t.rows.now rejects m q i → Uncontested t.book.now t.rows.now rejects m q (i + 1))
+      → Uncontested table.book.now table.rows.now rejects m q j → Uncontested table.book.now table.rows.now rejects m q (j + 1)
+  uncontested_row {q} {t} {j = j} et ei f =
+      subst (λ (x : Table). Uncontested x.book.now x.rows.now rejects m q j → Uncontested x.book.now x.rows.now rejects m q (j + 1)) et
+      (subst (λ (k : ℕ). Uncontested t.book.now t.rows.now rejects m q k → Uncontested t.book.now t.rows.now rejects m q (k + 1)) ei f)
+
 -- what answers a head, as the code tests it
 module _ (m : Interpretation) (q : List Bool) (h : ℕ) where
   pub answered_negated : max_atoms ≤ h → Answered m q (literal_named h)
@@ -47,8 +55,8 @@ module _ (m : Interpretation) (q : List Bool) (h : ℕ) where
     atom_is : (f : ℕ) → literal_named h ≡ positive f → h ≡ f
     atom_is f e = ap (λ (l : Literal). l.atom) (sym (name_low h b) ∙ e)
 
-    pub answered_holds : (r : Bool) → r ≡ atom_holds m h → r ≡ true → Answered m q (literal_named h)
-    answered_holds r er t f e n = subst (λ (x : ℕ). T (atom_holds m x)) (atom_is f e) (subst T (sym (sym er ∙ t)) tt)
+    pub answered_holds : (r : Bool) → r ≡ atom_holds m h → not r ≡ false → Answered m q (literal_named h)
+    answered_holds r er t f e n = subst (λ (x : ℕ). T (atom_holds m x)) (atom_is f e) (subst T (sym (sym er ∙ not-false r t)) tt)
 
     pub answered_marked : (r : Bool) → r ≡ atom_holds q h → not r ≡ false → Answered m q (literal_named h)
     answered_marked r er t f e n = absurd (true≢false (sym (not-false r t) ∙ er ∙ ap (atom_holds q) (atom_is f e) ∙ n))

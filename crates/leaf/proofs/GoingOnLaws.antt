@@ -19,7 +19,7 @@ use Rattle.models.specs.StableModels.{Interpretation, atom_holds, positive, nega
 use Rattle.filling.specs.Marks.{literal_marked, FollowsFrom, from_start, Apart, Conflict, FilledOn, Fills}
 use Rattle.filling.proofs.GrowingLaws.{SoundMarks}
 use Rattle.filling.proofs.FillingLaws.{filled_on}
-use Rattle.insertion.proofs.SortedLaws.{get_d_member}
+use Rattle.base.proofs.EntryLaws.{entry_in}
 use Rattle.leaf.proofs.UncontestedLaws.{follows_wider}
 use Rattle.leaf.specs.Searchable.{Searchable, Denied, Undisputed, Covered, denies_any, reaches_denied, Joined, Begun}
 use Rattle.leaf.proofs.ModelLaws.{setting_start, covered_start, covered_more}
@@ -62,7 +62,7 @@ module _ (atoms : List ℕ) (start : List Bool) (p : ℕ → Bool) where
 -- all of them are marked, where none is not
 pub covered_none : (atoms : List ℕ) (start q : List Bool) (r : Bool) → r ≡ denies_any atoms start (λ f. not (atom_holds q f)) → not r ≡ true → Covered atoms start q (length atoms)
 unfolding denies_any
-covered_none atoms start q r e n i h t = go (get_or atoms i 0) (get_d_member atoms i 0 h) t (atom_holds q (get_or atoms i 0)) refl
+covered_none atoms start q r e n i h t = go (get_or atoms i 0) (entry_in atoms i 0 h) t (atom_holds q (get_or atoms i 0)) refl
   where
     go : (f : ℕ) → Memᴰ f atoms → T (atom_holds start f) → (b : Bool) → atom_holds q f ≡ b → T (atom_holds q f)
     go f k s true eb = subst T (sym eb) tt

@@ -1,5 +1,5 @@
 -- The stable model of a setting, as the code finds it: the start that the setting gives, agreement with it, and that what is
--- filled is the only state that can be stable there. Used by assume, covers, agrees, copy_marks, decide, model_from and model_at.
+-- filled is the only state that can be stable there. Used by assume, covers, agrees, decide, model_from and model_at.
 -- Assumes nothing.
 use mathlib.Core.Path.{◌≡◌, refl, sym, ap, subst, ◌∙◌}
 use mathlib.Core.Logic.{◌⊎◌, inl, inr}
@@ -38,7 +38,7 @@ use Rattle.leaf.specs.Contested.{Uncontested}
 use Rattle.leaf.proofs.UncontestedLaws.{fills_wider, uncontested_stable}
 use Rattle.leaf.proofs.SettingMarks.{SettingStart, no_conflict, marks_found}
 use Rattle.insertion.proofs.Once.{Once}
-use Rattle.insertion.proofs.SortedLaws.{get_d_member}
+use Rattle.base.proofs.EntryLaws.{entry_in}
 use Rattle.setting.specs.Setting.{setting_of}
 use Rattle.setting.specs.RuleMasks.{Low}
 use Rattle.setting.proofs.SettingLaws.{SetAt, stands_at, at_stands}
@@ -59,8 +59,8 @@ index_of (x ∷ l) f m = go (λ k. index_of l f k) (Memᴰ.cases_cons m)
 once-place : (xs : List ℕ) → Once xs → (i j : ℕ) → i < length xs → j < length xs → get_or xs i 0 ≡ get_or xs j 0 → i ≡ j
 once-place [] w i j h k e = absurd (omega arith)
 once-place (x ∷ xs) w zero zero h k e = refl
-once-place (x ∷ xs) w zero (suc j) h k e = absurd (w.0 (subst (λ (y : ℕ). y ∈ xs) (sym e) (get_d_member xs j 0 (omega arith))))
-once-place (x ∷ xs) w (suc i) zero h k e = absurd (w.0 (subst (λ (y : ℕ). y ∈ xs) e (get_d_member xs i 0 (omega arith))))
+once-place (x ∷ xs) w zero (suc j) h k e = absurd (w.0 (subst (λ (y : ℕ). y ∈ xs) (sym e) (entry_in xs j 0 (omega arith))))
+once-place (x ∷ xs) w (suc i) zero h k e = absurd (w.0 (subst (λ (y : ℕ). y ∈ xs) e (entry_in xs i 0 (omega arith))))
 once-place (x ∷ xs) w (suc i) (suc j) h k e = ap suc (once-place xs w.1 i j (omega arith) (omega arith) e)
 
 module _ {atoms : List ℕ} {n : ℕ} (w : Choices atoms n) where
@@ -117,7 +117,7 @@ module _ {atoms : List ℕ} {n : ℕ} (w : Choices atoms n) where
           ∙ ap (λ (x : ℕ). get_or O x false) (sym e)
 
       pub denied_is : not r ≡ atom_holds (denied_of atoms standing) f
-      denied_is = ap not stands_is ∙ sym (denied-listed f (subst (λ (x : ℕ). x ∈ atoms) (sym e) (get_d_member atoms i 0 h)))
+      denied_is = ap not stands_is ∙ sym (denied-listed f (subst (λ (x : ℕ). x ∈ atoms) (sym e) (entry_in atoms i 0 h)))
 
 -- ---- the undisputed part of the start, and what covers the rest
 pub undisputed-start : (rejects : List ℕ) (start : List Bool) (n : ℕ) (blanks : List Bool) → blanks ≡ replicate {A = Bool} n false → Undisputed rejects start blanks
@@ -228,9 +228,8 @@ module _ {book : List ℕ} {rows : List Row} {atoms : List ℕ} {n : ℕ} (w : S
 
   -- a conflict
   pub model_conflict : {rejects : List ℕ} → RejectedMasks book rows o rejects (row_count rows) → {start : List Bool} → Denied atoms o start → Conflict book rows rejects start
-      → (state : List Bool) → at_setting P atoms o ≡ cons_if false state []
-  unfolding cons_if
-  model_conflict g d x state =
+      → at_setting P atoms o ≡ []
+  model_conflict g d x =
       at_listed ∙ setting_none P w.formed o (λ m sm same. no_conflict w.formed w.table g (setting_start d) sm same x)
 
   module _ {rejects : List ℕ} {p early : List Bool} (k : OnlyState book rows rejects atoms o p early) (l : length p ≡ n) where
@@ -260,17 +259,28 @@ module _ {book : List ℕ} {rows : List Row} {atoms : List ℕ} {n : ℕ} (w : S
     and_true false = refl
 
     module _ (a : Bool) (ea : a ≡ agree_on atoms p o) where
-      pub model_apart : not a ≡ true → at_setting P atoms o ≡ cons_if false p []
+      pub model_apart : not a ≡ true → at_setting P atoms o ≡ []
+      unfolding cons_if
       model_apart t =
           model_is ∙ ap (λ (x : Bool). cons_if (stable P p && x) p []) (sym ea ∙ not-true a t)
           ∙ ap (λ (x : Bool). cons_if x p []) (and_false (stable P p))
 
-      pub model_tested : not a ≡ false → (s : Bool) → s ≡ stable P p → at_setting P atoms o ≡ cons_if s p []
-      model_tested t s es =
-          model_is ∙ ap (λ (x : Bool). cons_if (stable P p && x) p []) (sym ea ∙ not-false a t)
-          ∙ ap (λ (x : Bool). cons_if x p []) (and_true (stable P p) ∙ sym es)
-
       module _ (t : not a ≡ false) where
+        tested : (s : Bool) → stable P p ≡ s → at_setting P atoms o ≡ cons_if s p []
+        tested s es =
+            model_is ∙ ap (λ (x : Bool). cons_if (stable P p && x) p []) (sym ea ∙ not-false a t)
+            ∙ ap (λ (x : Bool). cons_if x p []) (and_true (stable P p) ∙ es)
+
+        -- the test decides
+        module _ (s : Bool) (es : s ≡ stable P p) where
+          pub model_stable : s ≡ true → at_setting P atoms o ≡ p ∷ []
+          unfolding cons_if
+          model_stable y = tested true (sym es ∙ y)
+
+          pub model_unstable : s ≡ false → at_setting P atoms o ≡ []
+          unfolding cons_if
+          model_unstable n = tested false (sym es ∙ n)
+
         agrees_all : T (agree_on atoms p o)
         agrees_all = subst T (sym (sym ea ∙ not-false a t)) tt
 
@@ -285,8 +295,8 @@ module _ {book : List ℕ} {rows : List Row} {atoms : List ℕ} {n : ℕ} (w : S
         model_masks = masks-same w.formed w.table p o same-on k.masks
 
         -- it is stable where no rejected rule is contested
-        pub model_uncontested : (r : Bool) → (r ≡ false → Uncontested book rows rejects p early (row_count rows)) → not r ≡ true → at_setting P atoms o ≡ cons_if true p []
-        model_uncontested r er tr = model_tested t true (sym (passed (stable P p) found))
+        pub model_uncontested : (r : Bool) → (r ≡ false → Uncontested book rows rejects p early (row_count rows)) → not r ≡ true → at_setting P atoms o ≡ p ∷ []
+        model_uncontested r er tr = model_stable true (sym (passed (stable P p) found)) refl
           where
             found : T (stable P p)
             found =
@@ -332,7 +342,7 @@ pub choices : {book : List ℕ} {rows : List Row} {atoms : List ℕ} {n : ℕ} �
 unfolding branching_atoms
 choices {book} {rows} {atoms} {n} w m e = record {
   few = w.atoms_few;
-  low = λ i h. omega (arith, e, w.size, branching-small _ w.formed (get_or atoms i 0) (subst (λ (fs : List ℕ). get_or atoms i 0 ∈ fs) w.listed (get_d_member atoms i 0 h)));
+  low = λ i h. omega (arith, e, w.size, branching-small _ w.formed (get_or atoms i 0) (subst (λ (fs : List ℕ). get_or atoms i 0 ∈ fs) w.listed (entry_in atoms i 0 h)));
   once = once-place atoms (subst Once (sym w.listed) (branching-once (tabled book rows n) w.formed));
   facts_few = omega (arith, e, w.few);
 }
@@ -341,5 +351,5 @@ choices {book} {rows} {atoms} {n} w m e = record {
 pub atoms-low : {book : List ℕ} {rows : List Row} {atoms : List ℕ} {n : ℕ} → Searchable book rows atoms n → Low atoms
 unfolding branching_atoms
 atoms-low {atoms = atoms} w i h =
-    let k : get_or atoms i 0 ∈ branching_atoms (tabled _ _ _) = subst (λ (fs : List ℕ). get_or atoms i 0 ∈ fs) w.listed (get_d_member atoms i 0 h) in
+    let k : get_or atoms i 0 ∈ branching_atoms (tabled _ _ _) = subst (λ (fs : List ℕ). get_or atoms i 0 ∈ fs) w.listed (entry_in atoms i 0 h) in
     omega (arith, w.size, w.few, branching-small _ w.formed (get_or atoms i 0) k)

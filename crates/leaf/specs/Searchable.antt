@@ -25,10 +25,14 @@ pub record Searchable (book : List ℕ) (rows : List Row) (atoms : List ℕ) (n 
   pub some : 0 < n
   pub few : n ≤ max_atoms
 
+-- each of these atoms is a fact below n
+abbrev pub Below : List ℕ → ℕ → Type 0
+Below atoms n = (i : ℕ) → i < length atoms → get_or atoms i 0 < n
+
 -- the branching atoms as a search has them: few, each a fact below n, and each once
 pub record Choices (atoms : List ℕ) (n : ℕ) : Type 0 where
   pub few : length atoms ≤ max_branching
-  pub low : (i : ℕ) → i < length atoms → get_or atoms i 0 < n
+  pub low : Below atoms n
   pub once : (i j : ℕ) → i < length atoms → j < length atoms → get_or atoms i 0 ≡ get_or atoms j 0 → i ≡ j
   pub facts_few : n ≤ max_atoms
 

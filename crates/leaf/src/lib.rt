@@ -2,19 +2,17 @@
 // only state that can be stable there.
 #![tactic(auto)]
 
-ghost use Rattle.std.specs.Prelude.{◌≡◌, true, false, [], ℕ, Bool, ◌<◌, eqb, length};
-ghost use Rattle.base.specs.Bounds.{max_atoms, max_names, max_branching};
-ghost use Rattle.base.specs.Lists.{cons_if};
+ghost use Rattle.std.specs.Prelude.{◌≡◌, true, false, ℕ, Bool, ◌<◌, eqb, length};
+ghost use Rattle.base.specs.Bounds.{max_atoms, max_branching};
 ghost use Rattle.layers.specs.Masks.{bit_of};
 ghost use Rattle.table.specs.Names.{literal_named};
 ghost use Rattle.table.specs.Rows.{row_count};
 ghost use Rattle.setting.specs.Setting.{setting_of};
 ghost use Rattle.leaf.specs.Found.{agree_on};
-ghost use Rattle.leaf.specs.Searchable.{Searchable, Choices, denied_of, Undisputed, Covered, Computes, denies_any, reaches_denied, Joined, Begun, Early, OnlyState};
-ghost use Rattle.leaf.specs.Leaf.{LeafReady, leaf_models};
+ghost use Rattle.leaf.specs.Searchable.{Searchable, Below, Choices, denied_of, Undisputed, Covered, Computes, denies_any, reaches_denied, Joined, Begun, Early, OnlyState};
 ghost use Rattle.leaf.specs.Contested.{Answered, Uncontested};
 
-use base::MAX_ATOMS;
+use base::{MAX_ATOMS, MAX_NAMES};
 use filling::{Hints, Rules, clear_marks};
 use table::atom_holds;
 use tester::settles;
@@ -24,6 +22,7 @@ use tester::settles;
 pub struct Setting<'a> {
     pub atoms: &'a [u32],
     pub standing: u32,
+    pub ghost choices: { Choices atoms.now max_atoms },
 }
 
 impl Setting<'_> {
@@ -37,8 +36,7 @@ impl Setting<'_> {
 
     // Whether a test says yes of a fact that the setting denies.
     fn denies_any<F: Fn(usize) -> bool>(self, test: F) -> bool
-        requires choices { Choices self.atoms.now max_atoms }
-        requires callable { F.IsAlwaysCallable test }
+        requires { F.IsAlwaysCallable test }
         ensures { (p : ℕ → Bool) → Computes (F.post test) p → result ≡ denies_any self.entry.atoms.now (denied_of self.entry.atoms.now self.entry.standing) p }
     {
         for (i, f) in self.atoms.iter().enumerate() {
@@ -50,9 +48,8 @@ impl Setting<'_> {
     }
 
     // Marks, of the facts that the setting denies, those of which no rule is rejected: they are defaults in whatever the filling leads to.
-    fn assume(self, rejects: &[u32], negative: &mut [bool])
-        requires rejects_len { length rejects.now ≡ max_names }
-        requires choices { Choices self.atoms.now (length negative.old) }
+    fn assume(self, rejects: &[u32; MAX_NAMES], negative: &mut [bool])
+        requires { Below self.atoms.now (length negative.old) }
         ensures { Undisputed rejects.now (denied_of self.entry.atoms.now self.entry.standing) negative.new }
     {
         clear_marks(negative);
@@ -66,7 +63,6 @@ impl Setting<'_> {
 
     // Whether all facts that the setting denies are marked.
     fn covers(self, negative: &[bool]) -> bool
-        requires { Choices self.atoms.now (length negative.now) }
         ensures { result ≡ true → Covered self.entry.atoms.now (denied_of self.entry.atoms.now self.entry.standing) negative.now (length self.entry.atoms.now) }
     {
         !self.denies_any(|f| !atom_holds(negative, f))
@@ -74,7 +70,6 @@ impl Setting<'_> {
 
     // Whether a fact that the setting denies is reached.
     fn reaches_denied(self, positive: &[bool]) -> bool
-        requires { Choices self.atoms.now (length positive.now) }
         ensures { result ≡ reaches_denied self.entry.atoms.now (denied_of self.entry.atoms.now self.entry.standing) positive.now }
     {
         self.denies_any(|f| atom_holds(positive, f))
@@ -82,7 +77,7 @@ impl Setting<'_> {
 
     // Marks the facts that the setting denies besides the reached negations.
     fn join(self, negative: &mut [bool])
-        requires { Choices self.atoms.now (length negative.old) }
+        requires { Below self.atoms.now (length negative.old) }
         ensures { Joined self.entry.atoms.now (denied_of self.entry.atoms.now self.entry.standing) negative.old negative.new (length self.entry.atoms.now) }
     {
         for (i, f) in self.atoms.iter().enumerate() {
@@ -94,7 +89,6 @@ impl Setting<'_> {
 
     // Whether a state gives the branching facts as the setting does.
     fn agrees(self, state: &[bool]) -> bool
-        requires { Choices self.atoms.now (length state.now) }
         ensures { result ≡ agree_on self.entry.atoms.now state.now (setting_of self.entry.atoms.now self.entry.standing) }
     {
         for (i, f) in self.atoms.iter().enumerate() {
@@ -110,13 +104,7 @@ impl Setting<'_> {
 fn undecided(m: &[bool], negative: &[bool], h: usize) -> bool
     ensures { result ≡ false → Answered m.now negative.now (literal_named h) }
 {
-    if MAX_ATOMS <= h {
-        return false;
-    }
-    if atom_holds(m, h) {
-        return false;
-    }
-    !atom_holds(negative, h)
+    h < MAX_ATOMS && !atom_holds(m, h) && !atom_holds(negative, h)
 }
 
 // Whether a rejected row's body holds, but not its plain head, whose negation is not marked either. Where none is so, marks that were
@@ -126,10 +114,8 @@ pub fn contested(rules: &Rules, m: &[bool], negative: &[bool]) -> bool
 {
     let table = rules.table;
     for j in 0..table.len() {
-        if !table.alive(rules.rejects, j)
-            && undecided(m, negative, table.head(j))
-            && table.holds(m, j)
-        {
+        let row = table.row(j);
+        if !row.alive(rules.rejects) && undecided(m, negative, row.head()) && row.holds(m) {
             return true;
         }
     }
@@ -145,72 +131,77 @@ pub struct Leaf<'a> {
 }
 
 impl Leaf<'_> {
-    // Whether the only state that can be stable at the setting is. It has to agree with the setting, or it would be found under two
+    ghost use Rattle.leaf.specs.Leaf.{LeafReady, leaf_models, OneModel};
+
+    // The only state that can be stable at the setting, if it is. It has to agree with the setting, or it would be found under two
     // settings. Then it needs no further test where no rejected rule is contested. The marks that were reached early are read before they
     // are written.
-    fn decide(
+    fn decide<'s>(
         &self,
-        state: &[bool],
+        state: &'s [bool],
         early: &mut [bool],
         other: &mut [bool],
         hints: &mut Hints,
-    ) -> bool
+    ) -> Option<&'s [bool]>
         requires searchable { Searchable self.now.rules.table.book.now self.now.rules.table.rows.now self.now.setting.atoms.now (length state.now) }
         requires only_state { OnlyState self.now.rules.table.book.now self.now.rules.table.rows.now self.now.rules.rejects.now self.now.setting.atoms.now (setting_of self.now.setting.atoms.now self.now.setting.standing) state.now early.old }
         requires marks_len { (length early.old ≡ length state.now) × (length other.old ≡ length state.now) }
-        ensures { leaf_models self.now (length state.now) ≡ cons_if result state.now [] }
+        ensures { OneModel (leaf_models self.now (length state.now)) (length state.now) result }
     {
         if !self.setting.agrees(state) {
-            return false;
+            return None;
         }
-        !contested(&self.rules, state, early)
-            || settles(&self.rules, state, state.len(), early, other, hints)
+        let clear = !contested(&self.rules, state, early);
+        if clear || settles(&self.rules, state, early, other, hints) {
+            return Some(state);
+        }
+        None
     }
 
     // The stable model of the setting, if there is one, from all that the setting denies. What was reached early follows from all of it
     // too, so the filling goes on from there, unless a denied fact is among it and so reached both ways. Where it meets no conflict, the
     // facts that are reached are the only state that can be stable.
-    fn model_from(
+    fn model_from<'s>(
         &self,
-        positive: &mut [bool],
+        positive: &'s mut [bool],
         negative: &mut [bool],
         early: &mut [bool],
         hints: &mut Hints,
-    ) -> bool
+    ) -> Option<&'s [bool]>
         requires ready { LeafReady self.now (length positive.old) }
         requires begun { Begun self.now.rules.table.book.now self.now.rules.table.rows.now self.now.rules.rejects.now (denied_of self.now.setting.atoms.now self.now.setting.standing) positive.old negative.old }
         requires early { Early self.now.rules.table.book.now self.now.rules.table.rows.now self.now.rules.rejects.now (denied_of self.now.setting.atoms.now self.now.setting.standing) negative.old }
         requires marks_len { (length negative.old ≡ length positive.old) × (length early.old ≡ length positive.old) }
-        ensures { leaf_models self.now (length positive.old) ≡ cons_if result positive.new [] }
+        ensures { OneModel (leaf_models self.now (length positive.old)) (length positive.old) result }
     {
         if self.setting.reaches_denied(positive) {
-            return false;
+            return None;
         }
         early.copy_from_slice(negative);
         self.setting.join(negative);
         if self.rules.fill_on(positive, negative, hints).is_err() {
-            return false;
+            return None;
         }
         self.decide(positive, early, negative, hints)
     }
 
-    // Whether there is a stable model at the setting, which then stands in the first of the three lent arrays. Filling starts from the
-    // undisputed part of what the setting denies: the negations that are reached early, before anything disputed is assumed. Where they
-    // come to be all that the setting denies, it need not go on.
-    pub fn model_at(
+    // The stable model of the setting, if there is one: it stands in the first of the three lent arrays. Filling starts from the undisputed
+    // part of what the setting denies: the negations that are reached early, before anything disputed is assumed. Where they come to be all
+    // that the setting denies, it need not go on.
+    pub fn model_at<'s>(
         &self,
-        positive: &mut [bool],
+        positive: &'s mut [bool],
         negative: &mut [bool],
         early: &mut [bool],
         hints: &mut Hints,
-    ) -> bool
+    ) -> Option<&'s [bool]>
         requires ready { LeafReady self.now (length positive.old) }
         requires marks_len { (length negative.old ≡ length positive.old) × (length early.old ≡ length positive.old) }
-        ensures { leaf_models self.now (length positive.old) ≡ cons_if result positive.new [] }
+        ensures { OneModel (leaf_models self.now (length positive.old)) (length positive.old) result }
     {
         self.setting.assume(self.rules.rejects, negative);
         if self.rules.fill(positive, negative, hints).is_err() {
-            return false;
+            return None;
         }
         if self.setting.covers(negative) {
             return self.decide(positive, negative, early, hints);

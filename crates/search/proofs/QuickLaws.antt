@@ -32,7 +32,7 @@ use Rattle.setting.proofs.SettingLaws.{setting_size, setting_false, setting_true
 use Rattle.nogoods.specs.declared.Nogood.{Nogood}
 use Rattle.nogoods.specs.Nogoods.{Rejectable, Within, NogoodOf, NogoodAt, of_row, of_ban, Nogoods, Violated}
 use Rattle.insertion.proofs.Once.{Once}
-use Rattle.insertion.proofs.SortedLaws.{get_d_member}
+use Rattle.base.proofs.EntryLaws.{entry_in}
 use Rattle.leaf.specs.Found.{at_setting, found_by}
 use Rattle.search.specs.Decided.{DecidedAt, Decided}
 use Rattle.search.proofs.AllowedLaws.{barred-formed, barred-listed, barred_model}
@@ -61,7 +61,7 @@ module _ {book : List ℕ} {rows : List Row} {atoms : List ℕ} {n : ℕ} (w : S
 
   module _ (m : Interpretation) (sm : StableModel P m) (same : (f : ℕ) → f ∈ branching_atoms P → (f ∈ undecided → ⊥) → atom_holds m f ≡ atom_holds o f) where
     listed_at : (i : ℕ) → i < length atoms → get_or atoms i 0 ∈ branching_atoms P
-    listed_at i h = subst (λ (l : List ℕ). get_or atoms i 0 ∈ l) w.listed (get_d_member atoms i 0 h)
+    listed_at i h = subst (λ (l : List ℕ). get_or atoms i 0 ∈ l) w.listed (entry_in atoms i 0 h)
 
     agrees_at_lem : (i : ℕ) → DecidedAt atoms undecided i → atom_holds m (get_or atoms i 0) ≡ atom_holds o (get_or atoms i 0)
     agrees_at_lem i d = same (get_or atoms i 0) (listed_at i d.0) d.1
@@ -325,5 +325,5 @@ pub first_small : {book : List ℕ} {rows : List Row} {atoms : List ℕ} {n : �
 first_small {book} {rows} {atoms = atoms} {n = n} w undecided o standing denied s some =
     let h : length atoms - length undecided < length atoms = omega (arith, s.few) in
     let e : get_or undecided 0 0 ≡ get_or atoms (length atoms - length undecided) 0 = ap (λ (l : List ℕ). get_or l 0 0) (s.last ∙ drop-cons atoms (length atoms - length undecided) 0 h) in
-    let m : get_or atoms (length atoms - length undecided) 0 ∈ branching_atoms (tabled book rows n) = subst (λ (l : List ℕ). get_or atoms (length atoms - length undecided) 0 ∈ l) w.listed (get_d_member atoms (length atoms - length undecided) 0 h) in
+    let m : get_or atoms (length atoms - length undecided) 0 ∈ branching_atoms (tabled book rows n) = subst (λ (l : List ℕ). get_or atoms (length atoms - length undecided) 0 ∈ l) w.listed (entry_in atoms (length atoms - length undecided) 0 h) in
     omega (arith, branching-small (tabled book rows n) w.formed (get_or atoms (length atoms - length undecided) 0) m, w.size, w.few)

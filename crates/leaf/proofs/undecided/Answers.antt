@@ -1,15 +1,21 @@
 -- A negated name is no fact; else one of the two tests decides.
+use Rattle.std.proofs.Common.{sym, ◌∙◌}
+use mathlib.Core.Bool.{true≢false}
+use borrow.Author.Tests.{le-ltb}
 use Rattle.leaf.proofs.ContestedLaws.{answered_negated, answered_holds, answered_marked}
 use Rattle.leaf.proofs.undecided.Goals as goal
+use Rattle.leaf.proofs.undecided.Goals.{then-h-lt-MAX_ATOMS, else-h-lt-MAX_ATOMS}
 
-pub returns-then-h-ge-MAX_ATOMS : goal.returns-then-h-ge-MAX_ATOMS
-returns-then-h-ge-MAX_ATOMS c =
-    λ y. answered_negated c.args.m.now c.args.negative.now c.args.h c.if-h-ge-MAX_ATOMS.true
+pub returns-then-not-atom_holds : goal.returns-then-not-atom_holds
+returns-then-not-atom_holds c =
+    λ y. elim c.if-h-lt-MAX_ATOMS.branch [
+      | then-h-lt-MAX_ATOMS w ↦ answered_marked c.args.m.now c.args.negative.now c.args.h w.if-h-lt-MAX_ATOMS.true c.atom_holds-then-not-atom_holds.result c.atom_holds-then-not-atom_holds.ensures y
+      | else-h-lt-MAX_ATOMS w ↦ absurd (true≢false (sym c.if-not-atom_holds.true ∙ w.value-is ∙ le-ltb _ _ w.if-h-lt-MAX_ATOMS.false))
+    ]
 
-pub returns-then-atom_holds : goal.returns-then-atom_holds
-returns-then-atom_holds c =
-    λ y. answered_holds c.args.m.now c.args.negative.now c.args.h c.if-h-ge-MAX_ATOMS.false c.atom_holds.result c.atom_holds.ensures c.if-atom_holds.true
-
-pub returns : goal.returns
-returns c =
-    λ y. answered_marked c.args.m.now c.args.negative.now c.args.h c.if-h-ge-MAX_ATOMS.false c.atom_holds-2.result c.atom_holds-2.ensures y
+pub returns-else-not-atom_holds : goal.returns-else-not-atom_holds
+returns-else-not-atom_holds c =
+    λ y. elim c.if-h-lt-MAX_ATOMS.branch [
+      | then-h-lt-MAX_ATOMS w ↦ answered_holds c.args.m.now c.args.negative.now c.args.h w.if-h-lt-MAX_ATOMS.true w.atom_holds.result w.atom_holds.ensures (sym w.value-is ∙ y)
+      | else-h-lt-MAX_ATOMS w ↦ answered_negated c.args.m.now c.args.negative.now c.args.h w.if-h-lt-MAX_ATOMS.false
+    ]

@@ -1,27 +1,25 @@
 -- The state is the only one that can be stable at the setting. It is not where it does not agree with it, it is where it does and no
 -- rejected rule is contested, and else the test decides: the setting rejects what the state does.
-use Rattle.std.proofs.Common.{refl, sym, ap, ◌∙◌, Bool, not, []}
-use Rattle.base.specs.Lists.{cons_if}
-use Rattle.leaf.proofs.ModelLaws.{choices, model_apart, model_tested, model_masks, model_uncontested}
+use Rattle.std.proofs.Common.{refl, ap, not}
+use Rattle.leaf.proofs.ModelLaws.{model_apart, model_stable, model_unstable, model_masks, model_uncontested}
 use Rattle.leaf.proofs.Leaf.decide.Goals as goal
-
-pub agrees-requires : goal.agrees-requires
-agrees-requires c =
-    choices c.requires.searchable _ refl
+use Rattle.leaf.proofs.Leaf.decide.Goals.{then-clear-via-then-clear, then-clear-via-else-clear+then-settles}
 
 pub returns-then-not-agrees : goal.returns-then-not-agrees
 returns-then-not-agrees c =
     model_apart c.requires.searchable _ c.requires.only_state refl c.agrees.result c.agrees.ensures (ap not c.if-not-agrees.true)
 
-pub returns-then-not-contested : goal.returns-then-not-contested
-returns-then-not-contested c =
-    model_uncontested c.requires.searchable _ c.requires.only_state refl c.agrees.result c.agrees.ensures (ap not c.if-not-agrees.false) c.contested.result c.contested.ensures (ap not c.if-not-contested.true)
-    ∙ ap (λ (b : Bool). cons_if b c.args.state.now []) (ap not (sym c.if-not-contested.true))
-
 pub settles-requires-clause-rejected_masks : goal.settles-requires-clause-rejected_masks
 settles-requires-clause-rejected_masks c =
     model_masks c.requires.searchable _ c.requires.only_state refl c.agrees.result c.agrees.ensures (ap not c.if-not-agrees.false)
 
-pub returns-else-not-contested : goal.returns-else-not-contested
-returns-else-not-contested c =
-    model_tested c.requires.searchable _ c.requires.only_state refl c.agrees.result c.agrees.ensures (ap not c.if-not-agrees.false) c.settles.result c.settles.ensures
+pub returns-then-clear : goal.returns-then-clear
+returns-then-clear c =
+    elim c.then-clear.branch [
+      | then-clear-via-then-clear w ↦ (model_uncontested c.requires.searchable _ c.requires.only_state refl c.agrees.result c.agrees.ensures (ap not c.if-not-agrees.false) c.contested-clear.result c.contested-clear.ensures (ap not w.if-clear.true), refl)
+      | then-clear-via-else-clear+then-settles w ↦ (model_stable c.requires.searchable _ c.requires.only_state refl c.agrees.result c.agrees.ensures (ap not c.if-not-agrees.false) w.settles.result w.settles.ensures w.if-settles.true, refl)
+    ]
+
+pub returns : goal.returns
+returns c =
+    model_unstable c.requires.searchable _ c.requires.only_state refl c.agrees.result c.agrees.ensures (ap not c.if-not-agrees.false) c.settles.result c.settles.ensures c.if-settles.false

@@ -6,9 +6,9 @@ use Rattle.leaf.proofs.ModelLaws.{choices, denied_of_lem, model_conflict, early_
 use Rattle.leaf.proofs.GoingOnLaws.{early_begun}
 use Rattle.leaf.proofs.Leaf.model_at.Goals as goal
 
-pub assume-requires-clause-choices : goal.assume-requires-clause-choices
-assume-requires-clause-choices c =
-    choices c.requires.ready.table _ c.requires.marks_len.0
+pub assume-requires : goal.assume-requires
+assume-requires c =
+    (choices c.requires.ready.table _ c.requires.marks_len.0).low
 
 pub fill-requires : goal.fill-requires
 fill-requires c =
@@ -17,11 +17,7 @@ fill-requires c =
 pub returns-then-is_err : goal.returns-then-is_err
 returns-then-is_err c =
     let d = denied_of_lem (choices c.requires.ready.table _ refl) c.args.self.now.setting.standing in
-    model_conflict c.requires.ready.table _ c.requires.ready.masks d (early_conflict c.assume.ensures c.fill.ensures (sym c.if-is_err.ensures.value)) _
-
-pub covers-requires : goal.covers-requires
-covers-requires c =
-    choices c.requires.ready.table _ (search rules)
+    model_conflict c.requires.ready.table _ c.requires.ready.masks d (early_conflict c.assume.ensures c.fill.ensures (sym c.if-is_err.ensures.value))
 
 pub decide-requires-clause-only_state : goal.decide-requires-clause-only_state
 decide-requires-clause-only_state c =

@@ -7,18 +7,14 @@ use Rattle.leaf.proofs.ModelLaws.{choices, denied_of_lem, model_conflict, filled
 use Rattle.leaf.proofs.GoingOnLaws.{denied_conflict, going_on}
 use Rattle.leaf.proofs.Leaf.model_from.Goals as goal
 
-pub reaches_denied-requires : goal.reaches_denied-requires
-reaches_denied-requires c =
-    choices c.requires.ready.table _ refl
-
 pub returns-then-reaches_denied : goal.returns-then-reaches_denied
 returns-then-reaches_denied c =
     let d = denied_of_lem (choices c.requires.ready.table _ refl) c.args.self.now.setting.standing in
-    model_conflict c.requires.ready.table _ c.requires.ready.masks d (denied_conflict c.requires.begun d c.reaches_denied.result c.reaches_denied.ensures c.requires.ready.table c.if-reaches_denied.true) _
+    model_conflict c.requires.ready.table _ c.requires.ready.masks d (denied_conflict c.requires.begun d c.reaches_denied.result c.reaches_denied.ensures c.requires.ready.table c.if-reaches_denied.true)
 
 pub join-requires : goal.join-requires
 join-requires c =
-    choices c.requires.ready.table _ c.requires.marks_len.0
+    (choices c.requires.ready.table _ c.requires.marks_len.0).low
 
 pub fill_on-requires : goal.fill_on-requires
 fill_on-requires c =
@@ -28,7 +24,7 @@ pub returns-then-is_err : goal.returns-then-is_err
 returns-then-is_err c =
     let d = denied_of_lem (choices c.requires.ready.table _ refl) c.args.self.now.setting.standing in
     let grown = going_on c.requires.begun d c.reaches_denied.result c.reaches_denied.ensures c.if-reaches_denied.false c.join.ensures c.fill_on.ensures in
-    model_conflict c.requires.ready.table _ c.requires.ready.masks d (grown.clash (sym c.if-is_err.ensures.value)) _
+    model_conflict c.requires.ready.table _ c.requires.ready.masks d (grown.clash (sym c.if-is_err.ensures.value))
 
 pub decide-requires-clause-only_state : goal.decide-requires-clause-only_state
 decide-requires-clause-only_state c =

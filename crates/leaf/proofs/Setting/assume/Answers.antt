@@ -10,6 +10,6 @@ loop-i-init c = undisputed-start c.args.rejects.now _ (length c.args.negative.no
 pub loop-i-preserved : goal.loop-i-preserved
 loop-i-preserved c =
     elim c.if-rejects-f-eq0.branch [
-      | then-rejects-f-eq0 w ↦ rw w.negative-is (undisputed-more c.loop-i.invariant _ (omega (arith, c.requires.choices.low _ c.loop-i-test.true, c.loop-i.auto.negative)) w.if-rejects-f-eq0.true _ (denied_is c.requires.choices c.args.self.standing c.loop-i-test.true _ refl w.stands.result w.stands.ensures))
+      | then-rejects-f-eq0 w ↦ rw w.negative-is (undisputed-more c.loop-i.invariant _ (omega (arith, c.requires _ c.loop-i-test.true, c.loop-i.auto.negative)) w.if-rejects-f-eq0.true _ (denied_is c.args.self.choices c.args.self.standing c.loop-i-test.true _ refl w.stands.result w.stands.ensures))
       | else-rejects-f-eq0 w ↦ rw w.negative-is c.loop-i.invariant
     ]

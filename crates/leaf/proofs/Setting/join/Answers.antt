@@ -11,9 +11,9 @@ loop-i-init c = joined-start _ _ _
 
 pub loop-i-preserved : goal.loop-i-preserved
 loop-i-preserved c =
-    let k = denied_is c.requires c.args.self.standing c.loop-i-test.true _ refl c.stands.result c.stands.ensures in
+    let k = denied_is c.args.self.choices c.args.self.standing c.loop-i-test.true _ refl c.stands.result c.stands.ensures in
     elim c.if-not-stands.branch [
-      | then-not-stands w ↦ rw w.negative-is (joined-more c.args.self.atoms.now _ _ c.loop-i.invariant _ refl (omega (arith, c.requires.low _ c.loop-i-test.true, c.loop-i.auto.negative)) (sym k ∙ ap not w.if-not-stands.true))
+      | then-not-stands w ↦ rw w.negative-is (joined-more c.args.self.atoms.now _ _ c.loop-i.invariant _ refl (omega (arith, c.requires _ c.loop-i-test.true, c.loop-i.auto.negative)) (sym k ∙ ap not w.if-not-stands.true))
       | else-not-stands w ↦ rw w.negative-is (joined_skip c.args.self.atoms.now _ _ c.loop-i.invariant _ refl (sym k ∙ ap not w.if-not-stands.false))
     ]
 
