@@ -1,4 +1,3 @@
 pub mod BitMaskLaws
 pub mod SettingLaws
 pub mod RuleMaskLaws
-pub mod EntryLaws

@@ -6,12 +6,12 @@
 ghost use Rattle.std.specs.Prelude.{◌≡◌, true, ◌<◌, ◌≤◌, length};
 ghost use Rattle.base.specs.Bounds.{max_branching};
 ghost use Rattle.format.specs.Book.{literals_of};
-ghost use Rattle.table.specs.Rows.{row_count, row_at};
+ghost use Rattle.table.specs.Rows.{row_at};
 ghost use Rattle.setting.specs.RuleMasks.{Low, AtomBits, branching_bit, BodyMasked, head_masks, Headed};
 
 use base::MAX_ATOMS;
 use format::Literals;
-use table::Table;
+use table::TableRow;
 
 // Bit i at the i-th atom; none at the others.
 pub fn atom_bits(atoms: &[u32]) -> [u32; MAX_ATOMS]
@@ -34,7 +34,7 @@ pub fn branching_bit(bits: &[u32], f: usize) -> Option<u32>
 }
 
 // The masks of a body: its plain atoms and its negated ones; whole where all of them branch.
-// Kept: (d) a flag beside the masks, and no Option: those of a body that is not whole are used too, for rules' heads and rows that reject.
+// Kept: a flag beside the masks, and no Option: those of a body that is not whole are used too, for rules' heads and rows that reject.
 #[derive(Clone, Copy)]
 pub struct BodyMasks {
     pub plain: u32,
@@ -62,11 +62,10 @@ pub fn body_masks(bits: &[u32], body: &[u8]) -> BodyMasks
 }
 
 // The masks of a row's body.
-pub fn row_masks(table: Table, bits: &[u32], j: usize) -> BodyMasks
-    requires { j < row_count table.rows.now }
-    ensures { BodyMasked bits.now (row_at table.entry.book.now table.entry.rows.now j).body result }
+pub fn row_masks(row: TableRow, bits: &[u32]) -> BodyMasks
+    ensures { BodyMasked bits.now (row_at row.entry.table.book.now row.entry.table.rows.now row.entry.j).body result }
 {
-    body_masks(bits, table.body(j))
+    body_masks(bits, row.body())
 }
 
 // A rule as masks over the branching facts: the plain and the negated atoms of its body, and its head.
