@@ -1,6 +1,6 @@
 -- What the loops keep: the masks of what can be rejected, the nogood of a row, and the entries made. Assumes nothing.
 use mathlib.Core.Path.{◌≡◌, refl, sym, ap, subst, ◌∙◌}
-use mathlib.Core.Bool.{Bool, true, false, cond}
+use mathlib.Core.Bool.{Bool, true, false, cond, false≢true}
 use mathlib.Core.Logic.{⊎_elim}
 use mathlib.Core.List.Memᴰ
 use mathlib.Core.List.{List, ◌++◌}
@@ -15,6 +15,7 @@ use Rattle.layers.specs.Masks.{bit_of}
 use Rattle.layers.proofs.BitLaws.{or_left, or_right, some-bit}
 use Rattle.format.specs.Book.{Literal, literals_of}
 use Rattle.base.proofs.Members.{◌∈◌}
+use Rattle.base.proofs.EntryLaws.{entry_in}
 use Rattle.table.specs.declared.Row.{Row}
 use Rattle.table.specs.declared.Span.{Span}
 use Rattle.bans.specs.Bans.{body_of}
@@ -23,12 +24,14 @@ use Rattle.table.specs.Names.{literal_named}
 use Rattle.table.specs.Rows.{span_bytes, row_count, head_name, row_at, overridden, alive}
 use Rattle.table.proofs.NameLaws.{name_low, name-high, one_name}
 use Rattle.std.specs.Prelude.{Some}
+use Rattle.std.specs.Bool.{MatchBool}
+use Rattle.std.specs.List.{HoldsAt, AllWithin as EachWithin}
 use Rattle.setting.specs.RuleMasks.{branching_bit, BodyMasked}
 use Rattle.setting.proofs.RuleMaskLaws.{bit_some}
 use Rattle.setting.specs.declared.BodyMasks.{BodyMasks}
 use Rattle.nogoods.specs.declared.Nogood.{Nogood}
 use Rattle.setting.proofs.BitMaskLaws.{joined_keeps, joined_has}
-use Rattle.nogoods.specs.Nogoods.{Rejectable, Within, AllWithin, NogoodOf, NogoodsTo}
+use Rattle.nogoods.specs.Nogoods.{Rejectable, Within, AllWithin, NogoodOf, NogoodsTo, IsDecided, Violated}
 
 -- ---- what can be rejected
 module _ {rows : List Row} {rejectable : List ℕ} {j : ℕ} (w : Rejectable rows rejectable j) (h o : ℕ) (eh : h ≡ head_name rows j) (eo : literal_named o ≡ complement (literal_named h)) (bo : o < max_names) where
@@ -98,6 +101,14 @@ unfolding body_of
 ban_within book bits ban part e w t l k = body_within w t l (subst (λ (x : List ℕ). l ∈ literals_of x) (sym e) k)
 
 -- ---- the entries
+-- one of them is found to be decided
+pub violated : {nogoods : List Nogood} {standing denied : ℕ} (found : Bool) → MatchBool found ((k : ℕ) × (k < length nogoods) × HoldsAt (λ n. IsDecided n standing denied) nogoods k) (EachWithin (λ n. Unit {0}) nogoods 0 (length nogoods))
+    → found ≡ true → Violated nogoods standing denied
+violated {nogoods} true at e =
+    let blank : Nogood = record { standing = 0; denied = 0 } in
+    record { nogood = get_or nogoods at.0 blank; listed = entry_in nogoods at.0 blank at.1; decided = at.2 blank }
+violated false at e = absurd (false≢true e)
+
 -- a nogood more, if there is one and there is room for it
 pub nogoods_more : {book : List ℕ} {rows : List Row} {bans : List Span} {rejectable bits : List ℕ} {nogoods : List Nogood} → NogoodsTo book rows bans rejectable bits nogoods
     → (more : List Nogood) → NogoodsTo book rows bans rejectable bits more → NogoodsTo book rows bans rejectable bits (nogoods ++ more)

@@ -52,7 +52,7 @@ pub data NogoodAt (book : List ℕ) (rows : List Row) (bans : List Span) (reject
 abbrev pub NogoodsTo : List ℕ → List Row → List Span → List ℕ → List ℕ → List Nogood → Type 0
 NogoodsTo book rows bans rejectable bits nogoods = (n : Nogood) → Memᴰ n nogoods → NogoodAt book rows bans rejectable bits n
 
--- the same, of what the code works out on its way
+-- each entry is a nogood, of masks that say what rows can reject and which atoms branch
 pub record Nogoods (book : List ℕ) (rows : List Row) (bans : List Span) (atoms : List ℕ) (nogoods : List Nogood) : Type 0 where
   pub rejectable : List ℕ
   pub rejects_all : Rejectable rows rejectable (row_count rows)
@@ -68,5 +68,4 @@ IsDecided n standing denied = (bit_and n.standing standing ≡ n.standing) × (b
 pub record Violated (nogoods : List Nogood) (standing denied : ℕ) : Type 0 where
   pub nogood : Nogood
   pub listed : Memᴰ nogood nogoods
-  pub stand : bit_and nogood.standing standing ≡ nogood.standing
-  pub deny : bit_and nogood.denied denied ≡ nogood.denied
+  pub decided : IsDecided nogood standing denied

@@ -3,7 +3,6 @@
 #![tactic(auto)]
 
 ghost use Rattle.std.specs.Prelude.{◌≡◌, ◌↔◌, true, ◌<◌, length, IfSome, IsTrue};
-ghost use Rattle.base.specs.Bounds.{max_names};
 ghost use Rattle.table.specs.Rows.{SpanFits, row_count, row_at, RowsBounded};
 ghost use Rattle.bans.specs.Bans.{body_of};
 ghost use Rattle.setting.specs.RuleMasks.{BodyMasked};
@@ -11,7 +10,7 @@ ghost use Rattle.nogoods.specs.Nogoods.{Rejectable, AllWithin, NogoodOf, IsDecid
 
 use base::{MAX_ATOMS, MAX_NAMES};
 use setting::{BodyMasks, body_masks, branching_bit};
-use table::{Row, Span, Table, opposite, span_bytes};
+use table::{Row, Span, TableRow, opposite, span_bytes};
 
 // Nogoods that a plan has room for: one that is left out costs time and nothing else.
 pub const MAX_NOGOODS: usize = 512;
@@ -46,21 +45,18 @@ pub fn rejectable_masks(rows: &[Row]) -> [u32; MAX_NAMES]
 
 // The nogood of a row with these masks of its body, where nothing can reject the row and all its atoms branch.
 pub fn row_nogood(
-    table: Table,
-    rejectable: &[u32],
+    row: TableRow,
+    rejectable: &[u32; MAX_NAMES],
     bits: &[u32],
     body: BodyMasks,
-    j: usize,
 ) -> Option<Nogood>
-    requires rejectable_len { length rejectable.now ≡ max_names }
-    requires j_bound { j < row_count table.rows.now }
-    requires body_masked { BodyMasked bits.now (row_at table.book.now table.rows.now j).body body }
-    ensures { IfSome result (NogoodOf table.entry.book.now table.entry.rows.now rejectable.now bits.now j) }
+    requires { BodyMasked bits.now (row_at row.table.book.now row.table.rows.now row.j).body body }
+    ensures { IfSome result (NogoodOf row.entry.table.book.now row.entry.table.rows.now rejectable.now bits.now row.entry.j) }
 {
-    if !body.whole || !table.alive(rejectable, j) {
+    if !body.whole || !row.alive(rejectable) {
         return None;
     }
-    let h = table.head(j);
+    let h = row.head();
     if h < MAX_ATOMS {
         let bit = branching_bit(bits, h)?;
         return Some(Nogood {
@@ -95,10 +91,7 @@ pub fn ban_nogood(book: &[u8], ban: Span, bits: &[u32]) -> Option<Nogood>
 pub fn has_nogood(nogoods: &[Nogood], standing: u32, denied: u32) -> bool
     ensures { result ≡ true → Violated nogoods.now standing denied }
 {
-    for nogood in nogoods {
-        if nogood.is_decided(standing, denied) {
-            return true;
-        }
-    }
-    false
+    nogoods
+        .iter()
+        .any(|nogood| nogood.is_decided(standing, denied))
 }

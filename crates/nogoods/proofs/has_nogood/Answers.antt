@@ -1,7 +1,11 @@
--- Nothing is claimed but of an entry that was looked at.
-use Rattle.setting.proofs.EntryLaws.{entry_in}
+-- The chain tests one nogood after the other.
+use Rattle.std.proofs.Common.{rules, tests}
+use Rattle.std.proofs.lemmas.Iterator.{cases_from_any, YieldsList-from_slice}
+use Rattle.nogoods.specs.Nogoods.{IsDecided}
+use Rattle.nogoods.proofs.NogoodLaws.{violated}
 use Rattle.nogoods.proofs.has_nogood.Goals as goal
 
-pub returns-then-is_decided : goal.returns-then-is_decided
-returns-then-is_decided c =
-    λ e. let d = c.is_decided.ensures.0 c.if-is_decided.true in record { nogood = _; listed = entry_in c.args.nogoods.now _ _ c.loop-nogood-test.true; stand = d.0; deny = d.1 }
+pub returns : goal.returns
+returns c =
+    violated c.any.result
+    (cases_from_any _ _ _ (λ n. IsDecided n c.args.standing c.args.denied) (λ n. Unit {0}) c.any.ensures.ran (YieldsList-from_slice c.args.nogoods.now cc) (λ x q k. search (rules, tests)) (λ x q k. search (rules, tests)))
