@@ -33,7 +33,7 @@ use Rattle.table.proofs.RowLaws.{row_in}
 use Rattle.tester.specs.Masks.{Rejection, RejectedMasks}
 use Rattle.setting.specs.Setting.{setting_of}
 use Rattle.setting.proofs.BitMaskLaws.{or_absorbs}
-use Rattle.setting.proofs.EntryLaws.{entry_in}
+use Rattle.base.proofs.EntryLaws.{entry_in}
 use Rattle.setting.proofs.SettingLaws.{SetAt, stands_at, at_stands}
 use Rattle.rejecting.specs.Rejecting.{EntryOf, Rejecting, FitsAt, RejectsAt}
 use Rattle.rejecting.specs.declared.RejectingMasks.{RejectingMasks}

@@ -23,7 +23,7 @@ use Rattle.table.specs.Names.{literal_named}
 use Rattle.table.specs.Rows.{head_name, row_at, overridden}
 use Rattle.setting.specs.RuleMasks.{AtomBits, BodyMasked}
 use Rattle.std.proofs.lemmas.List.{take_more}
-use Rattle.setting.proofs.EntryLaws.{entry_in}
+use Rattle.base.proofs.EntryLaws.{entry_in}
 use Rattle.setting.proofs.BitMaskLaws.{joined_cases, joined_keeps, joined_has}
 use Rattle.setting.proofs.RuleMaskLaws.{mask_literal}
 use Rattle.setting.specs.declared.BodyMasks.{BodyMasks}

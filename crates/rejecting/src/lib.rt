@@ -6,6 +6,7 @@ ghost use Rattle.std.specs.Prelude.{◌≡◌, ◌↔◌, ◌<◌, IsTrue, repli
 ghost use Rattle.base.specs.Bounds.{max_names};
 ghost use Rattle.rejecting.specs.Rejecting.{row_of_masks, Named, Fits, RejectsAt, Uncleared};
 
+use base::MAX_NAMES;
 use setting::BodyMasks;
 
 // A row that can reject rules, as masks: the plain and the negated atoms of its body, the layers in which it overrides rules, and the
@@ -45,7 +46,7 @@ pub fn rejecting_masks(body: BodyMasks, name: usize, layers: u32) -> Option<Reje
 
 // Bit i at name h: rules of layer i with that head are rejected at the setting of this mask. The array is lent, all 0: there is a number
 // for each name, and to make or copy it would be felt at every setting.
-pub fn reject_at(rejecting: &[RejectingMasks], standing: u32, rejects: &mut [u32])
+pub fn reject_at(rejecting: &[RejectingMasks], standing: u32, rejects: &mut [u32; MAX_NAMES])
     requires named { Named rejecting.now }
     requires rejects_value { rejects.old ≡ replicate max_names 0 }
     ensures { RejectsAt rejecting.now standing rejects.new }
@@ -58,7 +59,7 @@ pub fn reject_at(rejecting: &[RejectingMasks], standing: u32, rejects: &mut [u32
 }
 
 // Makes the masks 0 again at the rows' names, so that the next setting finds them all 0: nothing else was set.
-pub fn clear_at(rejecting: &[RejectingMasks], rejects: &mut [u32])
+pub fn clear_at(rejecting: &[RejectingMasks], rejects: &mut [u32; MAX_NAMES])
     requires named { Named rejecting.now }
     requires uncleared { Uncleared rejecting.now rejects.old }
     ensures { rejects.new ≡ replicate max_names 0 }
