@@ -1,15 +1,14 @@
 // The branching facts of a program, from its table: by both grounds, each once, rising.
 #![tactic(auto)]
 
-ghost use Rattle.std.specs.Prelude.{◌≡◌, false, ◌&&◌, ◌||◌, ◌<◌, ◌≤◌, List, ℕ, ltb, length, set, take, replicate};
-ghost use Rattle.base.specs.Bounds.{max_atoms, max_branching};
+ghost use Rattle.std.specs.Prelude.{◌≡◌, false, ◌&&◌, ◌||◌, ◌≤◌, ltb, replicate};
+ghost use Rattle.base.specs.Bounds.{max_atoms};
 ghost use Rattle.table.specs.Table.{Tabulates};
 ghost use Rattle.table.specs.Tabled.{tabled};
 ghost use Rattle.branching.specs.Marks.{BodyMarked, BranchingMarks, Listed};
 
-use base::{MAX_ATOMS, MAX_BRANCHING};
+use base::{ArrayVec, MAX_ATOMS, MAX_BRANCHING};
 use format::{Literal, Literals};
-use std::marker::Model;
 use table::{Table, span_bytes};
 
 // Whether a literal makes its fact branch: it is negated, or its rule can displace. No fact is past the bound.
@@ -20,8 +19,7 @@ fn branches(l: Literal, rejecting: bool) -> bool
 }
 
 // Marks the facts of a body that branch.
-fn mark_body(body: &[u8], rejecting: bool, marks: &mut [bool])
-    requires { length marks.old ≡ max_atoms }
+fn mark_body(body: &[u8], rejecting: bool, marks: &mut [bool; MAX_ATOMS])
     ensures { BodyMarked body.now rejecting marks.old marks.new }
 {
     for l in Literals(body) {
@@ -33,7 +31,7 @@ fn mark_body(body: &[u8], rejecting: bool, marks: &mut [bool])
 
 // Marks the branching facts, where nothing is marked yet: a rule can displace exactly where its mask of overridden layers is not
 // empty. How many facts there are plays no part.
-fn mark_branching(table: Table, marks: &mut [bool])
+fn mark_branching(table: Table, marks: &mut [bool; MAX_ATOMS])
     requires tabulates { Tabulates (tabled table.book.now table.rows.now 0) table.book.now table.rows.now }
     requires marks_value { marks.old ≡ replicate max_atoms false }
     ensures { BranchingMarks (tabled table.entry.book.now table.entry.rows.now 0) marks.new }
@@ -43,57 +41,24 @@ fn mark_branching(table: Table, marks: &mut [bool])
     }
 }
 
-// Puts a fact at a place of the list, where it has one.
-fn put_atom(atoms: &mut [u32], at: usize, f: usize)
-    requires { f < max_atoms }
-    ensures { atoms.new ≡ set atoms.old at f }
-{
-    if at < atoms.len() {
-        atoms[at] = f as u32;
-    }
-}
-
-// The branching facts, rising: as many as a search goes through.
-#[derive(Drop)]
-pub struct Branching {
-    atoms: [u32; MAX_BRANCHING],
-    count: usize,
-}
-
-impl Model for Branching {
-    ghost Value = { List ℕ };
-
-    ghost view = { λ b. take b.count b.atoms };
-
-    ghost invariant = { λ b. b.count ≤ max_branching };
-}
-
-impl Branching {
-    pub fn as_slice(&self) -> &[u32]
-        ensures { result.now ≡ self.now }
-    {
-        &self.atoms[..self.count]
-    }
-}
-
-// The branching facts; where they are more than a search goes through, how many they are.
-pub fn branching_atoms(table: Table, n: usize) -> Result<Branching, usize>
+// The branching facts, rising; where they are more than a search goes through, how many they are.
+pub fn branching_atoms(table: Table, n: usize) -> Result<ArrayVec<u32, MAX_BRANCHING>, usize>
     requires tabulates { Tabulates (tabled table.book.now table.rows.now n) table.book.now table.rows.now }
     requires n_le_max_atoms { n ≤ max_atoms }
     ensures { Listed (tabled table.entry.book.now table.entry.rows.now n) result }
 {
     let mut marks = [false; MAX_ATOMS];
     mark_branching(table, &mut marks);
-    let mut atoms = [0; MAX_BRANCHING];
+    let mut atoms = ArrayVec::new(0);
     let mut count = 0;
-    for f in 0..n {
-        if marks[f] {
-            put_atom(&mut atoms, count, f);
+    for (f, branches) in marks[..n].iter().enumerate() {
+        if *branches {
+            atoms.put(Some(f as u32));
             count += 1;
         }
     }
     if MAX_BRANCHING < count {
         return Err(count);
     }
-    Ok(Branching { atoms, count })
+    Ok(atoms)
 }

@@ -1,35 +1,45 @@
 -- The invariant (`ListedTo`): the branching facts below f are counted, and listed as long as there is a place.
-use mathlib.Core.Path.{◌≡◌, refl, ◌∙◌, sym}
+use mathlib.Core.Bool.{Bool, false}
+use mathlib.Core.List.{List}
+use Prim.Native.Nat.{ℕ, ◌<◌, ◌≤◌}
+use lib.ListN.{length, take}
+use Rattle.base.specs.Bounds.{max_atoms}
+use mathlib.Core.Path.{◌≡◌, ◌∙◌, sym}
+use Rattle.std.proofs.Common.{get_or-take, length-take-le, arith}
 use Rattle.table.specs.Tabled.{tabled}
 use Rattle.table.proofs.TabledLaws.{tabled-atoms}
 use Rattle.branching.proofs.ListLaws.{listed_start, listed_yes, listed_no, listed_all, listed_many, marked-branches, table_alone}
-use borrow.Author.Rules.{rules}
-use native.Mathlib.Omega.{arith}
 use Rattle.branching.proofs.branching_atoms.Goals as goal
-use Rattle.branching.proofs.branching_atoms.Goals.{else-marks-f, then-marks-f}
+use Rattle.branching.proofs.branching_atoms.Goals.{then-branches, else-branches}
 
-pub mark_branching-requires : goal.mark_branching-requires
-mark_branching-requires c =
-    record { tabulates = table_alone c.args.table.book.now c.args.table.rows.now c.args.n c.requires.tabulates; marks_value = search rules }
+-- the marks below n are all passed
+all_passed : (marks : List Bool) (n : ℕ) → length marks ≡ max_atoms → n ≤ max_atoms → {f : ℕ} → length (take n marks) ≤ f → f ≤ length (take n marks) → f ≡ n
+all_passed marks n l b h k = omega (arith, length-take-le n marks (omega arith))
+
+pub mark_branching-requires-clause-tabulates : goal.mark_branching-requires-clause-tabulates
+mark_branching-requires-clause-tabulates c = table_alone c.args.table.book.now c.args.table.rows.now c.args.n c.requires.tabulates
 
 pub loop-f-init : goal.loop-f-init
-loop-f-init c =
-    listed_start (tabled c.args.table.book.now c.args.table.rows.now c.args.n) _ refl
+loop-f-init c = rw c.new-atoms.ensures (listed_start (tabled c.args.table.book.now c.args.table.rows.now c.args.n))
 
 pub loop-f-preserved : goal.loop-f-preserved
 loop-f-preserved c =
-    let b = marked-branches c.args.table.book.now c.args.table.rows.now c.args.n _ c.mark_branching.ensures c.loop-f.f (omega (arith, c.requires.n_le_max_atoms)) in
-    elim c.if-marks-f.branch [
-      | then-marks-f w ↦ rw (w.atoms-is, w.count-is, w.put_atom.ensures) (listed_yes (tabled c.args.table.book.now c.args.table.rows.now c.args.n) c.loop-f.f c.loop-f.atoms c.loop-f.count c.loop-f.invariant (b _ w.if-marks-f.true))
-      | else-marks-f w ↦ rw (w.atoms-is, w.count-is) (listed_no (tabled c.args.table.book.now c.args.table.rows.now c.args.n) c.loop-f.f c.loop-f.atoms c.loop-f.count c.loop-f.invariant (b _ w.if-marks-f.false))
+    let before : c.loop-f.f < c.args.n = omega (arith, length-take-le c.args.n c.mark_branching.new.marks (omega (arith, c.mark_branching.array_long, c.requires.n_le_max_atoms)), c.loop-f-test.true) in
+    let b = marked-branches c.args.table.book.now c.args.table.rows.now c.args.n _ c.mark_branching.ensures c.loop-f.f (omega (arith, before, c.requires.n_le_max_atoms)) in
+    let at = get_or-take c.args.n c.mark_branching.new.marks c.loop-f.f false before in
+    elim c.if-branches.branch [
+      | then-branches w ↦ rw (w.atoms-is, w.count-is, w.put.ensures.value) (listed_yes (tabled c.args.table.book.now c.args.table.rows.now c.args.n) c.loop-f.f c.loop-f.atoms c.loop-f.count c.loop-f.invariant (b _ (sym at ∙ w.if-branches.true)))
+      | else-branches w ↦ rw (w.atoms-is, w.count-is) (listed_no (tabled c.args.table.book.now c.args.table.rows.now c.args.n) c.loop-f.f c.loop-f.atoms c.loop-f.count c.loop-f.invariant (b _ (sym at ∙ w.if-branches.false)))
     ]
 
 pub returns-then-count-gt-MAX_BRANCHING : goal.returns-then-count-gt-MAX_BRANCHING
-returns-then-count-gt-MAX_BRANCHING c =
-    let e : c.loop-f.f ≡ c.args.n = omega arith in
-    (listed_many (tabled c.args.table.book.now c.args.table.rows.now c.args.n) c.loop-f.f c.loop-f.atoms c.loop-f.count (e ∙ sym (tabled-atoms c.args.table.book.now c.args.table.rows.now c.args.n)) c.loop-f.invariant, c.if-count-gt-MAX_BRANCHING.true)
+returns-then-count-gt-MAX_BRANCHING c = (
+  listed_many (tabled c.args.table.book.now c.args.table.rows.now c.args.n) c.loop-f.f c.loop-f.atoms c.loop-f.count
+      (all_passed c.mark_branching.new.marks c.args.n c.mark_branching.array_long c.requires.n_le_max_atoms c.loop-f-test.false c.loop-f.auto.f-end ∙ sym (tabled-atoms c.args.table.book.now c.args.table.rows.now c.args.n)) c.loop-f.invariant,
+  c.if-count-gt-MAX_BRANCHING.true,
+)
 
 pub returns : goal.returns
 returns c =
-    let e : c.loop-f.f ≡ c.args.n = omega arith in
-    listed_all (tabled c.args.table.book.now c.args.table.rows.now c.args.n) c.loop-f.f c.loop-f.atoms c.loop-f.count (e ∙ sym (tabled-atoms c.args.table.book.now c.args.table.rows.now c.args.n)) c.loop-f.invariant c.if-count-gt-MAX_BRANCHING.false
+    listed_all (tabled c.args.table.book.now c.args.table.rows.now c.args.n) c.loop-f.f c.loop-f.atoms c.loop-f.count
+    (all_passed c.mark_branching.new.marks c.args.n c.mark_branching.array_long c.requires.n_le_max_atoms c.loop-f-test.false c.loop-f.auto.f-end ∙ sym (tabled-atoms c.args.table.book.now c.args.table.rows.now c.args.n)) c.loop-f.invariant c.if-count-gt-MAX_BRANCHING.false
