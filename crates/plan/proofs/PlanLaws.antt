@@ -4,13 +4,13 @@ use mathlib.Core.Path.{◌≡◌, refl, sym, ap, subst, ◌∙◌}
 use mathlib.Core.Bool.{Bool, true, false, cond}
 use mathlib.Core.List.Memᴰ
 use mathlib.Core.List.{List, [], ◌++◌}
-use Prim.Native.Nat.{ℕ, ◌+◌, ◌<◌}
+use Prim.Native.Nat.{ℕ, ◌<◌}
 use borrow.Author.Tests.{lt-ltb}
 use lib.Dec.{ltb}
-use lib.ListN.{length, take}
-use lib.Seq.{take-append_seam}
+use lib.ListN.{length}
 use Rattle.std.specs.Prelude.{Option, Some, None, IfSome, nat_lt}
 use Rattle.std.specs.Option.{option_to_list}
+use Rattle.base.specs.Lists.{put_behind}
 use Rattle.base.proofs.Members.{◌∈◌}
 use Rattle.table.specs.declared.Row.{Row}
 use Rattle.table.specs.declared.Span.{Span}
@@ -18,13 +18,13 @@ use Rattle.table.specs.Rows.{row_count}
 use Rattle.bans.specs.Bans.{body_of, BansFit}
 use Rattle.setting.specs.RuleMasks.{AtomBits, MasksMade}
 use Rattle.setting.proofs.RuleMaskLaws.{masks_start}
-use Rattle.nogoods.specs.Nogoods.{Rejectable, AllWithin, NogoodAt, of_ban, NogoodsTo}
+use Rattle.nogoods.specs.Nogoods.{Rejectable, AllWithin, NogoodAt, of_row, of_ban, NogoodsTo}
 use Rattle.nogoods.specs.declared.Nogood.{Nogood}
 use Rattle.nogoods.proofs.NogoodLaws.{nogoods_more}
 use Rattle.rejecting.specs.Rejecting.{RejectingMade}
 use Rattle.rejecting.proofs.RejectingLaws.{made-start}
-use Rattle.plan.specs.declared.entries.Plan.{Plan}
-use Rattle.plan.specs.Plan.{plan_atoms, plan_heads, plan_nogoods, plan_rejecting, plan_bans, put_behind, SameFacts, PlanTo, PlanStep, NogoodsPut, Planned}
+use Rattle.plan.specs.declared.Plan.{Plan}
+use Rattle.plan.specs.Plan.{SameFacts, PlanTo, NogoodsPut, Planned}
 
 -- ---- one entry
 -- where there is room, what there is goes behind the others
@@ -50,50 +50,39 @@ pub if_some : {T : Type 0} {P Q : T → Type 0} (o : Option T) → ((x : T) → 
 if_some None f p = p
 if_some (Some x) f p = f x p
 
--- ---- the facts and the constraints stay
+-- ---- the facts stay
 pub same_refl : (p : Plan) → SameFacts p p
-same_refl p = record { facts_same = refl; branching_same = refl; atoms_same = refl; bans_count = refl; bans_same = refl }
-
-module _ {p q : Plan} (s : SameFacts p q) where
-  pub atoms_still : plan_atoms q ≡ plan_atoms p
-  atoms_still = ap (λ (k : ℕ). take k q.atoms) s.branching_same ∙ ap (take p.branching) s.atoms_same
-
-  pub bans_still : plan_bans q ≡ plan_bans p
-  bans_still = ap (λ (k : ℕ). take k q.bans) s.bans_count ∙ ap (take p.ban_count) s.bans_same
+same_refl p = record { facts_same = refl; atoms_same = refl }
 
 -- ---- all rows
-pub plan_start : (book : List ℕ) (rows : List Row) (bits rejectable : List ℕ) (p : Plan) → plan_heads p ≡ [] → plan_nogoods p ≡ [] → plan_rejecting p ≡ [] → PlanTo book rows bits rejectable p 0
+pub plan_start : (book : List ℕ) (rows : List Row) (bits rejectable : List ℕ) (p : Plan) → p.heads ≡ [] → p.nogoods ≡ [] → p.rejecting ≡ [] → PlanTo book rows bits rejectable p 0
 plan_start book rows bits rejectable p a b c = record {
-  masks_made = rw a (masks_start book rows (plan_atoms p));
+  masks_made = rw a (masks_start book rows p.atoms);
   nogoods_made = λ n k. absurd (Memᴰ.not-nil (subst (λ (l : List Nogood). n ∈ l) b k));
   rejecting_made = rw c made-start;
 }
 
-pub plan_step : {book : List ℕ} {rows : List Row} {bits rejectable : List ℕ} {p : Plan} {j : ℕ} → PlanTo book rows bits rejectable p j → (q : Plan) → SameFacts p q
-    → MasksMade book rows (plan_atoms p) (plan_heads q) (j + 1) → NogoodsTo book rows (plan_bans p) rejectable bits (plan_nogoods q) → RejectingMade book rows (plan_atoms p) (plan_rejecting q) (j + 1)
-    → PlanStep book rows bits rejectable p j q
-plan_step w q s a b c = record {
-  made = record { masks_made = rw (atoms_still s) a; nogoods_made = rw (bans_still s) b; rejecting_made = rw (atoms_still s) c };
-  same = s;
-}
-
 -- ---- the constraints' nogoods
+-- those of rows are nogoods whatever the constraints are
+pub nogoods_of_rows : {book : List ℕ} {rows : List Row} (bans : List Span) {rejectable bits : List ℕ} {nogoods : List Nogood} → NogoodsTo book rows [] rejectable bits nogoods → NogoodsTo book rows bans rejectable bits nogoods
+nogoods_of_rows {book} {rows} bans {rejectable} {bits} w n k = go (w n k)
+  where
+    go : NogoodAt book rows [] rejectable bits n → NogoodAt book rows bans rejectable bits n
+    go (of_row j r) = of_row j r
+    go (of_ban ban l r) = absurd (Memᴰ.not-nil l)
+
 pub bans_more : {book : List ℕ} {bans : List Span} {bits : List ℕ} {before after : List Nogood} → NogoodsPut book bans bits before after → (ban : Span) → ban ∈ bans → (entry : Option Nogood)
     → IfSome entry (λ n. AllWithin bits n (body_of book ban)) → (room : ℕ) (later : List Nogood) → later ≡ put_behind after room entry → NogoodsPut book bans bits before later
 bans_more w ban b entry f room later e rows rejectable v = rw e (nogood_put (w rows rejectable v) room entry (if_some entry (λ n x. of_ban ban b x) f))
 
 -- ---- the whole plan: that of the rows, with the constraints' nogoods, which stand behind theirs
-pub plan_end : {book : List ℕ} {rows : List Row} {bits rejectable : List ℕ} {p : Plan} {j : ℕ} → PlanTo book rows bits rejectable p j → j ≡ row_count rows → {atoms : List ℕ} → plan_atoms p ≡ atoms
-    → AtomBits atoms bits (length atoms) → Rejectable rows rejectable (row_count rows) → BansFit book (plan_bans p) → (q : Plan) → SameFacts p q → plan_heads q ≡ plan_heads p
-    → plan_rejecting q ≡ plan_rejecting p → NogoodsPut book (plan_bans p) bits (plan_nogoods p) (plan_nogoods q) → Planned book rows atoms q
+pub plan_end : {book : List ℕ} {rows : List Row} {bits rejectable : List ℕ} {p : Plan} {j : ℕ} → PlanTo book rows bits rejectable p j → j ≡ row_count rows → {atoms : List ℕ} → p.atoms ≡ atoms
+    → AtomBits atoms bits (length atoms) → Rejectable rows rejectable (row_count rows) → {bans : List Span} → BansFit book bans → (q : Plan) → q.atoms ≡ p.atoms → q.heads ≡ p.heads
+    → q.rejecting ≡ p.rejecting → NogoodsPut book bans bits p.nogoods q.nogoods → Planned book rows bans atoms q
 plan_end {book} {rows} {bits} {rejectable} {p} {j} w ej {atoms} ea ab r bf q s eh er put = record {
-  atoms_are = atoms_still s ∙ ea;
-  rule_masks = rw eh (record { each = (subst (λ (fs : List ℕ). MasksMade book rows fs (plan_heads p) (row_count rows)) ea (subst (MasksMade book rows (plan_atoms p) (plan_heads p)) ej w.masks_made)).each });
-  nogood_masks = rw (bans_still s) (record { rejectable = rejectable; rejects_all = r; bits = bits; bits_of = ab; each = put rows rejectable w.nogoods_made });
-  rejecting_masks = rw er (subst (λ (fs : List ℕ). RejectingMade book rows fs (plan_rejecting p) (row_count rows)) ea (subst (RejectingMade book rows (plan_atoms p) (plan_rejecting p)) ej w.rejecting_made)).entries;
-  bans_fit = rw (bans_still s) bf;
+  atoms_are = s ∙ ea;
+  rule_masks = rw eh (record { each = (subst (λ (fs : List ℕ). MasksMade book rows fs p.heads (row_count rows)) ea (subst (MasksMade book rows p.atoms p.heads) ej w.masks_made)).each });
+  nogood_masks = record { rejectable = rejectable; rejects_all = r; bits = bits; bits_of = ab; each = put rows rejectable w.nogoods_made };
+  rejecting_masks = rw er (subst (λ (fs : List ℕ). RejectingMade book rows fs p.rejecting (row_count rows)) ea (subst (RejectingMade book rows p.atoms p.rejecting) ej w.rejecting_made)).entries;
+  bans_fit = bf;
 }
-
--- the facts are copied to the front
-pub facts_front : (facts copied rest : List ℕ) → copied ≡ facts → take (length facts) (copied ++ rest) ≡ facts
-facts_front facts copied rest e = ap (λ (l : List ℕ). take (length facts) (l ++ rest)) e ∙ take-append_seam facts rest

@@ -1,4 +1,4 @@
--- The entries of the rows passed are there (`PlanTo`), and the facts and the constraints are as they were.
+-- The entries of the rows passed are there (`PlanTo`), and the facts are as they were.
 use Rattle.plan.specs.Plan.{SameFacts, PlanTo}
 use Rattle.plan.proofs.make_plan.Given as goal
 
