@@ -5,20 +5,21 @@ use mathlib.Core.Bool.{Bool, true, false, not, ◌&&◌}
 use mathlib.Core.List.{List, [], ◌∷◌}
 use Prim.Native.Nat.{ℕ}
 use lib.Dec.{T}
-use lib.ListN.{length, take}
+use lib.ListN.{length}
 use Rattle.base.proofs.UpTo.{passed, failed}
 use Rattle.format.specs.Book.{book_of}
 use Rattle.models.specs.Program.{Program, constrained}
+use Rattle.models.specs.Alike.{Alike}
 use Rattle.models.specs.StableModels.{Interpretation, holds, settled, forbidden, stable, StableModel, WellFormed}
 use Rattle.models.specs.Listing.{interpretation_of}
 use Rattle.models.proofs.LeastLaws.{stable_sound, stable_complete}
 use Rattle.models.proofs.AlikeLaws.{alike-stable, alike-formed}
 use Rattle.models.proofs.ConstraintLaws.{constrained-filter}
 use Rattle.base.specs.Lists.{all, any}
-use Rattle.table.specs.declared.Row.{Row}
-use Rattle.table.specs.Table.{program_of, TableMade}
+use Rattle.table.specs.Table.{program_of, Tabulates, TableMade}
 use Rattle.table.specs.Tabled.{tabled}
-use Rattle.table.proofs.TabledLaws.{tabled-free, lent_alike}
+use Rattle.table.specs.declared.Table.{Table}
+use Rattle.table.proofs.TabledLaws.{tabled-free, lent_alike, lent_tabled}
 use Rattle.book.specs.Causes.{verdict_if, first_of, Verdict}
 use Rattle.book.specs.declared.Cause.{Cause}
 use Rattle.book.specs.declared.Cause.TheVariants.{BadCandidate}
@@ -27,45 +28,54 @@ use Rattle.accepted.specs.Driving.{driven_program}
 use Rattle.accepted.specs.declared.Driving.{Driving}
 use Rattle.accepted.proofs.FirstLaws.{first_append, first_refused, accepted-none}
 use Rattle.accepted.proofs.GrantedLaws.{granted}
-use Rattle.accepted.proofs.RecordFacts.{program_atoms}
+use Rattle.accepted.proofs.RecordFacts.{accepted-formed, program_atoms}
 use Rattle.candidate.specs.Candidate.{is_bad_candidate}
 use Rattle.candidate.proofs.CandidateLaws.{read_length}
 use Rattle.test_call.specs.Reply.{test_tests, reply_of, test_reply, NoCause, YesExactly, NoExactly}
-use Rattle.std.proofs.Common.{Ok, Err}
-
--- the rules of the lent table are well formed
-pub lent_formed : {P : Program} {book : List ℕ} {rows : List Row} {count : ℕ} → TableMade P book rows count → {n : ℕ} → n ≡ P.atoms → WellFormed P → WellFormed (tabled book (take count rows) n)
-unfolding constrained
-lent_formed {P} {book} {rows} {count} made {n} e w =
-    let f : WellFormed (constrained (tabled book (take count rows) n) P.constraints) = alike-formed (lent_alike made e P.constraints refl) w in
-    record { heads = f.heads; bodies = f.bodies }
+use Rattle.std.proofs.Common.{Ok, Err, Bor}
 
 -- a state that a constraint forbids is not stable
-pub forbidden_over : (P : Program) (n : ℕ) (s : List ℕ) (m : List Bool) → take n m ≡ interpretation_of n s → (f : Bool)
-    → f ≡ any (all (holds (take n m))) P.constraints → f ≡ true → false ≡ stable P (interpretation_of n s)
+pub forbidden_over : (P : Program) (m : List Bool) (f : Bool) → f ≡ any (all (holds m)) P.constraints → f ≡ true → false ≡ stable P m
 unfolding stable forbidden
-forbidden_over P n s m q f ef t =
-    let z : any (all (holds (interpretation_of n s))) P.constraints ≡ true = ap (λ (o : Interpretation). any (all (holds o)) P.constraints) (sym q) ∙ sym ef ∙ t in
-    rw z (sym (and_false (settled P (interpretation_of n s))))
+forbidden_over P m f ef t = rw (sym ef ∙ t) (sym (and_false (settled P m)))
   where
     and_false : (c : Bool) → (c && false) ≡ false
     and_false true = refl
     and_false false = refl
 
--- the test of the lent table is that of the driven layer's program, where no constraint forbids the state
-pub stable_over : {P : Program} {book : List ℕ} {rows : List Row} {count : ℕ} → TableMade P book rows count → {n : ℕ} → n ≡ P.atoms
-    → (s : List ℕ) (m : List Bool) → take n m ≡ interpretation_of n s → (f : Bool) → f ≡ any (all (holds (take n m))) P.constraints → f ≡ false → (r : Bool)
-    → r ≡ stable (tabled book (take count rows) n) (take n m) → r ≡ stable P (interpretation_of n s)
-stable_over {P} {book} {rows} {count} made {n} e s m q f ef z r t =
-    let Q : Program = tabled book (take count rows) n in
-    let o : Interpretation = take n m in
-    let split : stable P o ≡ (stable Q o && not (any (all (holds o)) P.constraints)) =
-    alike-stable (lent_alike made e P.constraints refl) o (ap (length {A = Bool}) q ∙ read_length n s ∙ e) ∙ constrained-filter Q P.constraints (tabled-free book (take count rows) n) o in
-    t ∙ sym (split ∙ ap (λ (c : Bool). stable Q o && not c) (sym ef ∙ z) ∙ and_true (stable Q o)) ∙ ap (λ (o : Interpretation). stable P o) q
-  where
-    and_true : (c : Bool) → (c && true) ≡ c
-    and_true true = refl
-    and_true false = refl
+-- the state that a candidate of a driven layer gives, and the layer's table
+module _ (d : Driving) (s : List ℕ) (n : ℕ) (en : n ≡ (book_of d.book.now).atoms) (m : List Bool) (read : m ≡ interpretation_of n s) where
+  pub state_is : m ≡ interpretation_of (book_of d.book.now).atoms s
+  state_is = read ∙ ap (λ (k : ℕ). interpretation_of k s) en
+
+  size : length m ≡ (driven_program d).atoms
+  size = ap length state_is ∙ program_atoms d.book.now d.layer d.off _ (read_length (book_of d.book.now).atoms s)
+
+  module _ (t : Table) (made : TableMade (driven_program d) d.book.now t.rows.now) (at : t.book ≡ d.book) where
+    here : TableMade (driven_program d) t.book.now t.rows.now
+    here = subst (λ (b : Bor (List ℕ)). TableMade (driven_program d) b.now t.rows.now) (sym at) made
+
+    alike : Alike (driven_program d) (constrained (tabled t.book.now t.rows.now (length m)) (driven_program d).constraints)
+    alike = lent_alike here size (driven_program d).constraints refl
+
+    -- its rules are well formed
+    pub lent_formed : WellFormed (tabled t.book.now t.rows.now (length m))
+    unfolding constrained
+    lent_formed = let f = alike-formed alike (accepted-formed d.book.now d.accepted d.layer d.off) in record { heads = f.heads; bodies = f.bodies }
+
+    pub lent_table : Tabulates (tabled t.book.now t.rows.now (length m)) t.book.now t.rows.now
+    lent_table = lent_tabled here size
+
+    -- its test is that of the layer's program, where no constraint forbids the state
+    pub stable_over : (f : Bool) → f ≡ any (all (holds m)) (driven_program d).constraints → f ≡ false → stable (tabled t.book.now t.rows.now (length m)) m ≡ stable (driven_program d) m
+    stable_over f ef z =
+        let Q : Program = tabled t.book.now t.rows.now (length m) in
+        sym (alike-stable alike m size ∙ constrained-filter Q (driven_program d).constraints (tabled-free t.book.now t.rows.now (length m)) m
+        ∙ ap (λ (c : Bool). stable Q m && not c) (sym ef ∙ z) ∙ and_true (stable Q m))
+      where
+        and_true : (c : Bool) → (c && true) ≡ c
+        and_true true = refl
+        and_true false = refl
 
 module _ (book : List ℕ) (layer off : ℕ) (candidate : List ℕ) where
   -- a cause of the book or the layer

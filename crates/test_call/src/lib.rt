@@ -12,12 +12,11 @@ ghost use Rattle.candidate.specs.Candidate.{is_bad_candidate};
 ghost use Rattle.test_call.specs.Reply.{test_reply};
 
 use accepted::{Driving, check_layer};
-use bans::banned;
 use base::MAX_RULES;
 use book::Cause;
 use candidate::{bad_candidate, read_candidate};
 use filling::Hints;
-use table::{NO_ROW, NO_SPAN, Table};
+use table::{NO_ROW, NO_SPAN};
 use tester::is_stable;
 
 // Whether the body of a constraint that counts at the layer holds in a state.
@@ -25,8 +24,7 @@ fn forbids(driving: &Driving, m: &[bool]) -> bool
     ensures { result ≡ any (all (holds m.now)) (driven_program driving.now).constraints }
 {
     let mut bans = [NO_SPAN; MAX_RULES];
-    let count = driving.prepare_bans(&mut bans);
-    banned(driving.book, &bans[..count], m)
+    driving.prepare_bans(&mut bans).banned(m)
 }
 
 // Whether a candidate's state is stable, once no cause applies: no constraint forbids it, and the rules settle it. Their table is made
@@ -37,16 +35,12 @@ fn candidate_stable(driving: &Driving, candidate: &[u8]) -> bool
 {
     let n = driving.atom_count();
     let m = read_candidate(candidate, n);
-    if forbids(driving, &m[..n]) {
+    let state = &m[..n];
+    if forbids(driving, state) {
         return false;
     }
     let mut rows = [NO_ROW; MAX_RULES];
-    let count = driving.prepare(&mut rows);
-    let table = Table {
-        book: driving.book,
-        rows: &rows[..count],
-    };
-    is_stable(table, &m[..n], n, &mut Hints::new())
+    is_stable(driving.prepare(&mut rows), state, &mut Hints::new())
 }
 
 // Whether a candidate is stable.
