@@ -1,7 +1,7 @@
 -- The records of the rules' section, one after the other. Assumes nothing.
 use Rattle.std.specs.Prelude.{◌≡◌, [], ◌∷◌, Option, Some, None}
-use Rattle.table.specs.declared.RuleRecord.{RuleRecord}
-use Rattle.table.specs.declared.RuleSection.{RuleSection}
+use Rattle.table.specs.declared.section.RuleRecord.{RuleRecord}
+use Rattle.table.specs.declared.section.RuleSection.{RuleSection}
 use Rattle.table.specs.Records.{rule_at, rules_from}
 
 -- the next record of a section, and what is left of it

@@ -2,22 +2,23 @@
 // overrides rules. Made once a call; bodies stay where they are in the book.
 #![tactic(auto)]
 
-ghost use Rattle.std.specs.Prelude.{List, ℕ, Bool, ◌≡◌, ◌+◌, ◌<◌, ◌≤◌, length, get_or, drop, not, ◌&&◌, eqb};
-ghost use Rattle.std.specs.Iterator.{item_count};
+ghost use Rattle.std.specs.Prelude.{◌≡◌, ◌<◌, cond, eqb};
 ghost use Rattle.std.proofs.Props.{props};
 ghost use Rattle.base.specs.Bounds.{max_atoms, max_names, max_layers};
 ghost use Rattle.base.specs.Lists.{all, any};
 ghost use Rattle.layers.specs.Masks.{bit_of};
-ghost use Rattle.format.specs.Book.{Rule, literals_of, is_constraint};
-ghost use Rattle.models.specs.StableModels.{atom_holds, complement, same_literal, holds, body_holds, leans_on_itself};
+ghost use Rattle.format.specs.Book.{literals_of};
+ghost use Rattle.models.specs.StableModels.{atom_holds, complement, same_literal, holds, body_holds};
 ghost use Rattle.table.specs.Names.{literal_named};
-ghost use Rattle.table.specs.Records.{rule_at, RuleAt, Gives, Gathered, RowOf, BodyOf};
-ghost use Rattle.table.specs.Rows.{in_mask, SpanFits, span_bytes, nth, row_rule, row_count, head_name, row_layer, overridden, row_body, row_at, alive, RowsBounded, RowsFit, SameRules};
-ghost use Rattle.table.specs.Overriding.{HeadLayers, unless_leaning, Overridden};
-ghost use Rattle.table.specs.Table.{program_of, RuleRecords, Prepared, RelevantLayers, RowsMade, TableMade};
+ghost use Rattle.table.specs.Rows.{SpanFits, span_bytes, nth, row_count, head_name, row_layer, overridden, row_body, row_at, alive, RowsBounded, RowsFit, SameRules};
+ghost use Rattle.table.specs.Overriding.{HeadLayers, Overridden};
+ghost use Rattle.table.specs.Table.{program_of, Prepared, RelevantLayers, RowsMade, TableMade};
+
+mod section;
 
 use base::{MAX_ATOMS, MAX_LAYERS, MAX_NAMES, MAX_RULES};
 use format::{Literal, Literals};
+pub use section::{FromRecord, RuleRecord, RuleSection, gather};
 
 // Where a body stands in the book.
 #[derive(Clone, Copy)]
@@ -80,6 +81,7 @@ pub fn span_bytes(book: &[u8], span: Span) -> &[u8]
 }
 
 // Whether the mask has the layer.
+// Kept: the layer's bound in a clause: a type for that one bound would be turned into the number at each use.
 #[tactic(auto, using(layers::proofs::WarshallLaws::test_bit))]
 pub fn has_layer(mask: u32, layer: usize) -> bool
     requires { layer < max_layers }
@@ -131,7 +133,7 @@ pub struct TableRow<'a> {
 }
 
 impl<'a> TableRow<'a> {
-    fn entry(self) -> Row
+    fn row(self) -> Row
         ensures { result ≡ nth self.entry.table.rows.now self.entry.j }
     {
         row_at(self.table.rows, self.j)
@@ -141,28 +143,28 @@ impl<'a> TableRow<'a> {
     pub fn head(self) -> usize
         ensures { (result ≡ head_name self.entry.table.rows.now self.entry.j) × (result < max_names) }
     {
-        self.entry().head as usize
+        self.row().head as usize
     }
 
     // Its layer.
     pub fn layer(self) -> usize
         ensures { (result ≡ row_layer self.entry.table.rows.now self.entry.j) × (result < max_layers) }
     {
-        self.entry().layer as usize
+        self.row().layer as usize
     }
 
     // The mask of the layers in which it overrides rules.
     pub fn overridden(self) -> u32
         ensures { result ≡ overridden self.entry.table.rows.now self.entry.j }
     {
-        self.entry().overridden
+        self.row().overridden
     }
 
     // Its body, as a part of the book that starts in its middle.
     pub fn body(self) -> &'a [u8]
         ensures { result.now ≡ row_body self.entry.table.book.now self.entry.table.rows.now self.entry.j }
     {
-        span_bytes(self.table.book, self.entry().body)
+        span_bytes(self.table.book, self.row().body)
     }
 
     // Whether its body holds.
@@ -224,161 +226,6 @@ pub fn literal_named(h: usize) -> Literal
     }
 }
 
-// A record of the rules' section, by its offset in the book.
-#[derive(Clone, Copy)]
-pub struct RuleRecord<'a> {
-    pub book: &'a [u8],
-    pub at: usize,
-    pub ghost whole: { RuleAt book.now at },
-    pub ghost short: { length book.now < 65536 },
-}
-
-impl<'a> RuleRecord<'a> {
-    // The layer of its rule.
-    #[tactic(auto, unfolding(crate::specs::Records::rule_at))]
-    pub fn layer(self) -> usize
-        ensures { (result ≡ (rule_at self.entry.book.now self.entry.at).layer) × (result < max_layers) }
-    {
-        self.book[self.at + 1] as usize
-    }
-
-    // The head of its rule.
-    #[tactic(auto, unfolding(crate::specs::Records::rule_at))]
-    pub fn head(self) -> Literal
-        ensures { result ≡ (rule_at self.entry.book.now self.entry.at).head }
-    {
-        Literal::from_bytes(self.book[self.at + 2], self.book[self.at + 3])
-    }
-
-    // Where the body of its rule stands.
-    #[tactic(auto, unfolding(crate::specs::Records::rule_at))]
-    pub fn body(self) -> Span
-        ensures { BodyOf self.entry.book.now result (rule_at self.entry.book.now self.entry.at) }
-    {
-        Span {
-            start: (self.at + 4) as u32,
-            size: self.book[self.at] as u16 - 3,
-        }
-    }
-
-    // The offset behind it.
-    fn end(self) -> usize
-        ensures { result ≡ self.entry.at + 1 + get_or self.entry.book.now self.entry.at 0 }
-    {
-        self.at + 1 + self.book[self.at] as usize
-    }
-}
-
-// What one walk over the rules' records gathers: the row of each rule, or where the body of each constraint stands.
-pub trait FromRecord: Copy {
-    // which rules give something
-    ghost takes: { Rule → Bool };
-
-    // what is gathered stands for a rule of the book
-    ghost stands: { List ℕ → Self → Rule → Type 0 };
-
-    fn from_record(from: RuleRecord) -> Option<Self>
-        ensures { Gives (takes (rule_at from.entry.book.now from.entry.at)) (λ e. stands from.entry.book.now e (rule_at from.entry.book.now from.entry.at)) result };
-}
-
-impl FromRecord for Row {
-    ghost takes = { λ r. not (is_constraint r) };
-
-    ghost stands = { RowOf };
-
-    // A constraint has no row: its head has no name.
-    #[tactic(auto, unfolding(format::specs::Book::is_constraint, crate::specs::Records::rule_at))]
-    fn from_record(from: RuleRecord) -> Option<Row> {
-        let head = from.head();
-        if head.is_falsity() {
-            return None;
-        }
-        Some(Row {
-            body: from.body(),
-            head: name_of(head) as u16,
-            layer: from.layer() as u16,
-            overridden: 0,
-        })
-    }
-}
-
-impl FromRecord for Span {
-    ghost takes = { is_constraint };
-
-    ghost stands = { BodyOf };
-
-    #[tactic(auto, unfolding(format::specs::Book::is_constraint))]
-    fn from_record(from: RuleRecord) -> Option<Span> {
-        if !from.head().is_falsity() {
-            return None;
-        }
-        Some(from.body())
-    }
-}
-
-// What a record gives, if the mask has its layer.
-#[tactic(auto, unfolding(crate::specs::Rows::in_mask))]
-fn entry_of<E: FromRecord>(from: RuleRecord, mask: u32) -> Option<E>
-    ensures { Gives (in_mask mask (rule_at from.entry.book.now from.entry.at) && E.takes (rule_at from.entry.book.now from.entry.at)) (λ e. E.stands from.entry.book.now e (rule_at from.entry.book.now from.entry.at)) result }
-{
-    if !has_layer(mask, from.layer()) {
-        return None;
-    }
-    E::from_record(from)
-}
-
-// The rules' section of a book: its records are the bytes from `first` on.
-#[derive(Clone, Copy)]
-pub struct RuleSection<'a> {
-    pub book: &'a [u8],
-    pub first: usize,
-    pub ghost records: { RuleRecords (drop first book.now) } by { Prim.hlevel props },
-    pub ghost starts: { first ≤ length book.now },
-    pub ghost short: { length book.now < 65536 },
-}
-
-// Its records, one after the other.
-impl<'a> Iterator for RuleSection<'a> {
-    type Item = RuleRecord<'a>;
-
-    ghost use Rattle.table.specs.Section.{GivesRecord};
-
-    ghost next_gives = { GivesRecord };
-
-    ghost remaining = { item_count (λ s. drop s.first s.book.now) };
-
-    #[tactic(auto, using(crate::proofs::WalkLaws::record_here, crate::proofs::WalkLaws::records_left, crate::proofs::WalkLaws::rules_left, crate::proofs::WalkLaws::no_rules_left))]
-    fn next(&mut self) -> Option<RuleRecord<'a>> {
-        if self.book.len() <= self.first {
-            return None;
-        }
-        let record = RuleRecord {
-            book: self.book,
-            at: self.first,
-        };
-        self.first = record.end();
-        Some(record)
-    }
-}
-
-// Writes what the rules give whose layer is in the mask, in their order, and lends the part that is filled: one walk over the records.
-pub fn gather<'r, E: FromRecord>(
-    rules: RuleSection,
-    mask: u32,
-    out: &'r mut [E; MAX_RULES],
-) -> &'r mut [E]
-    ensures { Gathered E.takes E.stands rules.entry.book.now rules.entry.first mask result.now }
-{
-    let mut count = 0;
-    for record in rules {
-        if let Some(entry) = entry_of::<E>(record, mask) {
-            out[count] = entry;
-            count += 1;
-        }
-    }
-    &mut out[..count]
-}
-
 // Writes the rows of the rules whose layer is in the mask, in their order, and lends the part that is filled.
 #[tactic(auto, using(crate::proofs::WalkLaws::rows_made))]
 pub fn make_rows<'r>(rules: RuleSection, mask: u32, rows: &'r mut [Row; MAX_RULES]) -> &'r mut [Row]
@@ -406,45 +253,35 @@ fn has_literal(body: &[u8], l: Literal) -> bool
     Literals(body).any(|other| l == other)
 }
 
-// Whether a row leans on itself: its head is among its own body's literals.
-#[tactic(auto, unfolding(models::specs::StableModels::leans_on_itself))]
-fn row_leans(book: &[u8], row: Row) -> bool
-    requires { SpanFits book.now row.body }
-    ensures { result ≡ leans_on_itself (row_rule book.now row) }
+// The mask of the layers in which a rule overrides others, from that of the lower layers in which the opposite head stands: empty where it
+// leans on itself, its head among its own body's literals. The body is read only where there is a rule to override.
+fn unless_leaning(head: Literal, body: &[u8], mask: u32) -> u32
+    ensures { result ≡ cond (any (same_literal head) (literals_of body.now)) 0 mask }
 {
-    has_literal(span_bytes(book, row.body), literal_named(row.head as usize))
-}
-
-// The mask of the layers in which a row overrides rules, from that of the lower layers in which the opposite head stands: empty where it
-// leans on itself. The body is read only where there is a rule to override.
-#[tactic(auto, unfolding(crate::specs::Overriding::unless_leaning))]
-fn unless_leaning(book: &[u8], row: Row, mask: u32) -> u32
-    requires { SpanFits book.now row.body }
-    ensures { result ≡ unless_leaning (row_rule book.now row) mask }
-{
-    if mask != 0 && row_leans(book, row) {
+    if mask != 0 && has_literal(body, head) {
         return 0;
     }
     mask
 }
 
 // Writes each row's mask of the layers in which it overrides a rule: `lower` has each layer's mask of the layers below it.
-pub fn overridden_layers(book: &[u8], rows: &mut [Row], lower: [u32; MAX_LAYERS])
+pub fn overridden_layers(book: &[u8], rows: &mut [Row], lower: &[u32; MAX_LAYERS])
     requires { RowsFit book.now rows.old }
-    ensures { SameRules rows.old rows.new × Overridden book.now rows.old lower rows.new (row_count rows.old) }
+    ensures { SameRules rows.old rows.new × Overridden book.now rows.old lower.now rows.new (row_count rows.old) }
 {
     let heads = head_layers(rows);
     for row in rows.iter_mut() {
-        let o = opposite(row.head as usize);
-        row.overridden = unless_leaning(book, *row, heads[o] & lower[row.layer as usize]);
+        let h = row.head as usize;
+        let mask = heads[opposite(h)] & lower[row.layer as usize];
+        row.overridden = unless_leaning(literal_named(h), span_bytes(book, row.body), mask);
     }
 }
 
 // The mask of the layers whose rules count at a layer: itself and those below it, without those that are switched off.
 #[tactic(auto, using(crate::proofs::TableLaws::mask_counts))]
-pub fn relevant_layers(lower: [u32; MAX_LAYERS], layer: usize, off: u32) -> u32
+pub fn relevant_layers(lower: &[u32; MAX_LAYERS], layer: usize, off: u32) -> u32
     requires { layer < max_layers }
-    ensures { RelevantLayers lower layer off result }
+    ensures { RelevantLayers lower.now layer off result }
 {
     let under = lower[layer];
     let all = under | (1 << (layer as u32));
@@ -478,7 +315,7 @@ impl<'a> Source<'a> {
     pub fn relevant(&self) -> u32
         ensures { RelevantLayers self.now.lower self.now.layer self.now.off result }
     {
-        relevant_layers(self.lower, self.layer, self.off)
+        relevant_layers(&self.lower, self.layer, self.off)
     }
 
     // Writes the table of the program at the layer, of the rules of that layer and of those below it that are not switched off.
@@ -489,7 +326,7 @@ impl<'a> Source<'a> {
         ensures book_is { result.book ≡ self.now.book }
     {
         let rows = make_rows(self.rules(), self.relevant(), rows);
-        overridden_layers(self.book, rows, self.lower);
+        overridden_layers(self.book, rows, &self.lower);
         Table {
             book: self.book,
             rows,

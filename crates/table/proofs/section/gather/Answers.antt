@@ -2,7 +2,7 @@
 use mathlib.Core.Path.{refl, ◌∙◌}
 use native.Mathlib.Omega.{arith}
 use Rattle.table.proofs.WalkLaws.{walk_start, free, walk_skip, walk_more, walk_end}
-use Rattle.table.proofs.gather.Goals as goal
+use Rattle.table.proofs.section.gather.Goals as goal
 
 pub loop-record-init : goal.loop-record-init
 loop-record-init g c =

@@ -1,6 +1,6 @@
 -- The record at the offset is whole, and what follows it is a section again.
 use Rattle.table.proofs.WalkLaws.{record_here, records_left}
-use Rattle.table.proofs.RuleSectionIterator.next.Goals as goal
+use Rattle.table.proofs.section.RuleSectionIterator.next.Goals as goal
 
 pub invariant_of-record-clause-whole : goal.invariant_of-record-clause-whole
 invariant_of-record-clause-whole c =

@@ -2,7 +2,7 @@
 use mathlib.Core.Path.{◌≡◌}
 use Rattle.table.specs.Records.{rules_from}
 use Rattle.table.proofs.WalkLaws.{WalkedTo}
-use Rattle.table.proofs.gather.Given as goal
+use Rattle.table.proofs.section.gather.Given as goal
 
 abbrev pub invariant-loop-record : goal.invariant-loop-record
 invariant-loop-record g l =
