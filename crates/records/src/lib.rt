@@ -15,6 +15,7 @@ use insertion::put_record;
 pub const HEAD_SIZE: usize = 11;
 
 // The bytes of a record of n facts.
+// Kept: the new form is no plainer: a type for the one bound on n would be turned into the number at each use.
 #[tactic(auto, unfolding(models::specs::Listing::record_size))]
 pub fn record_size(n: usize) -> usize
     requires { n ≤ max_atoms }
@@ -44,14 +45,15 @@ pub fn record_byte(m: &[bool], at: usize) -> u8
 }
 
 // A state's record, in the first bytes.
-#[tactic(auto, using(crate::proofs::PackLaws::record_start), unfolding(models::specs::Listing::record_of))]
+#[tactic(auto, using(crate::proofs::PackLaws::record_start, crate::proofs::PackLaws::record_step), unfolding(models::specs::Listing::record_of))]
 pub fn record_of(m: &[bool]) -> [u8; MAX_RECORD]
     requires { length m.now ≤ max_atoms }
     ensures { take (record_size (length m.now)) result ≡ record_of (length m.now) m.now }
 {
     let mut r = [0; MAX_RECORD];
-    for j in 0..record_size(m.len()) {
-        r[j] = record_byte(m, 8 * j);
+    let w = record_size(m.len());
+    for (j, byte) in r[..w].iter_mut().enumerate() {
+        *byte = record_byte(m, 8 * j);
     }
     r
 }
@@ -90,8 +92,8 @@ pub fn put_head(buf: &mut [u8], size: usize, n: usize, k: usize)
     requires { 11 ≤ length buf.old }
     ensures { buf.new ≡ 1 ∷ (be32 size ++ (be16 n ++ (be32 k ++ drop 11 buf.old))) }
 {
-    let [_, _, _, _, s0, s1, s2, s3] = size.to_be_bytes();
-    let [_, _, _, _, _, _, n0, n1] = n.to_be_bytes();
-    let [_, _, _, _, k0, k1, k2, k3] = k.to_be_bytes();
+    let [.., s0, s1, s2, s3] = size.to_be_bytes();
+    let [.., n0, n1] = n.to_be_bytes();
+    let [.., k0, k1, k2, k3] = k.to_be_bytes();
     put_record(buf, 0, &[1, s0, s1, s2, s3, n0, n1, k0, k1, k2, k3]);
 }

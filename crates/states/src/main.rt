@@ -10,7 +10,7 @@ use drive::list;
 use list_call::Listed;
 use records::HEAD_SIZE;
 use std::io;
-use std::io::{ErrorKind, Read, Write};
+use std::io::{Read, Write};
 
 // The most bytes of input that are taken for a book.
 const MOST_INPUT: usize = 65536;
@@ -36,18 +36,16 @@ fn print_refused<W: Write>(out: &mut W, cause: Cause) -> io::Result<()> {
 
 // A fact's digit in a record: bit 7 - f % 8 of byte f / 8.
 fn digit(record: &[u8], fact: usize) -> u8 {
-    match record.get(fact / 8) {
-        Some(byte) if byte >> (7 - fact % 8) & 1 == 1 => b'1',
-        _ => b'0',
-    }
+    let byte = record.get(fact / 8).copied().unwrap_or(0);
+    b'0' + (byte >> (7 - fact % 8) & 1)
 }
 
 // One line, written at once: a digit for each fact from fact 0. No book has more than MAX_ATOMS.
 fn print_state<W: Write>(out: &mut W, record: &[u8], facts: usize) -> io::Result<()> {
     let mut line = [b'\n'; LINE];
     let end = facts.min(MAX_ATOMS);
-    for fact in 0..end {
-        line[fact] = digit(record, fact);
+    for (fact, place) in line[..end].iter_mut().enumerate() {
+        *place = digit(record, fact);
     }
     out.write_all(&line[..=end])
 }
@@ -82,27 +80,13 @@ fn show<W: Write>(out: &mut W, book: &[u8]) -> io::Result<()> {
     }
 }
 
-// Fills the bytes from the front until they are full or the input ends, and says how many came. A read that a signal breaks off is tried
-// again.
+// Fills the bytes from the front until they are full or the input ends, and says how many came.
 fn read_input<R: Read>(input: &mut R, bytes: &mut [u8]) -> io::Result<usize>
     ensures { IfOk result (λ n. n ≤ length bytes.new) }
 {
-    let mut len = 0;
-    for _ in 0..u64::MAX {
-        if len == bytes.len() {
-            return Ok(len);
-        }
-        match input.read(&mut bytes[len..]) {
-            Ok(0) => return Ok(len),
-            Ok(n) => len += n,
-            Err(e) => {
-                if e.kind() != ErrorKind::Interrupted {
-                    return Err(e);
-                }
-            }
-        }
-    }
-    Ok(len)
+    let room = bytes.len();
+    let came = io::copy(&mut input.take(room as u64), &mut &mut bytes[..])?;
+    Ok(room.min(came as usize))
 }
 
 fn main(rt: HostRuntime) -> io::Result<()> {
