@@ -1,8 +1,8 @@
 // The branching facts of a program, from its table: by both grounds, each once, rising.
 #![tactic(auto)]
 
-ghost use Rattle.std.specs.Prelude.{◌≡◌, false, ◌&&◌, ◌||◌, ◌≤◌, ltb, replicate};
-ghost use Rattle.base.specs.Bounds.{max_atoms};
+ghost use Rattle.std.specs.Prelude.{◌≡◌, false, ◌&&◌, ◌||◌, ◌≤◌, ltb, length, replicate, IfOk};
+ghost use Rattle.base.specs.Bounds.{max_atoms, max_branching};
 ghost use Rattle.table.specs.Table.{Tabulates};
 ghost use Rattle.table.specs.Tabled.{tabled};
 ghost use Rattle.branching.specs.Marks.{BodyMarked, BranchingMarks, Listed};
@@ -45,7 +45,8 @@ fn mark_branching(table: Table, marks: &mut [bool; MAX_ATOMS])
 pub fn branching_atoms(table: Table, n: usize) -> Result<ArrayVec<u32, MAX_BRANCHING>, usize>
     requires tabulates { Tabulates (tabled table.book.now table.rows.now n) table.book.now table.rows.now }
     requires n_le_max_atoms { n ≤ max_atoms }
-    ensures { Listed (tabled table.entry.book.now table.entry.rows.now n) result }
+    ensures listed { Listed (tabled table.entry.book.now table.entry.rows.now n) result }
+    ensures few { IfOk result (λ facts. length facts ≤ max_branching) }
 {
     let mut marks = [false; MAX_ATOMS];
     mark_branching(table, &mut marks);

@@ -8,7 +8,7 @@ use mathlib.Core.Path.{◌≡◌, ◌∙◌, sym}
 use Rattle.std.proofs.Common.{get_or-take, length-take-le, arith}
 use Rattle.table.specs.Tabled.{tabled}
 use Rattle.table.proofs.TabledLaws.{tabled-atoms}
-use Rattle.branching.proofs.ListLaws.{listed_start, listed_yes, listed_no, listed_all, listed_many, marked-branches, table_alone}
+use Rattle.branching.proofs.ListLaws.{listed_start, listed_yes, listed_no, listed_all, listed_few, listed_many, marked-branches, table_alone}
 use Rattle.branching.proofs.branching_atoms.Goals as goal
 use Rattle.branching.proofs.branching_atoms.Goals.{then-branches, else-branches}
 
@@ -32,14 +32,17 @@ loop-f-preserved c =
       | else-branches w ↦ rw (w.atoms-is, w.count-is) (listed_no (tabled c.args.table.book.now c.args.table.rows.now c.args.n) c.loop-f.f c.loop-f.atoms c.loop-f.count c.loop-f.invariant (b _ (sym at ∙ w.if-branches.false)))
     ]
 
-pub returns-then-count-gt-MAX_BRANCHING : goal.returns-then-count-gt-MAX_BRANCHING
-returns-then-count-gt-MAX_BRANCHING c = (
+pub returns-then-count-gt-MAX_BRANCHING-clause-listed : goal.returns-then-count-gt-MAX_BRANCHING-clause-listed
+returns-then-count-gt-MAX_BRANCHING-clause-listed c = (
   listed_many (tabled c.args.table.book.now c.args.table.rows.now c.args.n) c.loop-f.f c.loop-f.atoms c.loop-f.count
       (all_passed c.mark_branching.new.marks c.args.n c.mark_branching.array_long c.requires.n_le_max_atoms c.loop-f-test.false c.loop-f.auto.f-end ∙ sym (tabled-atoms c.args.table.book.now c.args.table.rows.now c.args.n)) c.loop-f.invariant,
   c.if-count-gt-MAX_BRANCHING.true,
 )
 
-pub returns : goal.returns
-returns c =
+pub returns-clause-listed : goal.returns-clause-listed
+returns-clause-listed c =
     listed_all (tabled c.args.table.book.now c.args.table.rows.now c.args.n) c.loop-f.f c.loop-f.atoms c.loop-f.count
     (all_passed c.mark_branching.new.marks c.args.n c.mark_branching.array_long c.requires.n_le_max_atoms c.loop-f-test.false c.loop-f.auto.f-end ∙ sym (tabled-atoms c.args.table.book.now c.args.table.rows.now c.args.n)) c.loop-f.invariant c.if-count-gt-MAX_BRANCHING.false
+
+pub returns-clause-few : goal.returns-clause-few
+returns-clause-few c = listed_few c.loop-f.invariant c.if-count-gt-MAX_BRANCHING.false
