@@ -8,13 +8,15 @@ use Prim.Native.Nat.{ℕ, ◌<◌, ◌≤◌}
 use native.Mathlib.Omega.{arith}
 use borrow.Author.Tests.{eq-eqb, eqb-true, ltb-true, lt-ltb, not-false}
 use lib.Dec.{T, eqb, ltb, eqb→eq, eqb_refl}
-use lib.ListN.{length, get_or}
+use lib.ListN.{length, get_or, drop}
 use Rattle.base.specs.Bounds.{max_layers}
 use Rattle.base.specs.Lists.{all, any, up_to}
 use Rattle.format.specs.Book.{records, arrow_of, arrow_records, rule_records, arrows_of, atom_count, layer_count}
 use Rattle.layers.specs.Layers.{Arrow, link, repeats, same_arrow, Path, single, longer, below}
 use Rattle.layers.specs.Masks.{bit_of, marked, Linked, Way, edge, join, EmptyFrom, LowerMasks}
-use Rattle.book.specs.Causes.{arrow_ok, rule_ok, is_out_of_range, has_bad_record, repeats_arrow, has_cycle}
+use Rattle.book.specs.Causes.{arrow_ok, rule_ok, is_out_of_range, has_bad_record, repeats_arrow, has_cycle, tests, first_of, verdict_if}
+use Rattle.book.specs.declared.Cause.TheVariants.{Cycle}
+use Rattle.std.specs.Prelude.{Ok, Err}
 use Rattle.book.specs.Header.{HeaderOf}
 use Rattle.base.proofs.Members.{◌∈◌, and_left, and_right, and_both, all_at, all_of, any_at, any_of, same_test}
 use Rattle.base.proofs.UpTo.{passed, true_of}
@@ -121,6 +123,13 @@ module _ {s : List ℕ} {n l k : ℕ} (h : HeaderOf s n l k) (five : is_out_of_r
       let w : (r : List ℕ) × r ∈ arrow_records s × (arrow_of r ≡ a) = Memᴰ.of_map arrow_of (arrow_records s) i in
       subst (λ (b : Arrow). (b.earlier < layer_count s) × (b.later < layer_count s)) w.2 (both_low (layer_count s) w.0 (all_at (arrow_ok (layer_count s)) arrows_good w.1))
 
+  pub count_few : l ≤ max_layers
+  count_few = omega (arith, h.layers_are, layers_few)
+
+  pub eight_is : (m : List ℕ) → LowerMasks (arrows_of s) m → (t : Bool) → t ≡ any (λ i. marked m i i) (up_to l) → t ≡ has_cycle s
+  unfolding has_cycle
+  eight_is m w t e = e ∙ cycle_is (arrows_of s) l m w ∙ ap (λ (x : ℕ). any (λ i. below (arrows_of s) i i) (up_to x)) h.layers_are
+
   -- the bytes of the arrow section's records, as the code cuts them
   module _ (part : List ℕ) (ep : records part ≡ arrow_records s) where
     pub part_good : all (arrow_ok max_layers) (records part) ≡ true
@@ -144,9 +153,8 @@ module _ {s : List ℕ} {n l k : ℕ} (h : HeaderOf s n l k) (five : is_out_of_r
       pub masks_are : (m : List ℕ) → ((i j : ℕ) → Linked m i j → Way start i j) → ((i j : ℕ) → Way start i j → Linked m i j) → LowerMasks (arrows_of s) m
       masks_are m = closed (arrows_of s) start reads-arrows m (λ a i. omega (arith, (arrows-low a i).1, layers_few))
 
-  pub count-few : l ≤ max_layers
-  count-few = omega (arith, h.layers_are, layers_few)
-
-  pub eight_is : (m : List ℕ) → LowerMasks (arrows_of s) m → (t : Bool) → t ≡ any (λ i. marked m i i) (up_to l) → t ≡ has_cycle s
-  unfolding has_cycle
-  eight_is m w t e = e ∙ cycle_is (arrows_of s) l m w ∙ ap (λ (x : ℕ). any (λ i. below (arrows_of s) i i) (up_to x)) h.layers_are
+      -- no two arrows are equal, and a layer is below itself where there is a bit on the diagonal
+      pub verdict_is : (m : List ℕ) → ((i j : ℕ) → Linked m i j → Way start i j) → ((i j : ℕ) → Way start i j → Linked m i j) → false ≡ repeats (map arrow_of (records part))
+          → (u : Bool) → u ≡ any (λ i. marked m i i) (up_to l) → verdict_if u (Err Cycle) (Ok tt) ≡ first_of (drop 6 (tests s))
+      unfolding tests first_of verdict_if
+      verdict_is m sound full none u eu = rw (← seven_is _ none, ← eight_is m (masks_are m sound full) u eu) refl

@@ -107,7 +107,7 @@ pub fn head_ok(head: Literal, atoms: usize) -> bool
 }
 
 // Whether a record is a rule's: length 3 + 2b with b up to MAX_BODY, a layer below L, and facts below n but for the head of a constraint.
-#[tactic(auto, using(crate::proofs::RecordLaws::short_rule, crate::proofs::RecordLaws::long_rule, crate::proofs::RecordLaws::even_rule, crate::proofs::RecordLaws::whole_rule), unfolding(crate::specs::Causes::rule_ok, format::specs::Book::rule_of))]
+#[tactic(auto, using(crate::proofs::RecordLaws::short_rule, crate::proofs::RecordLaws::long_rule, crate::proofs::RecordLaws::even_rule, crate::proofs::RecordLaws::whole_rule, crate::proofs::RecordLaws::rule_is), unfolding(crate::specs::Causes::rule_ok, format::specs::Book::rule_of))]
 pub fn rule_ok(rec: &[u8], layers: usize, atoms: usize) -> bool
     ensures { result ≡ rule_ok layers atoms rec.now }
 {
@@ -129,6 +129,7 @@ pub fn rules_ok(part: &[u8], layers: usize, atoms: usize) -> bool
 }
 
 // The arrows as masks: bit i of mask j for an arrow from i to j. There are none where two arrows are equal.
+#[tactic(auto, using(crate::proofs::MaskLaws::walk_start, crate::proofs::MaskLaws::end_repeated, crate::proofs::MaskLaws::end_reads, crate::proofs::MaskLaws::next_two, crate::proofs::MaskLaws::next_hit, crate::proofs::MaskLaws::next_walked))]
 pub fn arrow_masks(part: &[u8]) -> Option<[u32; MAX_LAYERS]>
     requires { all (arrow_ok max_layers) (records part.now) ≡ true }
     ensures repeated { is_none result ≡ repeats (map arrow_of (records part.now)) }
@@ -174,7 +175,7 @@ impl<'a> Header<'a> {
     }
 
     // The bytes of the arrow section's records.
-    #[tactic(auto, using(crate::proofs::RangeLaws::header_in))]
+    #[tactic(auto, using(crate::proofs::RangeLaws::header_in, format::proofs::SectionLaws::arrow_part))]
     fn arrow_part(&self) -> &'a [u8]
         ensures { records result.now ≡ arrow_records self.now.book.now }
     {
@@ -182,7 +183,7 @@ impl<'a> Header<'a> {
     }
 
     // The bytes of the rule section's records.
-    #[tactic(auto, using(crate::proofs::RangeLaws::header_in))]
+    #[tactic(auto, using(crate::proofs::RangeLaws::header_in, format::proofs::SectionLaws::laid, format::proofs::SectionLaws::rule_part))]
     fn rule_part(&self) -> &'a [u8]
         ensures { records result.now ≡ rule_records self.now.book.now }
     {
@@ -211,6 +212,7 @@ impl<'a> Header<'a> {
 
     // The tests from cause 7 on. The test of cause 8 needs each layer's mask of the layers below it, and so does every call that drives
     // a layer: an accepted book is answered by its masks, the closure of its arrows.
+    #[tactic(auto, using(crate::proofs::CycleLaws::part_good, crate::proofs::CycleLaws::seven_is, crate::proofs::CycleLaws::masks_empty, crate::proofs::CycleLaws::count_few), unfolding(crate::specs::Causes::tests, crate::specs::Causes::first_of, crate::specs::Causes::verdict_if))]
     pub fn check_arrows(&self) -> Result<[u32; MAX_LAYERS], Cause>
         requires { (is_out_of_range self.now.book.now ≡ false) × (has_bad_record self.now.book.now ≡ false) }
         ensures verdict { verdict_of result ≡ first_of (drop 6 (tests self.now.book.now)) }

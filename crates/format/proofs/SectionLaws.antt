@@ -1,5 +1,5 @@
 -- Where cause 4 does not apply: a section that is whole has room for its fields, and which bytes of the book are which records. Used by
--- broken_section; the crate `book` reads the sections by `arrow-part` and `rule_part`. Assumes nothing.
+-- broken_section; the crate `book` reads the sections by `arrow_part` and `rule_part`. Assumes nothing.
 use mathlib.Core.Path.{◌≡◌, refl, sym, ap}
 use mathlib.Core.Bool.{Bool, true, false, not, ◌||◌, false≢true}
 use mathlib.Core.List.{List}
@@ -39,9 +39,9 @@ laid s e = record {
 
 -- the two parts, as the code cuts them
 module _ (s : List ℕ) (k : ℕ) (ek : k ≡ rule_section s) where
-  pub arrow-part : records (take (k - 14) (drop 14 s)) ≡ arrow_records s
+  pub arrow_part : records (take (k - 14) (drop 14 s)) ≡ arrow_records s
   unfolding arrow_records section_records rule_section section_end
-  arrow-part = ap (λ (i : ℕ). records (take i (drop 14 s))) {x = k - 14} {y = section_bytes s 8} (omega arith)
+  arrow_part = ap (λ (i : ℕ). records (take i (drop 14 s))) {x = k - 14} {y = section_bytes s 8} (omega arith)
 
   pub rule_part : Laid s → records (take (length s - (k + 6)) (drop (k + 6) s)) ≡ rule_records s
   unfolding rule_records section_records
