@@ -1,7 +1,6 @@
--- The header, and causes 5 and 6: the tests of the code decide whether the numbers are in their ranges and whether the records of both
--- sections are good, and what follows for the numbers where cause 5 does not apply. Used by read, out_of_range,
--- bad_record and wherever a section is cut; CycleLaws and the crate `accepted` cite `ranges`. Assumes nothing.
-use mathlib.Core.Path.{◌≡◌, refl, sym, ap, ◌∙◌}
+-- The header, and what follows for its numbers where cause 5 does not apply. Used by read and wherever a section is cut; CycleLaws and the
+-- crate `accepted` cite `ranges`. Assumes nothing.
+use mathlib.Core.Path.{◌≡◌, refl}
 use mathlib.Core.Bool.{Bool, true, false, not, ◌&&◌, ◌||◌}
 use mathlib.Core.List.{List}
 use Prim.Native.Nat.{ℕ, ◌+◌, ◌≤◌}
@@ -10,10 +9,9 @@ use borrow.Author.Tests.{leb-true, not-false}
 use lib.Dec.{leb}
 use lib.ListN.{length, get_or}
 use Rattle.base.specs.Bounds.{max_atoms, max_layers, max_arrows, max_rules}
-use Rattle.base.specs.Lists.{all}
-use Rattle.format.specs.Book.{u16_at, u32_at, section_bytes, section_count, section_end, atom_count, layer_count, rule_section, arrow_records, rule_records}
+use Rattle.format.specs.Book.{u16_at, u32_at, section_bytes, section_count, section_end, atom_count, layer_count, rule_section}
 use Rattle.format.specs.Sections.{has_broken_section}
-use Rattle.book.specs.Causes.{within, arrow_ok, rule_ok, is_out_of_range, has_bad_record}
+use Rattle.book.specs.Causes.{within, is_out_of_range}
 use Rattle.book.specs.Header.{HeaderOf}
 use Rattle.layers.proofs.BitLaws.{and_left, and_right}
 use Rattle.format.proofs.SectionLaws.{or_first, or_second, Laid, laid}
@@ -58,18 +56,3 @@ ranges s e =
       arrows_few = (in_range 0 max_arrows (section_count s 8) (or_second (a || b) c abc)).1;
       rules_few = (in_range 0 max_rules (section_count s (rule_section s)) (or_second (a || b || c) d e)).1;
     }
-
--- the records of both sections
-module _ {s : List ℕ} {n l k : ℕ} (h : HeaderOf s n l k) (t : Bool) (et : t ≡ all (arrow_ok l) (arrow_records s)) where
-  arrows_is : t ≡ all (arrow_ok (layer_count s)) (arrow_records s)
-  arrows_is = et ∙ ap (λ (x : ℕ). all (arrow_ok x) (arrow_records s)) h.layers_are
-
-  pub six_arrows : t ≡ false → not t ≡ has_bad_record s
-  unfolding has_bad_record
-  six_arrows f = sym (rw (← arrows_is, f) refl)
-
-  pub six_rules : t ≡ true → (u : Bool) → u ≡ all (rule_ok l n) (rule_records s) → not u ≡ has_bad_record s
-  unfolding has_bad_record
-  six_rules f u eu =
-      let v : u ≡ all (rule_ok (layer_count s) (atom_count s)) (rule_records s) = eu ∙ ap (λ (x : ℕ). all (rule_ok x n) (rule_records s)) h.layers_are ∙ ap (λ (x : ℕ). all (rule_ok (layer_count s) x) (rule_records s)) h.atoms_are in
-      sym (rw (← arrows_is, f, ← v) refl)
