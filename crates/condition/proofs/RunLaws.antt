@@ -4,19 +4,18 @@ use mathlib.Core.Path.{◌≡◌, refl, sym, ap, ap₂, subst, ◌∙◌}
 use mathlib.Core.Bool.{Bool, true, false, not, ◌&&◌, ◌||◌}
 use mathlib.Core.List.{List, [], ◌∷◌, ◌++◌, append_assoc, append-nil}
 use Prim.Native.Nat.{ℕ, zero, suc, ◌+◌, ◌*◌, ◌-◌, ◌/◌, ◌%◌, ◌^◌, ◌≤◌, ◌<◌, max}
-use native.Mathlib.Nat.{pow-suc, pow-le-pow_right}
+use native.Mathlib.Nat.{pow-suc, pow-le-pow_right, mod-eq_of_lt}
 use native.Mathlib.Numerals.{add-one}
 use native.Mathlib.Omega.{arith}
 use mir.Val.{bool_byte}
 use lib.Dec.{eqb}
-use lib.ListN.{length, get_or, drop}
-use lib.Seq.{drop-cons, drop-length}
+use Rattle.std.specs.List.{fold}
 use Rattle.models.specs.StableModels.{Interpretation, atom_holds}
 use Rattle.models.specs.Listing.{bit_value}
 use Rattle.grammar.specs.Conditions.{Condition, Atom, Not, And, Or, Bracket, fits}
 use Rattle.condition.specs.declared.Code.{Code}
 use Rattle.condition.specs.declared.Code.TheVariants as code
-use Rattle.condition.specs.Code.{Fits, postfix, odd, push, step, run, code_holds, height_by, peak, StackFits}
+use Rattle.condition.specs.Code.{postfix, odd, push, step, kept, run, code_holds, height_by, peak, StackFits}
 use Rattle.condition.proofs.StackLaws.{peak-least}
 
 -- ---- bits
@@ -31,10 +30,10 @@ unfolding bit_value
 bit-most true = omega arith
 bit-most false = omega arith
 
-pub pushed : (st : ℕ) (b : Bool) → 2 * st + bool_byte b ≡ push st b
+pub pushed : (st : ℕ) (b : Bool) → 2 * st % 2 ^ 64 + bool_byte b ≡ push st b % 2 ^ 64
 unfolding push bit_value
-pushed st true = refl
-pushed st false = refl
+pushed st true = omega arith
+pushed st false = omega arith
 
 -- ---- how large a stack gets
 push-small : (st h : ℕ) (b : Bool) → st < 2 ^ h → push st b < 2 ^ suc h
@@ -65,52 +64,20 @@ height_some h code.And s = omega arith
 height_some h code.Or s = omega arith
 height_some h (code.Name f) s = omega arith
 
--- ---- the loop over the code
--- the codes before i have been run, and the stack has so many bits at most
-pub record Running (codes : List Code) (m : Interpretation) (stack i : ℕ) : Type 0 where
-  pub height : ℕ
-  pub some : 1 ≤ height
-  pub small : stack < 2 ^ height
-  pub low : peak height (drop i codes) ≤ 64
-  pub same : run m (drop i codes) stack ≡ run m codes 0
-
-pub running_start : (codes : List Code) (m : Interpretation) → StackFits codes → Running codes m 0 0
-unfolding StackFits
-running_start codes m h = record { height = 1; some = omega arith; small = omega arith; low = h; same = refl }
-
--- the next code and those behind it
-code_at : (codes : List Code) (i : ℕ) → i < length codes → drop i codes ≡ get_or codes i code.Not ∷ drop (i + 1) codes
-code_at codes i h = drop-cons codes i code.Not h ∙ ap (λ (n : ℕ). get_or codes i code.Not ∷ drop n codes) (sym (add-one i))
-
-name_fits : (c : Code) (st h : ℕ) (cs : List Code) → st < 2 ^ h → peak h (c ∷ cs) ≤ 64 → Fits c st
-unfolding peak
-name_fits code.Not st h cs k l = tt
-name_fits code.And st h cs k l = tt
-name_fits code.Or st h cs k l = tt
-name_fits (code.Name f) st h cs k l =
-    let most : suc h ≤ 64 = omega (arith, l, peak-least (h + 1) cs) in
-    omega (arith, k, pow-suc 2 h, pow-le-pow_right {n = 2} (omega arith) most)
-
-pub running_room : {codes : List Code} {m : Interpretation} {stack i : ℕ} → Running codes m stack i → i < length codes → Fits (get_or codes i code.Not) stack
-running_room {codes} {m} {stack} {i} r k =
-    name_fits (get_or codes i code.Not) stack r.height (drop (i + 1) codes) r.small (subst (λ (l : List Code). peak r.height l ≤ 64) (code_at codes i k) r.low)
-
-pub running_next : {codes : List Code} {m : Interpretation} {stack i : ℕ} (next : ℕ) → Running codes m stack i → i < length codes → next ≡ step m (get_or codes i code.Not) stack → Running codes m next (i + 1)
+-- ---- the fold over the code
+-- no bit is lost where the stack fits
+fold_run : (m : Interpretation) (cs : List Code) (st h : ℕ) → 1 ≤ h → st < 2 ^ h → peak h cs ≤ 64 → fold (kept m) st cs ≡ run m cs st
 unfolding run peak
-running_next {codes} {m} {stack} {i} next r k f =
-    let c = get_or codes i code.Not in
-    let low : peak r.height (c ∷ drop (i + 1) codes) ≤ 64 = subst (λ (l : List Code). peak r.height l ≤ 64) (code_at codes i k) r.low in
-    record {
-      height = height_by r.height c;
-      some = height_some r.height c r.some;
-      small = subst (λ (x : ℕ). x < 2 ^ height_by r.height c) (sym f) (step_small m c stack r.height r.some r.small);
-      low = omega (arith, low);
-      same = ap (run m (drop (i + 1) codes)) f ∙ sym (ap (λ (l : List Code). run m l stack) (code_at codes i k)) ∙ r.same;
-    }
+fold_run m [] st h s k l = refl
+fold_run m (c ∷ cs) st h s k l =
+    let next : step m c st < 2 ^ height_by h c = step_small m c st h s k in
+    let most : height_by h c ≤ 64 = omega (arith, l, peak-least (height_by h c) cs) in
+    let whole : kept m st c ≡ step m c st = mod-eq_of_lt (omega (arith, next, pow-le-pow_right {n = 2} (omega arith) most)) in
+    ap (λ (x : ℕ). fold (kept m) x cs) whole ∙ fold_run m cs (step m c st) (height_by h c) (height_some h c s) next (omega (arith, l))
 
-pub running_end : {codes : List Code} {m : Interpretation} {stack i : ℕ} → Running codes m stack i → i ≡ length codes → odd stack ≡ code_holds codes m
-unfolding run code_holds
-running_end {codes} {m} {stack} {i} r k = ap odd (sym (ap (λ (l : List Code). run m l stack) (ap (λ (n : ℕ). drop n codes) k ∙ drop-length codes)) ∙ r.same)
+pub fold_holds : (codes : List Code) (m : Interpretation) → StackFits codes → odd (fold (kept m) 0 codes) ≡ code_holds codes m
+unfolding StackFits code_holds
+fold_holds codes m h = ap odd (fold_run m codes 0 1 (omega arith) (omega arith) h)
 
 -- ---- the code of a condition pushes its value
 push-odd : (st : ℕ) (b : Bool) → odd (push st b) ≡ b

@@ -1,6 +1,6 @@
 -- Postfix code of a condition, what running it comes to, how high its stack gets, and the loop over the text.
 -- Assumes nothing.
-use Rattle.std.specs.Prelude.{Bool, true, not, ◌&&◌, ◌||◌, cond, List, [], ◌∷◌, ◌++◌, ℕ, ◌+◌, ◌*◌, ◌-◌, ◌/◌, ◌%◌, ◌^◌, ◌≤◌, ◌<◌, max, eqb, ltb}
+use Rattle.std.specs.Prelude.{Bool, true, not, ◌&&◌, ◌||◌, cond, List, [], ◌∷◌, ◌++◌, ℕ, ◌+◌, ◌*◌, ◌-◌, ◌/◌, ◌%◌, ◌^◌, ◌≤◌, max, eqb, ltb}
 use Rattle.std.specs.List.{list_all}
 use Rattle.models.specs.StableModels.{Interpretation, atom_holds}
 use Rattle.models.specs.Listing.{bit_value}
@@ -36,6 +36,10 @@ step m code.And st = push (st / 4) (odd (st / 2) && odd st)
 step m code.Or st = push (st / 4) (odd (st / 2) || odd st)
 step m (code.Name f) st = push st (atom_holds m f)
 
+-- the same in a number of 64 bits: those that lie deeper are lost
+abbrev pub kept : Interpretation → ℕ → Code → ℕ
+kept m st c = step m c st % 2 ^ 64
+
 unfoldable pub run : Interpretation → List Code → ℕ → ℕ
 run m [] st = st
 run m (c ∷ cs) st = run m cs (step m c st)
@@ -59,13 +63,6 @@ peak h (c ∷ cs) = max h (peak (height_by h c) cs)
 -- the stack fits a number of 64 bits
 unfoldable pub StackFits : List Code → Type 0
 StackFits codes = peak 1 codes ≤ 64
-
--- a name's bit has room on the stack
-abbrev pub Fits : Code → ℕ → Type 0
-Fits code.Not st = Unit {0}
-Fits code.And st = Unit {0}
-Fits code.Or st = Unit {0}
-Fits (code.Name f) st = 2 * st + 1 < 2 ^ 64
 
 -- how many brackets are open behind a byte
 abbrev pub opened : ℕ → ℕ → ℕ

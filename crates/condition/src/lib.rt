@@ -1,9 +1,9 @@
 // Conditions such as 3&!14|(2&5): read once a call into postfix code, judged by their brackets and names, and evaluated at each state.
 #![tactic(auto)]
 
-ghost use Rattle.std.specs.Prelude.{◌≡◌, ◌+◌, ◌*◌, ◌^◌, ◌≤◌, ◌<◌, length};
+ghost use Rattle.std.specs.Prelude.{◌≡◌, ◌+◌, ◌%◌, ◌^◌, ◌≤◌, ◌<◌, length};
 ghost use Rattle.condition.specs.Causes.{max_condition};
-ghost use Rattle.condition.specs.Code.{push, step, Fits, code_holds, StackFits, opened, deepest, code_below, codes_below};
+ghost use Rattle.condition.specs.Code.{push, kept, code_holds, StackFits, opened, deepest, code_below, codes_below};
 ghost use Rattle.condition.specs.Outcome.{DigitOf, NameRead, Compiles, Prepares};
 
 use base::ArrayVec;
@@ -212,21 +212,19 @@ pub fn read_condition(text: &[u8], n: usize) -> Result<Postfix, Cause>
     }
 }
 
-// Pushes a bit on a stack of bits, the top in the lowest. A number is all the stack that a condition needs: 16 brackets deep, it has at
-// most 36 bits.
+// Pushes a bit on a stack of bits, the top in the lowest. The 64 bits on top are kept, and no condition needs more: 16 brackets deep, its
+// stack has at most 36.
 #[tactic(auto, using(crate::proofs::RunLaws::pushed))]
 fn push(stack: u64, bit: bool) -> u64
-    requires { 2 * stack + 1 < 2 ^ 64 }
-    ensures { result ≡ push stack bit }
+    ensures { result ≡ push stack bit % 2 ^ 64 }
 {
-    2 * stack + u64::from(bit)
+    (stack << 1) + u64::from(bit)
 }
 
 // Runs one code on the stack.
 #[tactic(auto, unfolding(models::specs::StableModels::atom_holds))]
 fn run_code(code: Code, state: &[bool], stack: u64) -> u64
-    requires { Fits code stack }
-    ensures { result ≡ step state.now code stack }
+    ensures { result ≡ kept state.now stack code }
 {
     let top = stack % 2 == 1;
     let second = stack / 2 % 2 == 1;
@@ -239,14 +237,12 @@ fn run_code(code: Code, state: &[bool], stack: u64) -> u64
 }
 
 // The value of a condition in a state, by its code.
-#[tactic(auto, using(crate::proofs::RunLaws::running_start, crate::proofs::RunLaws::running_room, crate::proofs::RunLaws::running_next, crate::proofs::RunLaws::running_end))]
 pub fn evaluate(codes: &[Code], state: &[bool]) -> bool
     requires { StackFits codes.now }
     ensures { result ≡ code_holds codes.now state.now }
 {
-    let mut stack = 0;
-    for code in codes {
-        stack = run_code(*code, state, stack);
-    }
+    let stack = codes
+        .iter()
+        .fold(0, |stack, code| run_code(*code, state, stack));
     stack % 2 == 1
 }
