@@ -6,8 +6,8 @@ use mathlib.Core.Path.{◌≡◌, refl, sym, ap, subst, ◌∙◌}
 use mathlib.Core.Bool.{Bool, true, false, not, ◌&&◌, cond}
 use mathlib.Core.Logic.{◌⊎◌, inl, inr}
 use mathlib.Core.List.{List, [], ◌∷◌}
-use Rattle.std.proofs.lemmas.List.{drop_min}
-use Prim.Native.Nat.{ℕ, zero, suc, ◌+◌, ◌*◌, ◌-◌, min, ◌<◌, ◌≤◌}
+use Rattle.std.proofs.lemmas.List.{drop_all}
+use Prim.Native.Nat.{ℕ, zero, suc, ◌*◌, ◌-◌, ◌<◌, ◌≤◌}
 use native.Mathlib.Decide.{ℕ_discrete}
 use native.Mathlib.Omega.{arith}
 use borrow.Author.Tests.{not-true}
@@ -98,15 +98,15 @@ unfolding adds row_at
 adds_row p q book rows rejects j = refl
 
 -- the literals of the bytes from a number on
-literals_drop : (s : List ℕ) (i : ℕ) → literals_of (drop (2 * i) s) ≡ drop i (literals_of s)
+pub literals_drop : (s : List ℕ) (i : ℕ) → literals_of (drop (2 * i) s) ≡ drop i (literals_of s)
 unfolding literals_of
 literals_drop s zero = refl
 literals_drop [] (suc i) = let two : 2 * suc i ≡ suc (suc (2 * i)) = omega arith in rw two refl
 literals_drop (a ∷ []) (suc i) = let two : 2 * suc i ≡ suc (suc (2 * i)) = omega arith in rw two refl
 literals_drop (a ∷ b ∷ s) (suc i) = let two : 2 * suc i ≡ suc (suc (2 * i)) = omega arith in rw two (literals_drop s i)
 
-pub literals_start : (s : List ℕ) (i : ℕ) → literals_of (drop (min (2 * i) (length s)) s) ≡ drop i (literals_of s)
-literals_start s i = ap literals_of (drop_min (2 * i) s) ∙ literals_drop s i
+pub literals_end : (s : List ℕ) (i : ℕ) → length s < 2 * i → literals_of [] ≡ drop i (literals_of s)
+literals_end s i h = ap literals_of (sym (drop_all (2 * i) s (omega arith))) ∙ literals_drop s i
 
 -- one of them fails a test
 and-off : (c d : Bool) → false ≡ d → false ≡ (c && d)

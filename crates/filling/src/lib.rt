@@ -86,13 +86,14 @@ impl Marks<'_> {
 }
 
 // The literals of a body's bytes from a number on.
-#[tactic(auto, using(crate::proofs::MarkLaws::literals_start))]
+#[tactic(auto, using(crate::proofs::MarkLaws::literals_drop, crate::proofs::MarkLaws::literals_end))]
 fn literals_from(body: &[u8], from: u16) -> Literals<'_>
     ensures { literals_of result.0.now ≡ drop from (literals_of body.now) }
 {
-    let at = 2 * usize::from(from);
-    let (_, rest) = body.split_at(at.min(body.len()));
-    Literals(rest)
+    match body.split_at_checked(2 * usize::from(from)) {
+        Some((_, rest)) => Literals(rest),
+        None => Literals(&[]),
+    }
 }
 
 // A fact is reached both ways.
@@ -106,7 +107,7 @@ struct RuleRow<'a> {
     rejects: &'a [u32; MAX_NAMES],
 }
 
-// Kept: marks are lent as two slices, since with a struct of two `&mut` each step's clauses also say that it still holds those two.
+// Kept: marks are two slices, and `Room` stands at each step: a struct of two `&mut` would say at each that it still holds those two.
 impl RuleRow<'_> {
     // Whether it adds its head: the head is not marked, the rule is alive and its body is marked.
     #[tactic(auto, using(crate::proofs::MarkLaws::adds_row))]
