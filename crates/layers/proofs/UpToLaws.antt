@@ -1,6 +1,6 @@
 -- The numbers 0 to n - 1 as a range gives them, so that a chain over a range meets a clause that speaks of `up_to`. Assumes nothing.
 use mathlib.Core.Path.{◌≡◌, refl, ap, ◌∙◌}
-use mathlib.Core.Bool.{Bool, ◌||◌}
+use mathlib.Core.Bool.{Bool}
 use mathlib.Core.List.{List, [], ◌∷◌, ◌++◌}
 use Prim.Native.Nat.{ℕ, zero, suc, ◌+◌}
 use native.Mathlib.Omega.{arith}
@@ -24,11 +24,7 @@ up_to_range (suc n) =
     ∙ ap (λ (k : ℕ). range_with_len 0 n ++ one k) {x = 0 + n} {y = n} (omega arith)
     ∙ ap (λ (t : List ℕ). t ++ one n) (up_to_range n)
 
-any_is : {A : Type 0} (p : A → Bool) (xs : List A) → list_any p xs ≡ any p xs
-unfolding any
-any_is p [] = refl
-any_is p (x ∷ xs) = ap (λ (b : Bool). p x || b) (any_is p xs)
-
 -- a test of some number below n, as a chain over `0..n` makes it
 pub any_range : (p : ℕ → Bool) (n : ℕ) → list_any p (range_with_len 0 n) ≡ any p (up_to n)
-any_range p n = any_is p (range_with_len 0 n) ∙ ap (any p) (up_to_range n)
+unfolding any
+any_range p n = ap (list_any p) (up_to_range n)

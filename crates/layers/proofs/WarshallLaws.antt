@@ -1,6 +1,6 @@
 -- The closure by Warshall: a turn at layer k joins the ways through k, mask by mask (`Row`, `Step`), and after the turns up to k the
 -- masks are closed under ways through those layers (`Turns`). Used by transitive_closure. Assumes nothing.
-use mathlib.Core.Path.{◌≡◌, refl, sym, ap, ◌∙◌, subst}
+use mathlib.Core.Path.{◌≡◌, sym, ap, ◌∙◌, subst}
 use mathlib.Core.Bool.{Bool, true, false, false≢true}
 use borrow.Author.Tests.{eq-eqb, eqb-true}
 use mathlib.Core.Logic.{◌⊎◌, inl, inr, ⊎_elim}
@@ -25,9 +25,6 @@ pub record Row (m₀ m : List ℕ) (k i : ℕ) : Type 0 where
   pub same : (x : ℕ) → i ≤ x → get_or m x 0 ≡ get_or m₀ x 0
   pub hit : (x : ℕ) → x < i → Linked m₀ x k → get_or m x 0 ≡ bit_or (get_or m₀ x 0) (get_or m₀ k 0)
   pub miss : (x : ℕ) → x < i → (Linked m₀ x k → ⊥) → get_or m x 0 ≡ get_or m₀ x 0
-
-pub row-start : (m : List ℕ) (k : ℕ) → Row m m k 0
-row-start m k = record { len = refl; same = λ x h. refl; hit = λ x h. absurd (omega arith); miss = λ x h. absurd (omega arith) }
 
 lt_or_eq : (x i : ℕ) → x < i + 1 → (x < i) ⊎ (x ≡ i)
 lt_or_eq x i h = go (dec_lt x i)

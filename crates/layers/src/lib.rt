@@ -30,6 +30,7 @@ pub fn set_bit(m: &mut [u32], i: usize, j: usize)
 
 // The closure, by Warshall: mask i has bit j where there is a way from i to j. No way leads from a layer whose mask is empty, so the
 // masks from `count` on are passed over.
+#[tactic(auto, using(crate::proofs::WarshallLaws::turns_start))]
 pub fn transitive_closure(start: [u32; MAX_LAYERS], count: usize) -> [u32; MAX_LAYERS]
     requires { (count ≤ max_layers) × EmptyFrom count start }
     ensures sound { (i j : ℕ) → Linked result i j → Way start i j }

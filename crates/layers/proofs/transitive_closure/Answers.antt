@@ -1,16 +1,8 @@
 -- The turns so far give the closure through the layers passed; with all of them passed it is whole.
-use Rattle.layers.proofs.WarshallLaws.{row-start, turn_hit, turn_miss, turns_start, turns_more, full}
+use Rattle.layers.proofs.WarshallLaws.{turn_hit, turn_miss, turns_more, full}
 use borrow.Author.Rules.{rules}
 use Rattle.layers.proofs.transitive_closure.Goals as goal
 use Rattle.layers.proofs.transitive_closure.Goals.{then-bit_of, else-bit_of}
-
-pub loop-k-init : goal.loop-k-init
-loop-k-init c =
-    turns_start c.args.start (search rules)
-
-pub loop-i-init : goal.loop-i-init
-loop-i-init c =
-    row-start c.loop-k.m c.loop-k.k
 
 pub loop-i-preserved : goal.loop-i-preserved
 loop-i-preserved c =
