@@ -23,11 +23,9 @@ use Rattle.models.specs.StableModels.{positive, negative, complement}
 use Rattle.table.specs.Names.{literal_named}
 use Rattle.table.specs.Rows.{span_bytes, row_count, head_name, row_at, overridden, alive}
 use Rattle.table.proofs.NameLaws.{name_low, name-high, one_name}
-use Rattle.std.specs.Prelude.{Some}
 use Rattle.std.specs.Bool.{MatchBool}
 use Rattle.std.specs.List.{HoldsAt, AllWithin as EachWithin}
-use Rattle.setting.specs.RuleMasks.{branching_bit, BodyMasked}
-use Rattle.setting.proofs.RuleMaskLaws.{bit_some}
+use Rattle.setting.specs.RuleMasks.{BodyMasked}
 use Rattle.setting.specs.declared.BodyMasks.{BodyMasks}
 use Rattle.nogoods.specs.declared.Nogood.{Nogood}
 use Rattle.setting.proofs.BitMaskLaws.{joined_keeps, joined_has}
@@ -76,22 +74,22 @@ module _ (book : List ℕ) (rows : List Row) (rejectable bits : List ℕ) (j : �
   lives : T (alive rejectable (row_at book rows j))
   lives = subst T (sym (sym ea ∙ ta)) tt
 
-  pub nogood_plain : h < max_atoms → (x : ℕ) → Some x ≡ branching_bit bits h → NogoodOf book rows rejectable bits j (record { standing = m.plain; denied = bit_or m.negated x })
+  pub nogood_plain : h < max_atoms → (x : ℕ) → (x ≡ get_or bits h 0) × (x ≡ 0 → ⊥) → NogoodOf book rows rejectable bits j (record { standing = m.plain; denied = bit_or m.negated x })
   unfolding row_at complement
   nogood_plain b x e = record {
     before = bj;
     lives = lives;
     body_in = λ l k. within_wider bits _ _ (λ i z. z) (λ i z. or_left m.negated x i z) l (body_within w t l k);
-    head_in = subst (Within bits _) (ap complement (sym (name_low h b) ∙ ap literal_named eh)) (within-bit bits _ (negative h) true refl x (bit_some bits h x e).0 (bit_some bits h x e).1 (λ i z. or_right m.negated x i z));
+    head_in = subst (Within bits _) (ap complement (sym (name_low h b) ∙ ap literal_named eh)) (within-bit bits _ (negative h) true refl x e.0 e.1 (λ i z. or_right m.negated x i z));
   }
 
-  pub nogood_negated : max_atoms ≤ h → (x : ℕ) → Some x ≡ branching_bit bits (h - max_atoms) → NogoodOf book rows rejectable bits j (record { standing = bit_or m.plain x; denied = m.negated })
+  pub nogood_negated : max_atoms ≤ h → (x : ℕ) → (x ≡ get_or bits (h - max_atoms) 0) × (x ≡ 0 → ⊥) → NogoodOf book rows rejectable bits j (record { standing = bit_or m.plain x; denied = m.negated })
   unfolding row_at complement
   nogood_negated b x e = record {
     before = bj;
     lives = lives;
     body_in = λ l k. within_wider bits _ _ (λ i z. or_left m.plain x i z) (λ i z. z) l (body_within w t l k);
-    head_in = subst (Within bits _) (ap complement (sym (name-high h b) ∙ ap literal_named eh)) (within-bit bits _ (positive (h - max_atoms)) false refl x (bit_some bits (h - max_atoms) x e).0 (bit_some bits (h - max_atoms) x e).1 (λ i z. or_right m.plain x i z));
+    head_in = subst (Within bits _) (ap complement (sym (name-high h b) ∙ ap literal_named eh)) (within-bit bits _ (positive (h - max_atoms)) false refl x e.0 e.1 (λ i z. or_right m.plain x i z));
   }
 
 -- ---- a constraint

@@ -28,10 +28,8 @@ use Rattle.plan.specs.Plan.{SameFacts, PlanTo, NogoodsPut, Planned}
 
 -- ---- one entry
 -- where there is room, what there is goes behind the others
-pub put_in : {T : Type 0} (before : List T) (room : ℕ) (entry expected : Option T) → entry ≡ expected → length before < room → (after : List T) → after ≡ put_behind before room entry
-    → before ++ option_to_list expected ≡ after
-put_in before room entry expected e h after ea =
-    ap (λ o. before ++ option_to_list o) (sym e) ∙ sym (ap (λ (b : Bool). cond b (before ++ option_to_list entry) before) (lt-ltb (length before) room h)) ∙ sym ea
+pub put_in : {T : Type 0} (before : List T) (room : ℕ) (entry : Option T) → length before < room → put_behind before room entry ≡ before ++ option_to_list entry
+put_in before room entry h = ap (λ (b : Bool). cond b (before ++ option_to_list entry) before) (lt-ltb (length before) room h)
 
 -- a nogood more, if there is one, and room for it
 pub nogood_put : {book : List ℕ} {rows : List Row} {bans : List Span} {rejectable bits : List ℕ} {before : List Nogood} → NogoodsTo book rows bans rejectable bits before → (room : ℕ) (entry : Option Nogood)

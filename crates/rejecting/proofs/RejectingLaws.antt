@@ -2,13 +2,13 @@
 -- put_rejecting and reject_at, and by what lends the entries to a search. Assumes nothing.
 use mathlib.Core.Path.{◌≡◌, refl, sym, ap, subst, ◌∙◌}
 use mathlib.Core.Logic.{◌⊎◌, inl, inr, ⊎_elim}
+use Rattle.std.specs.Prelude.{Option, Some, None}
 use Rattle.std.specs.Option.{option_to_list}
-use borrow.Author.Tests.{eq-eqb, ne_eqb}
 use mathlib.Core.Bool.{Bool, true, false, cond}
 use mathlib.Core.List.Memᴰ
 use mathlib.Core.List.{List, [], ◌∷◌, ◌++◌, append-nil}
 use Prim.Native.Nat.{ℕ, ◌+◌, ◌<◌}
-use native.Mathlib.Decide.{dec_lt, ℕ_discrete}
+use native.Mathlib.Decide.{dec_lt}
 use native.Mathlib.Omega.{arith}
 use lib.Bits.{bit_or}
 use lib.ListN.{length, get_or, set, take, length-set, replicate, length-replicate, length-append}
@@ -28,7 +28,7 @@ use Rattle.setting.proofs.BitMaskLaws.{joined_cases, joined_keeps, joined_has}
 use Rattle.setting.proofs.RuleMaskLaws.{mask_literal}
 use Rattle.setting.specs.declared.BodyMasks.{BodyMasks}
 use Rattle.rejecting.specs.declared.RejectingMasks.{RejectingMasks}
-use Rattle.rejecting.specs.Rejecting.{SignMask, EntryOf, row_of_masks, RejectingMade, Rejecting, Named, Fits, FitsAt, RejectsAt}
+use Rattle.rejecting.specs.Rejecting.{SignMask, EntryOf, MasksOf, RejectingMade, Rejecting, Named, Fits, FitsAt, RejectsAt}
 
 -- ---- a row's entry
 sign_mask : {atoms bits : List ℕ} {body : List Literal} {m : BodyMasks} → AtomBits atoms bits (length atoms) → BodyMasked bits body m
@@ -85,12 +85,9 @@ module _ {book : List ℕ} {rows : List Row} {atoms : List ℕ} where
 -- an entry more, or none where the row overrides no rule
 pub made_put : {book : List ℕ} {rows : List Row} {atoms : List ℕ} {rejecting : List RejectingMasks} {j : ℕ} → RejectingMade book rows atoms rejecting j → (m : BodyMasks) (name layers : ℕ)
     → layers ≡ overridden rows j → EntryOf book rows atoms j (record { plain = m.plain; negated = m.negated; layers = layers; name = name })
-    → RejectingMade book rows atoms (rejecting ++ option_to_list (row_of_masks m name layers)) (j + 1)
-made_put {book} {rows} {atoms} {rejecting} {j} w m name layers e r = go (ℕ_discrete layers 0)
-  where
-    go : Dec (layers ≡ 0) → RejectingMade book rows atoms (rejecting ++ option_to_list (row_of_masks m name layers)) (j + 1)
-    go (yes z) = rw (eq-eqb layers 0 z, append-nil rejecting) (made_skip w (sym e ∙ z))
-    go (no z) = rw (ne_eqb layers 0 z) (made_more w _ r)
+    → (entry : Option RejectingMasks) → MasksOf m name layers entry → RejectingMade book rows atoms (rejecting ++ option_to_list entry) (j + 1)
+made_put {rejecting = rejecting} w m name layers e r None z = rw (append-nil rejecting) (made_skip w (sym e ∙ z))
+made_put {book} {rows} {atoms} {j = j} w m name layers e r (Some x) k = made_more w x (subst (EntryOf book rows atoms j) (sym k.1) r)
 
 pub rejecting_named : {book : List ℕ} {rows : List Row} {atoms : List ℕ} {rejecting : List RejectingMasks} → Rejecting book rows atoms rejecting → Named rejecting
 rejecting_named w m k = (w.sound m k).2.name_low

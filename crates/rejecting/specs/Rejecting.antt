@@ -1,6 +1,6 @@
 -- The rows that can reject rules (document 01: displace), as masks over the branching atoms, bit i for the i-th of them; and which rules
 -- they reject at a setting of these atoms, which is a mask too. Assumes nothing.
-use Rattle.std.specs.Prelude.{◌≡◌, ◌==◌, if◌then◌else◌, Bool, true, false, ℕ, ◌<◌, ◌≤◌, length, get_or, Option, None, Some}
+use Rattle.std.specs.Prelude.{◌≡◌, Bool, true, false, ℕ, ◌<◌, ◌≤◌, length, get_or, Option, MatchOption}
 use mathlib.Core.List.{List, Memᴰ}
 use Rattle.std.specs.Int.Bits.{bit_and}
 use Rattle.base.specs.Bounds.{max_names}
@@ -26,9 +26,9 @@ pub record EntryOf (book : List ℕ) (rows : List Row) (atoms : List ℕ) (j : �
   pub name_low : m.name < max_names
   pub layers_are : m.layers ≡ overridden rows j
 
--- the masks of a row with this body, name and layers, if there is a layer
-abbrev pub row_of_masks : BodyMasks → ℕ → ℕ → Option RejectingMasks
-row_of_masks body name layers = if layers == 0 then None else Some (record { plain = body.plain; negated = body.negated; layers = layers; name = name })
+-- the masks of a row with this body, name and layers, and none exactly where there is no layer
+abbrev pub MasksOf : BodyMasks → ℕ → ℕ → Option RejectingMasks → Type 0
+MasksOf body name layers masks = MatchOption masks (layers ≡ 0) (λ m. (layers ≡ 0 → ⊥) × (m ≡ record { plain = body.plain; negated = body.negated; layers = layers; name = name }))
 
 -- each entry is that of one of the first n rows, and each of these rows that overrides a rule has one
 pub record RejectingTo (book : List ℕ) (rows : List Row) (atoms : List ℕ) (rejecting : List RejectingMasks) (n : ℕ) : Type 0 where

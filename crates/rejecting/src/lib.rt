@@ -4,7 +4,7 @@
 
 ghost use Rattle.std.specs.Prelude.{◌≡◌, ◌↔◌, ◌<◌, IsTrue, replicate};
 ghost use Rattle.base.specs.Bounds.{max_names};
-ghost use Rattle.rejecting.specs.Rejecting.{row_of_masks, Named, Fits, RejectsAt, Uncleared};
+ghost use Rattle.rejecting.specs.Rejecting.{MasksOf, Named, Fits, RejectsAt, Uncleared};
 
 use base::MAX_NAMES;
 use setting::BodyMasks;
@@ -31,7 +31,7 @@ impl RejectingMasks {
 // The masks of a row with this body, where it overrides rules in some layer: no other row can reject.
 pub fn rejecting_masks(body: BodyMasks, name: usize, layers: u32) -> Option<RejectingMasks>
     requires { name < max_names }
-    ensures { result ≡ row_of_masks body name layers }
+    ensures { MasksOf body name layers result }
 {
     if layers == 0 {
         return None;

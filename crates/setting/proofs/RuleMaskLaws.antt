@@ -9,8 +9,7 @@ use Prim.Native.Nat.{ℕ, suc, ◌+◌, ◌*◌, ◌-◌, ◌/◌, ◌^◌, ◌<
 use native.Mathlib.Decide.{dec_lt, ℕ_discrete}
 use native.Mathlib.Nat.{mul-one, div-eq_of_lt}
 use native.Mathlib.Omega.{arith}
-use borrow.Author.Tests.{eq-eqb, ne_eqb}
-use Rattle.std.specs.Prelude.{Option, None, Some, MatchOption}
+use Rattle.std.specs.Prelude.{Option, None, Some}
 use Rattle.std.specs.Option.{option_to_list}
 use lib.Bits.{bit_or}
 use lib.Dec.{leb}
@@ -26,7 +25,7 @@ use Rattle.models.specs.StableModels.{positive}
 use Rattle.table.specs.declared.Row.{Row}
 use Rattle.table.specs.Names.{literal_named}
 use Rattle.table.specs.Rows.{head_name, row_at}
-use Rattle.setting.specs.RuleMasks.{AtomBits, BodyMasked, branching_bit, RuleMask, head_masks, MaskOf, MasksMade, Open, Headed}
+use Rattle.setting.specs.RuleMasks.{AtomBits, BitAt, BodyMasked, RuleMask, head_masks, MaskOf, MasksMade, Open, Headed}
 use Rattle.setting.specs.declared.BodyMasks.{BodyMasks}
 use Rattle.setting.specs.declared.HeadMasks.{HeadMasks}
 use Rattle.setting.proofs.BitMaskLaws.{single, single_only, single_has, joined, joined_cases, joined_keeps, joined_has, or_absorbs}
@@ -56,19 +55,6 @@ module _ (atoms bits : List ℕ) (i f : ℕ) (w : AtomBits atoms bits i) (e : f 
       into k (no n) l =
           let q : k ≡ i = omega arith in
           joined_has bits f (single i) (omega (arith, w.size)) (get_or atoms k 0) k (ap (λ (x : ℕ). get_or atoms x 0) q ∙ sym e) (subst (λ (x : ℕ). bit_of (single i) x ≡ 1) (sym q) (single_has i h))
-
--- what it says that an atom has a bit, or none
-bit_cases : (bits : List ℕ) (f : ℕ) (r : Option ℕ) → r ≡ branching_bit bits f → Dec (get_or bits f 0 ≡ 0) → MatchOption r (get_or bits f 0 ≡ 0) (λ x. (x ≡ get_or bits f 0) × (x ≡ 0 → ⊥))
-bit_cases bits f None e (yes z) = z
-bit_cases bits f (Some x) e (yes z) = let y = rw (eq-eqb (get_or bits f 0) 0 z) at e in cc
-bit_cases bits f None e (no n) = let y = rw (ne_eqb (get_or bits f 0) 0 n) at e in cc
-bit_cases bits f (Some x) e (no n) = let y = rw (ne_eqb (get_or bits f 0) 0 n) at e in let q : x ≡ get_or bits f 0 = cc in (q, λ z. n (sym q ∙ z))
-
-pub bit_none : (bits : List ℕ) (f : ℕ) → None ≡ branching_bit bits f → get_or bits f 0 ≡ 0
-bit_none bits f e = bit_cases bits f None e (ℕ_discrete (get_or bits f 0) 0)
-
-pub bit_some : (bits : List ℕ) (f x : ℕ) → Some x ≡ branching_bit bits f → (x ≡ get_or bits f 0) × (x ≡ 0 → ⊥)
-bit_some bits f x e = bit_cases bits f (Some x) e (ℕ_discrete (get_or bits f 0) 0)
 
 -- ---- a body's masks
 pub masked_start : (bits : List ℕ) → BodyMasked bits [] (record { plain = 0; negated = 0; whole = true })
@@ -102,19 +88,19 @@ module _ (bits : List ℕ) (ls : List Literal) (here : Literal) (m m' : BodyMask
 
 -- a literal more, whose atom's bits are x
 module _ {bits : List ℕ} {ls : List Literal} {m : BodyMasks} (w : BodyMasked bits ls m) (here : Literal) where
-  pub masked_none : None ≡ branching_bit bits here.atom → BodyMasked bits (ls ++ (here ∷ [])) (record { plain = m.plain; negated = m.negated; whole = false })
+  pub masked_none : get_or bits here.atom 0 ≡ 0 → BodyMasked bits (ls ++ (here ∷ [])) (record { plain = m.plain; negated = m.negated; whole = false })
   masked_none e =
-      literal_more bits ls here m _ w (λ c k z. z) (λ c k z. inl z) (λ k z. absurd (zero_bit (get_or bits here.atom 0) k (bit_none bits here.atom e) z)) (λ t. absurd (false≢true t))
+      literal_more bits ls here m _ w (λ c k z. z) (λ c k z. inl z) (λ k z. absurd (zero_bit (get_or bits here.atom 0) k e z)) (λ t. absurd (false≢true t))
 
-  module _ (x : ℕ) (e : Some x ≡ branching_bit bits here.atom) where
+  module _ (x : ℕ) (e : (x ≡ get_or bits here.atom 0) × (x ≡ 0 → ⊥)) where
     out : (k : ℕ) → bit_of x k ≡ 1 → bit_of (get_or bits here.atom 0) k ≡ 1
-    out k z = subst (λ (y : ℕ). bit_of y k ≡ 1) (bit_some bits here.atom x e).0 z
+    out k z = subst (λ (y : ℕ). bit_of y k ≡ 1) e.0 z
 
     back : (k : ℕ) → bit_of (get_or bits here.atom 0) k ≡ 1 → bit_of x k ≡ 1
-    back k z = subst (λ (y : ℕ). bit_of y k ≡ 1) (sym (bit_some bits here.atom x e).0) z
+    back k z = subst (λ (y : ℕ). bit_of y k ≡ 1) (sym e.0) z
 
     has_bit : (k : ℕ) × (bit_of (get_or bits here.atom 0) k ≡ 1)
-    has_bit = let b : (k : ℕ) × (bit_of x k ≡ 1) = some-bit (suc x) x (omega arith) (omega (arith, (bit_some bits here.atom x e).1)) in (b.0, out b.0 b.1)
+    has_bit = let b : (k : ℕ) × (bit_of x k ≡ 1) = some-bit (suc x) x (omega arith) (omega (arith, e.1)) in (b.0, out b.0 b.1)
 
     pub masked_negated : here.negated ≡ true → BodyMasked bits (ls ++ (here ∷ [])) (record { plain = m.plain; negated = bit_or m.negated x; whole = m.whole })
     masked_negated sign = literal_more bits ls here m _ w kept from has (λ t. (t, has_bit))
@@ -203,11 +189,11 @@ no_head book rows atoms bits j h w eh x ex z i b e =
 
 -- an entry more, or none where the head has no bit
 pub masks_put : {book : List ℕ} {rows : List Row} {atoms bits : List ℕ} {rules : List HeadMasks} {j : ℕ} → MasksMade book rows atoms rules j → AtomBits atoms bits (length atoms) → (m : BodyMasks)
-    → BodyMasked bits (row_at book rows j).body m → (h : ℕ) → h ≡ head_name rows j → (head : Option ℕ) → head ≡ branching_bit bits h
+    → BodyMasked bits (row_at book rows j).body m → (h : ℕ) → h ≡ head_name rows j → (head : Option ℕ) → BitAt bits h head
     → MasksMade book rows atoms (rules ++ option_to_list (head_masks m head)) (j + 1)
-masks_put {book} {rows} {atoms} {bits} {rules} {j} w b m bm h eh None e = rw (append-nil rules) (masks_skip w (no_head book rows atoms bits j h b eh _ refl (bit_none bits h e)))
+masks_put {book} {rows} {atoms} {bits} {rules} {j} w b m bm h eh None e = rw (append-nil rules) (masks_skip w (no_head book rows atoms bits j h b eh _ refl e))
 masks_put {book} {rows} {atoms} {bits} {rules} {j} w b m bm h eh (Some x) e =
-    masks_more w _ (subst (λ (y : ℕ). RuleMask atoms (row_at book rows j) (record { plain = m.plain; negated = m.negated; head = y })) (sym (bit_some bits h x e).0) (rule_mask book rows j b bm h eh))
+    masks_more w _ (subst (λ (y : ℕ). RuleMask atoms (row_at book rows j) (record { plain = m.plain; negated = m.negated; head = y })) (sym e.0) (rule_mask book rows j b bm h eh))
 
 -- ---- the test
 -- 1 where there is no denial, else 0

@@ -1,6 +1,6 @@
 -- Rules as masks over the branching atoms, bit i for the i-th of them: what these atoms alone can say against a rule.
 -- Assumes nothing.
-use Rattle.std.specs.Prelude.{◌≡◌, ◌==◌, if◌then◌else◌, Bool, true, cond, ℕ, ◌<◌, ◌≤◌, length, get_or, Option, None, Some, option_map}
+use Rattle.std.specs.Prelude.{◌≡◌, Bool, true, cond, ℕ, ◌<◌, ◌≤◌, length, get_or, Option, MatchOption, option_map}
 use mathlib.Core.List.{List, Memᴰ}
 use Rattle.std.specs.Int.Bits.{bit_and, bit_or}
 use Rattle.base.specs.Bounds.{max_atoms}
@@ -22,9 +22,9 @@ pub record AtomBits (atoms bits : List ℕ) (n : ℕ) : Type 0 where
   pub sound : (f i : ℕ) → bit_of (get_or bits f 0) i ≡ 1 → (i < n) × (get_or atoms i 0 ≡ f)
   pub full : (i : ℕ) → i < n → bit_of (get_or bits (get_or atoms i 0) 0) i ≡ 1
 
--- the bit of an atom that branches
-abbrev pub branching_bit : List ℕ → ℕ → Option ℕ
-branching_bit bits f = if get_or bits f 0 == 0 then None else Some (get_or bits f 0)
+-- an atom's bit, and none exactly where it has none
+abbrev pub BitAt : List ℕ → ℕ → Option ℕ → Type 0
+BitAt bits f bit = MatchOption bit (get_or bits f 0 ≡ 0) (λ x. (x ≡ get_or bits f 0) × (x ≡ 0 → ⊥))
 
 -- A body's masks, plain and negated: a bit is set in one of them exactly where a literal of that sign has it. Where they are whole,
 -- each literal has one.

@@ -7,7 +7,7 @@ ghost use Rattle.std.specs.Prelude.{◌≡◌, true, ◌<◌, ◌≤◌, length}
 ghost use Rattle.base.specs.Bounds.{max_branching};
 ghost use Rattle.format.specs.Book.{literals_of};
 ghost use Rattle.table.specs.Rows.{row_at};
-ghost use Rattle.setting.specs.RuleMasks.{Low, AtomBits, branching_bit, BodyMasked, head_masks, Headed};
+ghost use Rattle.setting.specs.RuleMasks.{Low, AtomBits, BitAt, BodyMasked, head_masks, Headed};
 
 use base::MAX_ATOMS;
 use format::Literals;
@@ -28,7 +28,7 @@ pub fn atom_bits(atoms: &[u32]) -> [u32; MAX_ATOMS]
 
 // A fact's bit, where it branches.
 pub fn branching_bit(bits: &[u32], f: usize) -> Option<u32>
-    ensures { result ≡ branching_bit bits.now f }
+    ensures { BitAt bits.now f result }
 {
     bits.get(f).copied().filter(|bit| *bit != 0)
 }
@@ -62,6 +62,7 @@ pub fn body_masks(bits: &[u32], body: &[u8]) -> BodyMasks
 }
 
 // The masks of a row's body.
+#[tactic(auto, unfolding(table::specs::Rows::row_at))]
 pub fn row_masks(row: TableRow, bits: &[u32]) -> BodyMasks
     ensures { BodyMasked bits.now (row_at row.entry.table.book.now row.entry.table.rows.now row.entry.j).body result }
 {

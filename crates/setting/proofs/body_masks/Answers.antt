@@ -1,5 +1,4 @@
 -- The masks are those of the literals read so far.
-use mathlib.Core.Path.{sym, ◌∙◌}
 use Rattle.setting.proofs.RuleMaskLaws.{masked_start, masked_none, masked_negated, masked_plain}
 use Rattle.setting.proofs.body_masks.Goals as goal
 
@@ -8,12 +7,12 @@ loop-literal-init c = masked_start c.args.bits.now
 
 pub loop-literal-preserved-in-None-branching_bit : goal.loop-literal-preserved-in-None-branching_bit
 loop-literal-preserved-in-None-branching_bit c =
-    masked_none c.loop-literal.invariant c.in-Some.literal (sym c.in-None-branching_bit.is ∙ c.branching_bit.ensures)
+    masked_none c.loop-literal.invariant c.in-Some.literal c.in-None-branching_bit.ensures
 
 pub loop-literal-preserved-then-literal : goal.loop-literal-preserved-then-literal
 loop-literal-preserved-then-literal c =
-    masked_negated c.loop-literal.invariant c.in-Some.literal _ (sym c.in-Some-branching_bit.is ∙ c.branching_bit.ensures) c.if-literal.true
+    masked_negated c.loop-literal.invariant c.in-Some.literal _ c.in-Some-branching_bit.ensures c.if-literal.true
 
 pub loop-literal-preserved : goal.loop-literal-preserved
 loop-literal-preserved c =
-    masked_plain c.loop-literal.invariant c.in-Some.literal _ (sym c.in-Some-branching_bit.is ∙ c.branching_bit.ensures) c.if-literal.false
+    masked_plain c.loop-literal.invariant c.in-Some.literal _ c.in-Some-branching_bit.ensures c.if-literal.false
