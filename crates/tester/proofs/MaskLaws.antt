@@ -1,11 +1,11 @@
 -- Rejection by masks, supported atoms, violated rows, and the other atoms: what the loops keep, row by row and atom by atom. Used by
--- row_mask, reject, name_holds, supported and mark_defaults. Assumes nothing.
+-- row_mask, reject, supported and mark_defaults. Assumes nothing.
 use Rattle.table.specs.declared.Row.{Row}
 use mathlib.Core.Path.{◌≡◌, sym, ap, subst, ◌∙◌}
 use mathlib.Core.Logic.{⊎_elim}
 use mathlib.Core.Bool.{Bool, true, false, not, cond, true≢false}
 use mathlib.Core.List.{List}
-use Prim.Native.Nat.{ℕ, ◌+◌, ◌-◌, ◌<◌, ◌≤◌}
+use Prim.Native.Nat.{ℕ, ◌+◌, ◌<◌, ◌≤◌}
 use native.Mathlib.Decide.{dec_lt, ℕ_discrete}
 use native.Mathlib.Omega.{arith}
 use lib.Bits.{bit_or}
@@ -15,7 +15,7 @@ use lib.Seq.{get_or-set_same, get_or-set_other}
 use Rattle.base.specs.Bounds.{max_atoms, max_names}
 use Rattle.layers.specs.Masks.{bit_of}
 use Rattle.format.specs.Book.{Literal}
-use Rattle.models.specs.StableModels.{Interpretation, atom_holds, positive, complement, signed, holds, body_holds}
+use Rattle.models.specs.StableModels.{Interpretation, atom_holds, positive, complement, holds, body_holds}
 use Rattle.layers.proofs.BitLaws.{no_bits, zero_bit, or_cases, or_left, or_right}
 use Rattle.table.specs.Names.{literal_named}
 use Rattle.table.specs.Rows.{head_name, row_at, overridden, alive}
@@ -176,16 +176,6 @@ module _ {book : List ℕ} {rows : List Row} {m : Interpretation} where
           go f x k (no y) =
               let p : x.row ≡ j = omega (arith, x.before) in
               subst (λ (z : ℕ). T (atom_holds (set atoms h true) z)) (head_of low f (subst (λ (z : ℕ). (row_at book rows z).head ≡ positive f) p x.head_is)) here
-
--- the literal of a name, as the code tests it
-module _ (m : Interpretation) (h : ℕ) where
-  pub plain_holds : h < max_atoms → atom_holds m h ≡ holds m (literal_named h)
-  unfolding holds signed
-  plain_holds b = ap (holds m) (sym (name_low h b))
-
-  pub negated_holds : max_atoms ≤ h → not (atom_holds m (h - max_atoms)) ≡ holds m (literal_named h)
-  unfolding holds signed
-  negated_holds b = ap (holds m) (sym (name-high h b))
 
 -- violated rows
 head-holds : (book : List ℕ) (rows : List Row) (m : Interpretation) (j h : ℕ) → h ≡ head_name rows j → (x : Bool) → x ≡ holds m (literal_named h) → x ≡ holds m (row_at book rows j).head

@@ -6,8 +6,7 @@
 ghost use Rattle.std.specs.Prelude.{◌≡◌, false, cond, ◌<◌, ◌≤◌, length, replicate};
 ghost use Rattle.base.specs.Bounds.{max_atoms, max_names};
 ghost use Rattle.base.specs.Lists.{all, up_to};
-ghost use Rattle.models.specs.StableModels.{holds, body_holds, stable, WellFormed};
-ghost use Rattle.table.specs.Names.{literal_named};
+ghost use Rattle.models.specs.StableModels.{body_holds, stable, WellFormed};
 ghost use Rattle.table.specs.Rows.{row_count, row_at, RowsFit, overridden};
 ghost use Rattle.table.specs.Table.{Tabulates};
 ghost use Rattle.table.specs.Tabled.{tabled};
@@ -16,7 +15,7 @@ ghost use Rattle.tester.specs.Masks.{RejectedMasks, Supports, Others};
 
 use base::{MAX_ATOMS, MAX_NAMES};
 use filling::{Hints, Rules, clear_marks};
-use table::{Table, TableRow, atom_holds, opposite};
+use table::{Table, TableRow, atom_holds, literal_holds, literal_named, opposite};
 
 // The layers in which a row rejects rules: none, unless its body holds.
 fn row_mask(row: TableRow, m: &[bool]) -> u32
@@ -41,18 +40,6 @@ fn reject(table: Table, m: &[bool], rejects: &mut [u32; MAX_NAMES])
     }
 }
 
-// Whether the literal of a name holds.
-#[tactic(auto, using(crate::proofs::MaskLaws::plain_holds, crate::proofs::MaskLaws::negated_holds))]
-fn name_holds(m: &[bool], h: usize) -> bool
-    ensures { result ≡ holds m.now (literal_named h) }
-{
-    if h < MAX_ATOMS {
-        atom_holds(m, h)
-    } else {
-        !atom_holds(m, h - MAX_ATOMS)
-    }
-}
-
 // Marks the plain heads of the rows whose bodies hold, rejected or not, and says whether a row is violated: one that is alive and whose
 // head does not hold ends it, as no stable model violates such a row, and nothing need be filled.
 fn supported(rules: &Rules, m: &[bool], atoms: &mut [bool]) -> bool
@@ -65,7 +52,7 @@ fn supported(rules: &Rules, m: &[bool], atoms: &mut [bool]) -> bool
         if row.holds(m) {
             let h = row.head();
             let lives = row.alive(rules.rejects);
-            if lives && !name_holds(m, h) {
+            if lives && !literal_holds(m, literal_named(h)) {
                 return true;
             }
             if h < atoms.len() {
@@ -77,6 +64,7 @@ fn supported(rules: &Rules, m: &[bool], atoms: &mut [bool]) -> bool
 }
 
 // Marks the defaults: the atoms that are not supported.
+// Kept: an atom is read by its number, since the check knows nothing of what is written through `iter_mut().zip(atoms)`.
 #[tactic(auto, using(crate::proofs::MaskLaws::others_more, crate::proofs::MaskLaws::others_end))]
 fn mark_defaults(atoms: &[bool], others: &mut [bool])
     requires { length others.old ≡ length atoms.now }

@@ -11,11 +11,11 @@ pub loop-j-init : goal.loop-j-init
 loop-j-init c =
     supported_start _ c.requires _ c.clear_marks.ensures
 
-pub returns-then-not-name_holds : goal.returns-then-not-name_holds
-returns-then-not-name_holds c =
+pub returns-then-not-literal_holds : goal.returns-then-not-literal_holds
+returns-then-not-literal_holds c =
     record {
       support = λ e. absurd (true≢false e);
-      violation = λ e. violation_at c.loop-j.j (search rules) c.alive-lives.result (rw (c.row-row.ensures.table_is, c.row-row.ensures.number_is) at c.alive-lives.ensures) c.if-lives.true c.holds.result (rw (c.row-row.ensures.table_is, c.row-row.ensures.number_is) at c.holds.ensures) c.if-holds.true c.head-h.result (rw (c.row-row.ensures.table_is, c.row-row.ensures.number_is) at c.head-h.ensures.0) c.name_holds.result c.name_holds.ensures (ap not c.if-not-name_holds.true);
+      violation = λ e. violation_at c.loop-j.j (search rules) c.alive-lives.result (rw (c.row-row.ensures.table_is, c.row-row.ensures.number_is) at c.alive-lives.ensures) c.if-lives.true c.holds.result (rw (c.row-row.ensures.table_is, c.row-row.ensures.number_is) at c.holds.ensures) c.if-holds.true c.head-h.result (rw (c.row-row.ensures.table_is, c.row-row.ensures.number_is) at c.head-h.ensures.0) c.literal_holds.result (rw c.literal_named.ensures at c.literal_holds.ensures) (ap not c.if-not-literal_holds.true);
     }
 
 pub loop-j-preserved : goal.loop-j-preserved
