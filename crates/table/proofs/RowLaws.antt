@@ -9,6 +9,7 @@ use native.Mathlib.Omega.{arith}
 use lib.Dec.{eqb}
 use lib.ListN.{length, get_or, take}
 use lib.Seq.{take-suc, take-length}
+use Rattle.base.proofs.EntryLaws.{entry_in}
 use Rattle.base.proofs.MapLaws.{map_snoc}
 use Rattle.base.specs.Lists.{up_to}
 use Rattle.layers.specs.Masks.{bit_of}
@@ -20,11 +21,6 @@ use Rattle.table.specs.Rows.{nth, SpanFits, row_count, head_name, row_layer, row
 use Rattle.table.proofs.NameLaws.{name_back}
 
 module _ {A B : Type 0} (f : A → B) (d : A) where
-  member_at : (xs : List A) (j : ℕ) → j < length xs → f (get_or xs j d) ∈ map f xs
-  member_at [] j h = absurd (omega arith)
-  member_at (x ∷ xs) zero h = Memᴰ.head refl
-  member_at (x ∷ xs) (suc j) h = Memᴰ.tail (member_at xs j (omega arith))
-
   place_of : (xs : List A) {y : B} → y ∈ map f xs → (j : ℕ) × (j < length xs) × (f (get_or xs j d) ≡ y)
   place_of [] k = elim k [ ]
   place_of (x ∷ xs) (Memᴰ.head e) = (0, omega arith, sym e)
@@ -33,7 +29,7 @@ module _ {A B : Type 0} (f : A → B) (d : A) where
 module _ (book : List ℕ) (rows : List Row) where
   pub row_in : (j : ℕ) → j < row_count rows → row_at book rows j ∈ rows_of book rows
   unfolding rows_of row_at
-  row_in j h = member_at (row_rule book) NO_ROW rows j h
+  row_in j h = Memᴰ.map (row_rule book) (entry_in rows j NO_ROW h)
 
   pub row_of : (r : Rule) → r ∈ rows_of book rows → (j : ℕ) × (j < row_count rows) × (row_at book rows j ≡ r)
   unfolding rows_of row_at

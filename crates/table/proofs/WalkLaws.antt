@@ -8,8 +8,8 @@ use Prim.Native.Nat.{ℕ, zero, suc, ◌+◌, ◌-◌, ◌<◌, ◌≤◌}
 use native.Mathlib.Decide.{dec_lt}
 use native.Mathlib.Omega.{arith}
 use lib.ListN.{length, get_or, set, length-set, take, drop, length-take}
-use lib.Seq.{get_or-take, get_or-drop, drop-drop, take-nil}
-use Rattle.std.proofs.lemmas.List.{take_more_set, map-id, length-map}
+use lib.Seq.{get_or-take, get_or-drop, drop-drop}
+use Rattle.std.proofs.lemmas.List.{drop-take, take_more_set, map-id, length-map}
 use Rattle.base.specs.Bounds.{max_atoms, max_names, max_layers, max_rules}
 use Rattle.base.specs.Lists.{cons_if, filter}
 use Rattle.format.specs.Book.{Literal, Rule, literal_of, literals_of, rule_of, is_constraint, records, record_end}
@@ -23,13 +23,6 @@ use Rattle.table.specs.Records.{head_at, rule_at, RuleAt, rules_from, Stand, Gat
 use Rattle.table.specs.declared.Span.{Span}
 use Rattle.table.specs.Table.{RuleRecord, RuleRecords, RowsMade}
 
-drop-take : (i n : ℕ) (s : List ℕ) → drop i (take n s) ≡ take (n - i) (drop i s)
-drop-take zero n s = ap (λ (k : ℕ). take k s) {x = n} {y = n - 0} (omega arith)
-drop-take (suc i) zero [] = sym (take-nil (0 - suc i))
-drop-take (suc i) (suc n) [] = sym (take-nil (suc n - suc i))
-drop-take (suc i) zero (x ∷ s) = ap (λ (k : ℕ). take k (drop i s)) {x = 0} {y = 0 - suc i} (omega arith)
-drop-take (suc i) (suc n) (x ∷ s) = drop-take i n s ∙ ap (λ (k : ℕ). take k (drop i s)) {x = n - i} {y = suc n - suc i} (omega arith)
-
 rule_here : (s : List ℕ) (at : ℕ) → 3 ≤ get_or s at 0 → rule_of (take (get_or s at 0) (drop (at + 1) s)) ≡ rule_at s at
 unfolding rule_of rule_at
 rule_here s at k =
@@ -37,7 +30,8 @@ rule_here s at k =
     ∙ ap (λ (x : ℕ). record { layer = get_or s (at + 1) 0; head = literal_of x (get_or t 2 0); body = literals_of (drop 3 t) }) (byte 1 (at + 2) (omega arith) (omega arith))
     ∙ ap (λ (x : ℕ). record { layer = get_or s (at + 1) 0; head = literal_of (get_or s (at + 2) 0) x; body = literals_of (drop 3 t) }) (byte 2 (at + 3) (omega arith) (omega arith))
     ∙ ap (λ (x : List ℕ). record { layer = get_or s (at + 1) 0; head = literal_of (get_or s (at + 2) 0) (get_or s (at + 3) 0); body = literals_of x })
-    (drop-take 3 (get_or s at 0) (drop (at + 1) s)
+    (ap (λ (n : ℕ). drop 3 (take n (drop (at + 1) s))) {x = get_or s at 0} {y = 3 + (get_or s at 0 - 3)} (omega arith)
+    ∙ drop-take 3 (get_or s at 0 - 3) (drop (at + 1) s)
     ∙ ap (λ (u : List ℕ). take (get_or s at 0 - 3) u) (drop-drop 3 (at + 1) s ∙ ap (λ (n : ℕ). drop n s) {x = at + 1 + 3} {y = at + 4} (omega arith)))
   where
     t : List ℕ

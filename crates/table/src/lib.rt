@@ -49,6 +49,7 @@ pub const NO_ROW: Row = Row {
 };
 
 // Whether an atom holds: one that the array does not have does not.
+// Kept: a bound and an index: `m.get(f).copied().unwrap_or(false)` is the same in more words.
 #[tactic(auto, unfolding(models::specs::StableModels::atom_holds))]
 pub fn atom_holds(m: &[bool], f: usize) -> bool
     ensures { result ≡ atom_holds m.now f }

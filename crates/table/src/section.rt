@@ -14,6 +14,7 @@ use base::MAX_RULES;
 use format::Literal;
 
 // A record of the rules' section, by its offset in the book.
+// Kept: its bytes by their offsets: where the body stands is an offset too, which a slice of the record would have to have beside it.
 #[derive(Clone, Copy)]
 pub struct RuleRecord<'a> {
     pub book: &'a [u8],
