@@ -29,6 +29,7 @@ pub fn bad_candidate(candidate: &[u8], n: usize) -> bool
 }
 
 // The state of n facts that a candidate gives, in the first places.
+#[tactic(auto, using(crate::proofs::ReadLaws::read_start, crate::proofs::ReadLaws::read_more))]
 pub fn read_candidate(candidate: &[u8], n: usize) -> [bool; MAX_ATOMS]
     requires n_le_max_atoms { n ≤ max_atoms }
     requires candidate_len { length candidate.now ≡ record_size n }

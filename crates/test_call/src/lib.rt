@@ -29,6 +29,7 @@ fn forbids(driving: &Driving, m: &[bool]) -> bool
 
 // Whether a candidate's state is stable, once no cause applies: no constraint forbids it, and the rules settle it. Their table is made
 // once, then the test fills from it.
+#[tactic(auto, using(candidate::proofs::CandidateLaws::ok_length, crate::proofs::ReplyLaws::forbidden_over, crate::proofs::ReplyLaws::state_is, crate::proofs::ReplyLaws::lent_formed, crate::proofs::ReplyLaws::lent_table, crate::proofs::ReplyLaws::stable_over))]
 fn candidate_stable(driving: &Driving, candidate: &[u8]) -> bool
     requires { is_bad_candidate (book_of driving.now.book.now).atoms candidate.now ≡ false }
     ensures { result ≡ stable (driven_program driving.now) (interpretation_of (book_of driving.now.book.now).atoms candidate.now) }
@@ -44,6 +45,7 @@ fn candidate_stable(driving: &Driving, candidate: &[u8]) -> bool
 }
 
 // Whether a candidate is stable.
+#[tactic(auto, using(crate::proofs::ReplyLaws::layer_refused, crate::proofs::ReplyLaws::candidate_refused, crate::proofs::ReplyLaws::not_bad))]
 pub fn test(book: &[u8], layer: u32, off: u32, candidate: &[u8]) -> Result<bool, Cause>
     ensures { result ≡ test_reply book.now layer off candidate.now }
 {
