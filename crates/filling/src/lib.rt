@@ -16,7 +16,7 @@ ghost use Rattle.filling.specs.Marks.{Room, literal_marked, adds, Grown, Tried, 
 use base::{MAX_ATOMS, MAX_BODY, MAX_NAMES, MAX_RULES};
 use format::{Literal, Literals};
 pub use hint::Hints;
-use table::{Table, TableRow, opposite};
+use table::{Table, TableRow, literal_named, opposite};
 
 mod hint;
 
@@ -34,16 +34,10 @@ struct Marks<'a> {
 
 impl Marks<'_> {
     // The mark of a name.
-    #[tactic(auto, using(crate::proofs::MarkLaws::marked_low, crate::proofs::MarkLaws::marked_high, crate::proofs::MarkLaws::atom_low, crate::proofs::MarkLaws::atom_high), unfolding(models::specs::StableModels::atom_holds))]
     fn name(&self, h: usize) -> bool
-        requires { (literal_named h).atom < length self.now.positive.now }
         ensures { result ≡ literal_marked self.now.positive.now self.now.negative.now (literal_named h) }
     {
-        if h < MAX_ATOMS {
-            self.positive[h]
-        } else {
-            self.negative[h - MAX_ATOMS]
-        }
+        self.literal(literal_named(h))
     }
 
     // The mark of a literal. Both arrays are read, so that the sign is no branch: bodies mix signs as they like. A fact past them has
