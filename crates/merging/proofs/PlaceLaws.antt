@@ -68,3 +68,6 @@ module _ (w from count at : ℕ) (part : List ℕ) where
 -- half way between two bounds
 pub half_room : (w from count lo hi n : ℕ) → lo < hi → hi ≤ count → from + count * w ≤ n → from + (lo + (hi - lo) / 2) * w + w ≤ n
 half_room w from count lo hi n h k b = place-room w from count (lo + (hi - lo) / 2) n (omega arith) b
+
+-- what the proof of `place` applies
+pub ruleset place_steps = (placing_start, placing_end, placing_up, placing_down, half_room, told)

@@ -25,6 +25,7 @@ pub fn swap_ends(part: &mut [u8], s: usize)
 
 // Brings what lies from k on to the front. What is swapped to an end of what is left is in its place.
 // Kept: std's `rotate_left` was tried, and a listing of records in scattered order then took 1.12 of the time.
+#[tactic(auto, using(crate::proofs::RotateLaws::rotate_steps))]
 pub fn rotate(part: &mut [u8], k: usize)
     requires { k ≤ length part.old }
     ensures { part.new ≡ drop k part.old ++ take k part.old }
@@ -50,7 +51,7 @@ pub fn rotate(part: &mut [u8], k: usize)
 
 // How many of the records that start at an offset the one at `at` goes behind, where they rise.
 // Kept: the new form is no plainer: std's searches go over a slice's elements, and bytes in records of a width known at run time are none.
-#[tactic(auto, using(crate::proofs::PlaceLaws::half_room))]
+#[tactic(auto, using(crate::proofs::PlaceLaws::place_steps))]
 pub fn place(part: &[u8], from: usize, count: usize, w: usize, at: usize) -> usize
     requires { (from + count * w ≤ length part.now) × (at + w ≤ length part.now) }
     ensures { GoesIn w from count at part.now result }

@@ -60,3 +60,8 @@ record_start m = refl
 
 pub record_step : (r : List ℕ) (m : Interpretation) (j v : ℕ) → j < length r → take j r ≡ packed j m → v ≡ bits_value 8 (drop (8 * j) m) → take (j + 1) (set r j v) ≡ packed (j + 1) m
 record_step r m j v h e f = rw (add-one j, take-suc-set r j v h, packed_snoc j m, e, f) refl
+
+-- what the proofs of `record_byte` and of `record_of` apply
+pub ruleset byte_steps = (byte_start, byte_step, byte_fits, bit_le)
+
+pub ruleset record_steps = (record_start, record_step)

@@ -121,3 +121,6 @@ sums_are n f (m ∷ ms) sums h small =
         → u32_at (added_to n sums m) (4 * f) + length (filter (λ m. atom_holds m f) ms) ≡ u32_at sums (4 * f) + length (cons_if b m (filter (λ m. atom_holds m f) ms))
     go true e = omega (arith, e)
     go false e = omega (arith, e)
+
+-- what the proof of `add_state` applies
+pub ruleset sum_steps = (partly_none, partly_step, added)

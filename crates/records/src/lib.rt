@@ -33,6 +33,7 @@ pub fn atom_bit(m: &[bool], f: usize) -> u8
 }
 
 // The eight facts from an offset on, the first in the highest bit.
+#[tactic(auto, using(crate::proofs::PackLaws::byte_steps))]
 pub fn record_byte(m: &[bool], at: usize) -> u8
     requires { at ≤ max_atoms }
     ensures { result ≡ bits_value 8 (drop at m.now) }
@@ -45,7 +46,7 @@ pub fn record_byte(m: &[bool], at: usize) -> u8
 }
 
 // A state's record, in the first bytes.
-#[tactic(auto, using(crate::proofs::PackLaws::record_start, crate::proofs::PackLaws::record_step), unfolding(models::specs::Listing::record_of))]
+#[tactic(auto, using(crate::proofs::PackLaws::record_steps), unfolding(models::specs::Listing::record_of))]
 pub fn record_of(m: &[bool]) -> [u8; MAX_RECORD]
     requires { length m.now ≤ max_atoms }
     ensures { take (record_size (length m.now)) result ≡ record_of (length m.now) m.now }
@@ -76,6 +77,7 @@ pub fn put_be32(part: &mut [u8], at: usize, v: usize)
 }
 
 // Adds a state to the sums by fact: to each fact's four bytes 1 where it stands.
+#[tactic(auto, using(crate::proofs::SumLaws::sum_steps), unfolding(models::specs::Listing::bit_value, models::specs::StableModels::atom_holds))]
 pub fn add_state(m: &[bool], sums: &mut [u8])
     requires { (length m.now ≤ max_atoms) × (4 * length m.now ≤ length sums.old) }
     ensures { sums.new ≡ added_to (length m.now) sums.old m.now }
