@@ -45,9 +45,6 @@ module _ (w a e : ℕ) (part : List ℕ) (h : e - a ≡ w) (b : a + w ≤ length
   told at r q = sym (q ∙ lent_before at)
 
 module _ (w from count at : ℕ) (part : List ℕ) where
-  pub placing_start : Placing w from count at part 0 count
-  placing_start = record { order = omega arith; within = omega arith; low = λ i e. absurd (omega (arith, e)); high = λ h. absurd (omega arith) }
-
   pub placing_end : (lo hi : ℕ) → hi ≤ lo → Placing w from count at part lo hi → GoesIn w from count at part lo
   placing_end lo hi h p =
       let e : hi ≡ lo = omega (arith, p.order) in
@@ -70,4 +67,4 @@ pub half_room : (w from count lo hi n : ℕ) → lo < hi → hi ≤ count → fr
 half_room w from count lo hi n h k b = place-room w from count (lo + (hi - lo) / 2) n (omega arith) b
 
 -- what the proof of `place` applies
-pub ruleset place_steps = (placing_start, placing_end, placing_up, placing_down, half_room, told)
+pub ruleset place_steps = (placing_end, placing_up, placing_down, half_room, told)
