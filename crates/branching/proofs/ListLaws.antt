@@ -74,10 +74,6 @@ module _ (P : Program) where
     unfolding branching_atoms branching_count
     listed_many = w.count_is ∙ ap (λ (k : ℕ). length (filter (branching P) (up_to k))) e
 
--- all that are counted are listed
-pub listed_few : {P : Program} {f : ℕ} {atoms : List ℕ} {count : ℕ} → ListedTo P f atoms count → count ≤ max_branching → length atoms ≤ max_branching
-listed_few w h = omega (arith, ap length (w.listed h), w.count_is)
-
 -- what is marked branches, however many facts there are
 pub marked-branches : (book : List ℕ) (rows : List Row) (n : ℕ) (marks : List Bool) → BranchingMarks (tabled book rows 0) marks → (f : ℕ) → f < max_atoms → (c : Bool) → get_or marks f false ≡ c
     → branching (tabled book rows n) f ≡ c

@@ -12,10 +12,10 @@ use lib.Seq.{get_or-set_same, get_or-set_other}
 use Rattle.std.proofs.lemmas.List.Folds.{list_any-append}
 use Rattle.base.specs.Bounds.{max_atoms}
 use Rattle.base.specs.Lists.{any}
-use Rattle.format.specs.Book.{Literal, literals_of}
+use Rattle.format.specs.Book.{Literal}
 use Rattle.models.specs.StableModels.{atom_holds}
 use Rattle.layers.proofs.BitLaws.{or_true, or_false, or_assoc, and_left, and_right}
-use Rattle.branching.specs.Marks.{branches_in, BodyMarked}
+use Rattle.branching.specs.Marks.{branches_in}
 
 -- the facts that these literals make branch are marked besides those that were
 pub record Marking (rejecting : Bool) (before : List Bool) (done : List Literal) (marks : List Bool) : Type 0 where
@@ -48,7 +48,7 @@ module _ (rejecting : Bool) (before : List Bool) (done : List Literal) (marks : 
 
   -- the marks as the test of the literal leaves them
   module _ (t : Bool) (et : t ≡ (ltb l.atom max_atoms && (l.negated || rejecting))) where
-    pub small : t ≡ true → l.atom < max_atoms
+    small : t ≡ true → l.atom < max_atoms
     small q = ltb-true l.atom max_atoms (and_left (ltb l.atom max_atoms) (l.negated || rejecting) (sym et ∙ q))
 
     pub marking_set : t ≡ true → Marking rejecting before (done ++ (l ∷ [])) (set marks l.atom true)
@@ -77,11 +77,3 @@ module _ (rejecting : Bool) (before : List Bool) (done : List Literal) (marks : 
         off f b (yes e) =
             let z : (l.negated || rejecting) ≡ false = rw (lt-ltb l.atom max_atoms (omega arith)) at (sym et ∙ q) in
             rw (eq-eqb l.atom f e, z) refl
-
--- all literals passed
-pub marking_end : (body : List ℕ) (rejecting : Bool) (before : List Bool) (done : List Literal) (marks : List Bool) → length before ≡ max_atoms → Marking rejecting before done marks → done ≡ literals_of body
-    → BodyMarked body rejecting before marks
-marking_end body rejecting before done marks l w e = record {
-  size = w.size ∙ sym l;
-  marked = λ f b. w.marked f b ∙ ap (λ (ls : List Literal). atom_holds before f || branches_in rejecting f ls) e;
-}

@@ -52,7 +52,7 @@ pub data NogoodAt (book : List ℕ) (rows : List Row) (bans : List Span) (reject
 abbrev pub NogoodsTo : List ℕ → List Row → List Span → List ℕ → List ℕ → List Nogood → Type 0
 NogoodsTo book rows bans rejectable bits nogoods = (n : Nogood) → Memᴰ n nogoods → NogoodAt book rows bans rejectable bits n
 
--- each entry is a nogood, of masks that say what rows can reject and which atoms branch
+-- the same, by some masks of what the rows can reject and some bits of the atoms
 pub record Nogoods (book : List ℕ) (rows : List Row) (bans : List Span) (atoms : List ℕ) (nogoods : List Nogood) : Type 0 where
   pub rejectable : List ℕ
   pub rejects_all : Rejectable rows rejectable (row_count rows)

@@ -1,5 +1,5 @@
 -- One row of the plan and one constraint, whose entries go behind the others; and the plan of all rows, as a search is lent it. Used by
--- plan_row, plan_bans and make_plan. Assumes nothing.
+-- plan_row, put_bans and make_plan. Assumes nothing.
 use mathlib.Core.Path.{◌≡◌, refl, sym, ap, subst, ◌∙◌}
 use mathlib.Core.Bool.{Bool, true, false, cond}
 use mathlib.Core.List.Memᴰ

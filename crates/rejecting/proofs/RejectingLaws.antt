@@ -1,5 +1,5 @@
 -- What the loops keep: the entries of the rows passed, and what the entries passed reject at a setting; and the entries, lent. Used by
--- put_rejecting and reject_at, and by what lends the entries to a search. Assumes nothing.
+-- reject_at and clear_at, and by the plan, which makes the entries and lends them to a search. Assumes nothing.
 use mathlib.Core.Path.{◌≡◌, refl, sym, ap, subst, ◌∙◌}
 use mathlib.Core.Logic.{◌⊎◌, inl, inr, ⊎_elim}
 use Rattle.std.specs.Prelude.{Option, Some, None}

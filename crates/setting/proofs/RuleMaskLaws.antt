@@ -1,5 +1,5 @@
--- The masks of bodies and of rules, as the loops make them, and the test of them. Used by atom_bits, body_masks, row_masks, put_rule
--- and headed, and by the crates that take their masks. Assumes nothing.
+-- The masks of bodies and of rules, as the loops make them, and the test of them. Used by atom_bits, body_masks and headed, and
+-- by the crates that take their masks. Assumes nothing.
 use mathlib.Core.Path.{◌≡◌, refl, sym, ap, subst, ◌∙◌}
 use mathlib.Core.Logic.{◌⊎◌, inl, inr, ⊎_elim}
 use mathlib.Core.Bool.{Bool, true, false, cond, false≢true, true≢false}
@@ -57,13 +57,6 @@ module _ (atoms bits : List ℕ) (i f : ℕ) (w : AtomBits atoms bits i) (e : f 
           joined_has bits f (single i) (omega (arith, w.size)) (get_or atoms k 0) k (ap (λ (x : ℕ). get_or atoms x 0) q ∙ sym e) (subst (λ (x : ℕ). bit_of (single i) x ≡ 1) (sym q) (single_has i h))
 
 -- ---- a body's masks
-pub masked_start : (bits : List ℕ) → BodyMasked bits [] (record { plain = 0; negated = 0; whole = true })
-masked_start bits = record { sound = λ c i z. absurd (none c i z); full = λ l k. absurd (Memᴰ.not-nil k); all_have = λ t l k. absurd (Memᴰ.not-nil k) }
-  where
-    none : (c : Bool) (i : ℕ) → bit_of (cond c 0 0) i ≡ 1 → ⊥
-    none true i z = no_bit i z
-    none false i z = no_bit i z
-
 -- masks m' in place of m, for a literal more
 module _ (bits : List ℕ) (ls : List Literal) (here : Literal) (m m' : BodyMasks) (w : BodyMasked bits ls m)
     (kept : (c : Bool) (i : ℕ) → bit_of (cond c m.negated m.plain) i ≡ 1 → bit_of (cond c m'.negated m'.plain) i ≡ 1)

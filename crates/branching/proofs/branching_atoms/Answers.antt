@@ -8,7 +8,7 @@ use mathlib.Core.Path.{◌≡◌, ◌∙◌, sym}
 use Rattle.std.proofs.Common.{get_or-take, length-take-le, arith}
 use Rattle.table.specs.Tabled.{tabled}
 use Rattle.table.proofs.TabledLaws.{tabled-atoms}
-use Rattle.branching.proofs.ListLaws.{listed_start, listed_yes, listed_no, listed_all, listed_few, listed_many, marked-branches, table_alone}
+use Rattle.branching.proofs.ListLaws.{listed_start, listed_yes, listed_no, listed_all, listed_many, marked-branches, table_alone}
 use Rattle.branching.proofs.branching_atoms.Goals as goal
 use Rattle.branching.proofs.branching_atoms.Goals.{then-branches, else-branches}
 
@@ -43,6 +43,3 @@ pub returns-clause-listed : goal.returns-clause-listed
 returns-clause-listed c =
     listed_all (tabled c.args.table.book.now c.args.table.rows.now c.args.n) c.loop-f.f c.loop-f.atoms c.loop-f.count
     (all_passed c.mark_branching.new.marks c.args.n c.mark_branching.array_long c.requires.n_le_max_atoms c.loop-f-test.false c.loop-f.auto.f-end ∙ sym (tabled-atoms c.args.table.book.now c.args.table.rows.now c.args.n)) c.loop-f.invariant c.if-count-gt-MAX_BRANCHING.false
-
-pub returns-clause-few : goal.returns-clause-few
-returns-clause-few c = listed_few c.loop-f.invariant c.if-count-gt-MAX_BRANCHING.false

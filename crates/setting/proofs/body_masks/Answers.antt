@@ -1,9 +1,6 @@
 -- The masks are those of the literals read so far.
-use Rattle.setting.proofs.RuleMaskLaws.{masked_start, masked_none, masked_negated, masked_plain}
+use Rattle.setting.proofs.RuleMaskLaws.{masked_none, masked_negated, masked_plain}
 use Rattle.setting.proofs.body_masks.Goals as goal
-
-pub loop-literal-init : goal.loop-literal-init
-loop-literal-init c = masked_start c.args.bits.now
 
 pub loop-literal-preserved-in-None-branching_bit : goal.loop-literal-preserved-in-None-branching_bit
 loop-literal-preserved-in-None-branching_bit c =
