@@ -228,8 +228,9 @@ module _ {book : List ℕ} {rows : List Row} {atoms : List ℕ} {n : ℕ} (w : S
 
   -- a conflict
   pub model_conflict : {rejects : List ℕ} → RejectedMasks book rows o rejects (row_count rows) → {start : List Bool} → Denied atoms o start → Conflict book rows rejects start
-      → at_setting P atoms o ≡ []
-  model_conflict g d x =
+      → (state : List Bool) → at_setting P atoms o ≡ cons_if false state []
+  unfolding cons_if
+  model_conflict g d x state =
       at_listed ∙ setting_none P w.formed o (λ m sm same. no_conflict w.formed w.table g (setting_start d) sm same x)
 
   module _ {rejects : List ℕ} {p early : List Bool} (k : OnlyState book rows rejects atoms o p early) (l : length p ≡ n) where
@@ -259,28 +260,17 @@ module _ {book : List ℕ} {rows : List Row} {atoms : List ℕ} {n : ℕ} (w : S
     and_true false = refl
 
     module _ (a : Bool) (ea : a ≡ agree_on atoms p o) where
-      pub model_apart : not a ≡ true → at_setting P atoms o ≡ []
-      unfolding cons_if
+      pub model_apart : not a ≡ true → at_setting P atoms o ≡ cons_if false p []
       model_apart t =
           model_is ∙ ap (λ (x : Bool). cons_if (stable P p && x) p []) (sym ea ∙ not-true a t)
           ∙ ap (λ (x : Bool). cons_if x p []) (and_false (stable P p))
 
+      pub model_tested : not a ≡ false → (s : Bool) → s ≡ stable P p → at_setting P atoms o ≡ cons_if s p []
+      model_tested t s es =
+          model_is ∙ ap (λ (x : Bool). cons_if (stable P p && x) p []) (sym ea ∙ not-false a t)
+          ∙ ap (λ (x : Bool). cons_if x p []) (and_true (stable P p) ∙ sym es)
+
       module _ (t : not a ≡ false) where
-        tested : (s : Bool) → stable P p ≡ s → at_setting P atoms o ≡ cons_if s p []
-        tested s es =
-            model_is ∙ ap (λ (x : Bool). cons_if (stable P p && x) p []) (sym ea ∙ not-false a t)
-            ∙ ap (λ (x : Bool). cons_if x p []) (and_true (stable P p) ∙ es)
-
-        -- the test decides
-        module _ (s : Bool) (es : s ≡ stable P p) where
-          pub model_stable : s ≡ true → at_setting P atoms o ≡ p ∷ []
-          unfolding cons_if
-          model_stable y = tested true (sym es ∙ y)
-
-          pub model_unstable : s ≡ false → at_setting P atoms o ≡ []
-          unfolding cons_if
-          model_unstable n = tested false (sym es ∙ n)
-
         agrees_all : T (agree_on atoms p o)
         agrees_all = subst T (sym (sym ea ∙ not-false a t)) tt
 
@@ -295,8 +285,8 @@ module _ {book : List ℕ} {rows : List Row} {atoms : List ℕ} {n : ℕ} (w : S
         model_masks = masks-same w.formed w.table p o same-on k.masks
 
         -- it is stable where no rejected rule is contested
-        pub model_uncontested : (r : Bool) → (r ≡ false → Uncontested book rows rejects p early (row_count rows)) → not r ≡ true → at_setting P atoms o ≡ p ∷ []
-        model_uncontested r er tr = model_stable true (sym (passed (stable P p) found)) refl
+        pub model_uncontested : (r : Bool) → (r ≡ false → Uncontested book rows rejects p early (row_count rows)) → not r ≡ true → at_setting P atoms o ≡ cons_if true p []
+        model_uncontested r er tr = model_tested t true (sym (passed (stable P p) found))
           where
             found : T (stable P p)
             found =

@@ -1,7 +1,6 @@
 -- One setting of the search: what its stable model is worked out from, and the models that the rules alone have there.
 -- Assumes nothing.
-use Rattle.std.specs.Prelude.{◌≡◌, Bool, List, [], ◌∷◌, ℕ, length, Option, MatchOption}
-use Rattle.std.specs.Borrow.{Bor}
+use Rattle.std.specs.Prelude.{List, ℕ}
 use Rattle.models.specs.StableModels.{Interpretation}
 use Rattle.table.specs.Rows.{row_count}
 use Rattle.table.specs.Tabled.{tabled}
@@ -19,7 +18,3 @@ pub record LeafReady (leaf : Leaf) (n : ℕ) : Type 0 where
 -- the stable models of the setting: there is at most one
 abbrev pub leaf_models : Leaf → ℕ → List Interpretation
 leaf_models leaf n = at_setting (tabled leaf.rules.table.book.now leaf.rules.table.rows.now n) leaf.setting.atoms.now (setting_of leaf.setting.atoms.now leaf.setting.standing)
-
--- one of some models is lent, over n facts, and it is the only one; or there is none
-abbrev pub OneModel : List Interpretation → ℕ → Option (Bor (List Bool)) → Type 0
-OneModel models n found = MatchOption found (models ≡ []) (λ m. (models ≡ m.now ∷ []) × (length m.now ≡ n))

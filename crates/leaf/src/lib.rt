@@ -2,8 +2,9 @@
 // only state that can be stable there.
 #![tactic(auto)]
 
-ghost use Rattle.std.specs.Prelude.{◌≡◌, true, false, ℕ, Bool, ◌<◌, eqb, length};
+ghost use Rattle.std.specs.Prelude.{◌≡◌, true, false, [], ℕ, Bool, ◌<◌, eqb, length};
 ghost use Rattle.base.specs.Bounds.{max_atoms, max_branching};
+ghost use Rattle.base.specs.Lists.{cons_if};
 ghost use Rattle.layers.specs.Masks.{bit_of};
 ghost use Rattle.table.specs.Names.{literal_named};
 ghost use Rattle.table.specs.Rows.{row_count};
@@ -125,83 +126,81 @@ pub fn contested(rules: &Rules, m: &[bool], negative: &[bool]) -> bool
 // What the stable model of a setting is worked out from: the rules of the table with the masks of those that the setting rejects, and the
 // setting.
 #[derive(Clone, Copy)]
-pub struct Leaf<'a> {
+pub struct Leaf<'a, 'b> {
     pub rules: Rules<'a>,
-    pub setting: Setting<'a>,
+    pub setting: Setting<'b>,
 }
 
-impl Leaf<'_> {
-    ghost use Rattle.leaf.specs.Leaf.{LeafReady, leaf_models, OneModel};
+impl Leaf<'_, '_> {
+    ghost use Rattle.leaf.specs.Leaf.{LeafReady, leaf_models};
 
-    // The only state that can be stable at the setting, if it is. It has to agree with the setting, or it would be found under two
+    // Whether the only state that can be stable at the setting is. It has to agree with the setting, or it would be found under two
     // settings. Then it needs no further test where no rejected rule is contested. The marks that were reached early are read before they
     // are written.
-    fn decide<'s>(
+    fn decide(
         &self,
-        state: &'s [bool],
+        state: &[bool],
         early: &mut [bool],
         other: &mut [bool],
         hints: &mut Hints,
-    ) -> Option<&'s [bool]>
+    ) -> bool
         requires searchable { Searchable self.now.rules.table.book.now self.now.rules.table.rows.now self.now.setting.atoms.now (length state.now) }
         requires only_state { OnlyState self.now.rules.table.book.now self.now.rules.table.rows.now self.now.rules.rejects.now self.now.setting.atoms.now (setting_of self.now.setting.atoms.now self.now.setting.standing) state.now early.old }
         requires marks_len { (length early.old ≡ length state.now) × (length other.old ≡ length state.now) }
-        ensures { OneModel (leaf_models self.now (length state.now)) (length state.now) result }
+        ensures { leaf_models self.now (length state.now) ≡ cons_if result state.now [] }
     {
         if !self.setting.agrees(state) {
-            return None;
+            return false;
         }
         let clear = !contested(&self.rules, state, early);
-        if clear || settles(&self.rules, state, early, other, hints) {
-            return Some(state);
-        }
-        None
+        clear || settles(&self.rules, state, early, other, hints)
     }
 
     // The stable model of the setting, if there is one, from all that the setting denies. What was reached early follows from all of it
     // too, so the filling goes on from there, unless a denied fact is among it and so reached both ways. Where it meets no conflict, the
     // facts that are reached are the only state that can be stable.
-    fn model_from<'s>(
+    fn model_from(
         &self,
-        positive: &'s mut [bool],
+        positive: &mut [bool],
         negative: &mut [bool],
         early: &mut [bool],
         hints: &mut Hints,
-    ) -> Option<&'s [bool]>
+    ) -> bool
         requires ready { LeafReady self.now (length positive.old) }
         requires begun { Begun self.now.rules.table.book.now self.now.rules.table.rows.now self.now.rules.rejects.now (denied_of self.now.setting.atoms.now self.now.setting.standing) positive.old negative.old }
         requires early { Early self.now.rules.table.book.now self.now.rules.table.rows.now self.now.rules.rejects.now (denied_of self.now.setting.atoms.now self.now.setting.standing) negative.old }
         requires marks_len { (length negative.old ≡ length positive.old) × (length early.old ≡ length positive.old) }
-        ensures { OneModel (leaf_models self.now (length positive.old)) (length positive.old) result }
+        ensures { leaf_models self.now (length positive.old) ≡ cons_if result positive.new [] }
     {
         if self.setting.reaches_denied(positive) {
-            return None;
+            return false;
         }
         early.copy_from_slice(negative);
         self.setting.join(negative);
         if self.rules.fill_on(positive, negative, hints).is_err() {
-            return None;
+            return false;
         }
         self.decide(positive, early, negative, hints)
     }
 
-    // The stable model of the setting, if there is one: it stands in the first of the three lent arrays. Filling starts from the undisputed
-    // part of what the setting denies: the negations that are reached early, before anything disputed is assumed. Where they come to be all
-    // that the setting denies, it need not go on.
-    pub fn model_at<'s>(
+    // Whether there is a stable model at the setting, which then stands in the first of the three lent arrays. Filling starts from the
+    // undisputed part of what the setting denies: the negations that are reached early, before anything disputed is assumed. Where they
+    // come to be all that the setting denies, it need not go on.
+    // Kept: a flag, and the state in a lent array: lent back as an Option, it would outlast the clearing of the masks, which is not proved.
+    pub fn model_at(
         &self,
-        positive: &'s mut [bool],
+        positive: &mut [bool],
         negative: &mut [bool],
         early: &mut [bool],
         hints: &mut Hints,
-    ) -> Option<&'s [bool]>
+    ) -> bool
         requires ready { LeafReady self.now (length positive.old) }
         requires marks_len { (length negative.old ≡ length positive.old) × (length early.old ≡ length positive.old) }
-        ensures { OneModel (leaf_models self.now (length positive.old)) (length positive.old) result }
+        ensures { leaf_models self.now (length positive.old) ≡ cons_if result positive.new [] }
     {
         self.setting.assume(self.rules.rejects, negative);
         if self.rules.fill(positive, negative, hints).is_err() {
-            return None;
+            return false;
         }
         if self.setting.covers(negative) {
             return self.decide(positive, negative, early, hints);

@@ -46,15 +46,13 @@ module _ (P : Program) (bodies : List (List Literal)) (free : P.constraints ≡ 
       ∙ filter_twice (λ m. stable P m && agree_on atoms m o) (λ m. not (any (all (holds m)) bodies)) (interpretations P.atoms)
 
   -- a setting's model counts unless it is forbidden
-  module _ (ok : Bool) (m : Interpretation) (is : at_setting P atoms o ≡ cons_if ok m []) where
-    pub setting_allowed : ok ≡ true → (r : Bool) → r ≡ any (all (holds m)) bodies → at_setting (constrained P bodies) atoms o ≡ cons_if (not r) m []
-    unfolding filter cons_if
-    setting_allowed y r e =
-        setting_filtered ∙ ap (filter (λ m. not (any (all (holds m)) bodies))) (is ∙ ap (λ (c : Bool). cons_if c m []) y) ∙ ap (λ (c : Bool). cons_if (not c) m []) (sym e)
+  pub setting_allowed : (m : Interpretation) → at_setting P atoms o ≡ m ∷ [] → (r : Bool) → r ≡ any (all (holds m)) bodies → at_setting (constrained P bodies) atoms o ≡ cons_if (not r) m []
+  unfolding filter
+  setting_allowed m is r e = setting_filtered ∙ ap (filter (λ m. not (any (all (holds m)) bodies))) is ∙ ap (λ (c : Bool). cons_if (not c) m []) (sym e)
 
-    pub setting_without : ok ≡ false → (s : Interpretation) → at_setting (constrained P bodies) atoms o ≡ cons_if false s []
-    unfolding filter cons_if
-    setting_without y s = setting_filtered ∙ ap (filter (λ m. not (any (all (holds m)) bodies))) (is ∙ ap (λ (c : Bool). cons_if c m []) y)
+  pub setting_without : at_setting P atoms o ≡ [] → at_setting (constrained P bodies) atoms o ≡ []
+  unfolding filter
+  setting_without is = setting_filtered ∙ ap (filter (λ m. not (any (all (holds m)) bodies))) is
 
 -- what a search asks of the table holds with constraints too
 module _ {book : List ℕ} {rows : List Row} {atoms : List ℕ} {n : ℕ} (w : Searchable book rows atoms n) (bans : List Span) where

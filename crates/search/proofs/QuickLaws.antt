@@ -161,7 +161,7 @@ module _ {book : List ℕ} {rows : List Row} {atoms : List ℕ} {n : ℕ} (w : S
     no_nogood bm g x = go (g.each x.nogood x.listed)
       where
         inside : (l : Literal) → Within g.bits x.nogood l → T (holds m l)
-        inside = within-holds g.bits_of x.nogood x.stand x.deny
+        inside = within-holds g.bits_of x.nogood x.decided.0 x.decided.1
 
         go : NogoodAt book rows bans g.rejectable g.bits x.nogood → ⊥
         go (of_row j y) = no_row_nogood g.rejects_all x.nogood j inside y

@@ -11,7 +11,7 @@ use lib.ListN.{length, get_or, take, drop, set}
 use lib.Seq.{take_all, set-set}
 use Rattle.base.specs.Lists.{cons_if, all, any}
 use Rattle.format.specs.Book.{Literal}
-use Rattle.models.specs.Program.{Program, constrained}
+use Rattle.models.specs.Program.{Program}
 use Rattle.models.specs.StableModels.{Interpretation, holds}
 use Rattle.search.specs.declared.Goal.{Goal}
 use Rattle.search.specs.declared.Visit.{Visit}
@@ -21,7 +21,6 @@ use Rattle.table.specs.Rows.{row_count}
 use Rattle.table.specs.Tabled.{tabled}
 use Rattle.table.proofs.TabledLaws.{tabled-free}
 use Rattle.bans.specs.Bans.{bodies_of, barred}
-use Rattle.plan.specs.Plan.{plan_rejecting, plan_bans}
 use Rattle.search.specs.declared.space.Space.{Space}
 use Rattle.search.specs.Space.{space_atoms, models_at}
 use Rattle.tester.specs.Masks.{RejectedMasks}
@@ -58,7 +57,7 @@ module _ (s : Space) (standing : ℕ) {atoms : List ℕ} (ea : atoms ≡ space_a
   pub leaf_table : (k : ℕ) → k ≡ s.plan.now.n → Searchable book rows atoms k
   leaf_table k ek = subst (λ (l : List ℕ). Searchable book rows l k) (sym ea) (subst (Searchable book rows (space_atoms s)) (sym ek) (space_searchable s))
 
-  pub leaf_masks : {rejecting : List RejectingMasks} → rejecting ≡ plan_rejecting s.plan.now → {rejects : List ℕ} → RejectsAt rejecting standing rejects → RejectedMasks book rows (setting_of atoms standing) rejects (row_count rows)
+  pub leaf_masks : {rejecting : List RejectingMasks} → rejecting ≡ s.plan.now.rejecting → {rejects : List ℕ} → RejectsAt rejecting standing rejects → RejectedMasks book rows (setting_of atoms standing) rejects (row_count rows)
   leaf_masks er {rejects} r =
       subst (λ (l : List ℕ). RejectedMasks book rows (setting_of l standing) rejects (row_count rows)) (sym ea)
       (masks_again (∥∥₁_map s.ready (λ ready.
@@ -68,7 +67,7 @@ module _ (s : Space) (standing : ℕ) {atoms : List ℕ} (ea : atoms ≡ space_a
   -- the model of the rules alone over k facts is `m`, if there is one, and stands as `state`
   module _ (k : ℕ) (ek : k ≡ s.plan.now.n) (ok : Bool) (m : Interpretation) (is : at_setting (tabled book rows k) atoms (setting_of atoms standing) ≡ cons_if ok m []) where
     abbrev bodies : List (List Literal)
-    bodies = bodies_of book (plan_bans s.plan.now)
+    bodies = bodies_of book s.bans.spans.now
 
     abbrev P : Program
     P = tabled book rows s.plan.now.n
@@ -81,14 +80,14 @@ module _ (s : Space) (standing : ℕ) {atoms : List ℕ} (ea : atoms ≡ space_a
 
     pub found_none : ok ≡ false → models_at s standing ≡ []
     unfolding cons_if
-    found_none e = setting_without P bodies free (space_atoms s) (setting_of (space_atoms s) standing) ok m at_n e m
+    found_none e = setting_without P bodies free (space_atoms s) (setting_of (space_atoms s) standing) (at_n ∙ ap (λ (c : Bool). cons_if c m []) e)
 
-    module _ (e : ok ≡ true) (state : Interpretation) (es : state ≡ m) {bans : List Span} (eb : bans ≡ plan_bans s.plan.now) (r : Bool) (er : r ≡ any (all (holds state)) (bodies_of book bans)) where
+    module _ (e : ok ≡ true) (state : Interpretation) (es : state ≡ m) (r : Bool) (er : r ≡ any (all (holds state)) (bodies_of s.bans.book.now s.bans.spans.now)) where
       allowed : models_at s standing ≡ cons_if (not r) state []
+      unfolding cons_if
       allowed =
-          subst (λ (x : Interpretation). at_setting (constrained P bodies) (space_atoms s) (setting_of (space_atoms s) standing) ≡ cons_if (not r) x []) (sym es)
-          (setting_allowed P bodies free (space_atoms s) (setting_of (space_atoms s) standing) ok m at_n e r
-          (er ∙ ap₂ (λ (x : Interpretation) (l : List Span). any (all (holds x)) (bodies_of book l)) es eb))
+          setting_allowed P bodies free (space_atoms s) (setting_of (space_atoms s) standing) state (at_n ∙ ap (λ (c : Bool). cons_if c m []) e ∙ ap (λ (x : Interpretation). x ∷ []) (sym es)) r
+          (er ∙ ap (λ (b : List ℕ). any (all (holds state)) (bodies_of b s.bans.spans.now)) s.same_book)
 
       pub found_one : r ≡ false → models_at s standing ≡ state ∷ []
       unfolding cons_if

@@ -16,7 +16,7 @@ use Rattle.setting.specs.Setting.{setting_of}
 use Rattle.setting.specs.RuleMasks.{Headed}
 use Rattle.setting.proofs.BitMaskLaws.{single}
 use Rattle.nogoods.specs.Nogoods.{Violated}
-use Rattle.plan.specs.Plan.{plan_heads, plan_nogoods, plan_bans, Planned}
+use Rattle.plan.specs.Plan.{Planned}
 use Rattle.std.proofs.Props.{props}
 use Rattle.search.proofs.ReadyLaws.{space_searchable}
 use Rattle.leaf.specs.Found.{at_setting, found_by}
@@ -48,7 +48,7 @@ module _ (s : Space) {turn : Turn} (t : Turned (space_atoms s) turn) where
   atoms = space_atoms s
 
   abbrev bans : List Span
-  bans = plan_bans s.plan.now
+  bans = s.bans.spans.now
 
   abbrev U : List ℕ
   U = undecided atoms turn.left
@@ -61,12 +61,12 @@ module _ (s : Space) {turn : Turn} (t : Turned (space_atoms s) turn) where
 
   -- the quick tests failed: there is nothing to find
   pub none_promised : (r : Bool)
-      → (r ≡ false → (Headed (plan_heads s.plan.now) turn.standing turn.denied → ⊥) ⊎ Violated (plan_nogoods s.plan.now) turn.standing turn.denied)
+      → (r ≡ false → (Headed s.plan.now.heads turn.standing turn.denied → ⊥) ⊎ Violated s.plan.now.nogoods turn.standing turn.denied)
       → r ≡ false → models_left s turn ≡ []
   none_promised r told e = ∥∥₁_elim s.ready (Prim.hlevel props) (λ ready. go ready.planned (told e))
     where
-      go : Planned s.table.book.now s.table.rows.now atoms s.plan.now
-          → (Headed (plan_heads s.plan.now) turn.standing turn.denied → ⊥) ⊎ Violated (plan_nogoods s.plan.now) turn.standing turn.denied
+      go : Planned s.table.book.now s.table.rows.now s.bans.spans.now atoms s.plan.now
+          → (Headed s.plan.now.heads turn.standing turn.denied → ⊥) ⊎ Violated s.plan.now.nogoods turn.standing turn.denied
           → models_left s turn ≡ []
       go planned (inl f) = quick.none_headed (space_searchable s) bans planned.rule_masks O t.decided f
       go planned (inr x) = quick.none_allowed (space_searchable s) bans planned.rule_masks O t.decided planned.nogood_masks x

@@ -1,10 +1,11 @@
--- That a table and a plan of it can be searched. Assumes nothing.
+-- That a table can be searched by a plan of it and of these constraints. Assumes nothing.
 use Rattle.std.specs.Prelude.{List, ℕ}
 use Rattle.table.specs.declared.Row.{Row}
-use Rattle.plan.specs.declared.entries.Plan.{Plan}
-use Rattle.plan.specs.Plan.{plan_atoms, Planned}
+use Rattle.table.specs.declared.Span.{Span}
+use Rattle.plan.specs.declared.Plan.{Plan}
+use Rattle.plan.specs.Plan.{Planned}
 use Rattle.leaf.specs.Searchable.{Searchable}
 
-pub record Ready (book : List ℕ) (rows : List Row) (plan : Plan) : Type 0 where
-  pub table : Searchable book rows (plan_atoms plan) plan.n
-  pub planned : Planned book rows (plan_atoms plan) plan
+pub record Ready (book : List ℕ) (rows : List Row) (bans : List Span) (plan : Plan) : Type 0 where
+  pub table : Searchable book rows plan.atoms plan.n
+  pub planned : Planned book rows bans plan.atoms plan

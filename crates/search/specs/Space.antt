@@ -1,9 +1,9 @@
--- What a search goes through: a table of rules and a plan of it, the program that these stand for, and its models, at one setting and at
--- all settings that a turn leaves. Assumes nothing.
+-- What a search goes through: a table of rules, constraints and a plan of both, the program that these stand for, and its models, at one
+-- setting and at all settings that a turn leaves. Assumes nothing.
 use Rattle.std.specs.Prelude.{List, ℕ}
 use Rattle.models.specs.Program.{Program}
 use Rattle.models.specs.StableModels.{Interpretation}
-use Rattle.plan.specs.Plan.{plan_atoms, planned_program}
+use Rattle.bans.specs.Bans.{barred}
 use Rattle.setting.specs.Setting.{setting_of}
 use Rattle.leaf.specs.Found.{at_setting, found_by}
 use Rattle.search.specs.declared.space.Space.{Space}
@@ -12,11 +12,11 @@ use Rattle.search.specs.Decided.{undecided}
 
 -- the branching facts
 abbrev pub space_atoms : Space → List ℕ
-space_atoms s = plan_atoms s.plan.now
+space_atoms s = s.plan.now.atoms
 
--- the program that the table and the plan stand for
+-- the program that the table and the constraints stand for
 abbrev pub space_program : Space → Program
-space_program s = planned_program s.table.book.now s.table.rows.now s.plan.now
+space_program s = barred s.table.book.now s.table.rows.now s.bans.spans.now s.plan.now.n
 
 -- the stable models of the setting of a mask: there is at most one
 abbrev pub models_at : Space → ℕ → List Interpretation

@@ -5,7 +5,6 @@ ghost use Rattle.std.specs.Prelude.{◌≡◌, ◌⊎◌, false, [], ◌∷◌, 
 ghost use Rattle.base.specs.Bounds.{max_atoms, max_branching};
 ghost use Rattle.setting.specs.RuleMasks.{Headed};
 ghost use Rattle.nogoods.specs.Nogoods.{Violated};
-ghost use Rattle.plan.specs.Plan.{plan_heads, plan_nogoods};
 ghost use Rattle.search.specs.Space.{space_atoms, models_at, models_left};
 ghost use Rattle.search.specs.Decided.{decided_turn, Turned};
 ghost use Rattle.search.specs.Visits.{Asks, weight_of, kept_by, RoomFor, stopped, Kept, visited, Searched, Combines};
@@ -136,10 +135,10 @@ impl Turn {
 // Whether the quick tests leave it open that a setting of the facts that are left has a stable model: each fact that stands is the head of
 // a rule that may yet be reached, and no nogood is decided.
 pub fn promising(plan: &Plan, turn: Turn) -> bool
-    ensures { result ≡ false → (Headed (plan_heads plan.now) turn.standing turn.denied → ⊥) ⊎ Violated (plan_nogoods plan.now) turn.standing turn.denied }
+    ensures { result ≡ false → (Headed plan.now.heads turn.standing turn.denied → ⊥) ⊎ Violated plan.now.nogoods turn.standing turn.denied }
 {
-    headed(plan.heads(), turn.standing, turn.denied)
-        && !has_nogood(plan.nogoods(), turn.standing, turn.denied)
+    headed(plan.heads.as_slice(), turn.standing, turn.denied)
+        && !has_nogood(plan.nogoods.as_slice(), turn.standing, turn.denied)
 }
 
 // Visits the stable model of one setting, if there is one. It is a function of its own so that the recursion's frames stay small.
@@ -182,7 +181,7 @@ pub fn search(
     if turn.left == 0 {
         return visit_setting(space, goal, turn.standing, scratch, part, v);
     }
-    let i = space.plan.atoms().len() - turn.left;
+    let i = space.plan.atoms.as_slice().len() - turn.left;
     let half = search(space, goal, turn.decided(i, false), scratch, part, v);
     let both = search(space, goal, turn.decided(i, true), scratch, part, half);
     goal.combine(space.plan.n, v.count, half.count, both.count, part);

@@ -27,25 +27,25 @@ returns-then-turn-eq0 t c =
 pub search-half-requires : goal.search-half-requires
 search-half-requires t c =
     let some = c.if-turn-eq0.false in
-    (omega (arith, some, c.decreases, ap (λ (u : Turn). u.left) c.decided.ensures), (turned_first c.args.space.now c.requires.turned some _ (ap (λ (l : List ℕ). length l - c.args.turn.left) c.atoms.ensures) c.decided.ensures refl, (first_kept c.args.space.now c.requires.turned some _ (ap (λ (l : List ℕ). length l - c.args.turn.left) c.atoms.ensures) c.decided.ensures refl c.args.goal.now c.args.v c.args.part.now c.requires.kept, first_fits c.args.space.now c.requires.turned some _ (ap (λ (l : List ℕ). length l - c.args.turn.left) c.atoms.ensures) c.decided.ensures refl c.args.v.count c.requires.left_bound)))
+    (omega (arith, some, c.decreases, ap (λ (u : Turn). u.left) c.decided.ensures), (turned_first c.args.space.now c.requires.turned some _ (ap (λ (l : List ℕ). length l - c.args.turn.left) c.as_slice.ensures.value) c.decided.ensures refl, (first_kept c.args.space.now c.requires.turned some _ (ap (λ (l : List ℕ). length l - c.args.turn.left) c.as_slice.ensures.value) c.decided.ensures refl c.args.goal.now c.args.v c.args.part.now c.requires.kept, first_fits c.args.space.now c.requires.turned some _ (ap (λ (l : List ℕ). length l - c.args.turn.left) c.as_slice.ensures.value) c.decided.ensures refl c.args.v.count c.requires.left_bound)))
 
 pub search-both-requires : goal.search-both-requires
 search-both-requires t c =
     let some = c.if-turn-eq0.false in
-    (omega (arith, some, c.decreases, ap (λ (u : Turn). u.left) c.decided-2.ensures), (turned_second c.args.space.now c.requires.turned some _ (ap (λ (l : List ℕ). length l - c.args.turn.left) c.atoms.ensures) c.decided.ensures c.decided-2.ensures, (second_kept c.args.space.now c.requires.turned some _ (ap (λ (l : List ℕ). length l - c.args.turn.left) c.atoms.ensures) c.decided.ensures c.decided-2.ensures c.args.goal.now c.args.v c.args.part.now c.requires.kept _ _ c.search-half.ensures (search rules), second_left c.args.space.now c.requires.turned some _ (ap (λ (l : List ℕ). length l - c.args.turn.left) c.atoms.ensures) c.decided.ensures c.decided-2.ensures c.args.goal.now c.args.v c.args.part.now c.requires.kept _ _ c.search-half.ensures c.requires.left_bound)))
+    (omega (arith, some, c.decreases, ap (λ (u : Turn). u.left) c.decided-2.ensures), (turned_second c.args.space.now c.requires.turned some _ (ap (λ (l : List ℕ). length l - c.args.turn.left) c.as_slice.ensures.value) c.decided.ensures c.decided-2.ensures, (second_kept c.args.space.now c.requires.turned some _ (ap (λ (l : List ℕ). length l - c.args.turn.left) c.as_slice.ensures.value) c.decided.ensures c.decided-2.ensures c.args.goal.now c.args.v c.args.part.now c.requires.kept _ _ c.search-half.ensures (search rules), second_left c.args.space.now c.requires.turned some _ (ap (λ (l : List ℕ). length l - c.args.turn.left) c.as_slice.ensures.value) c.decided.ensures c.decided-2.ensures c.args.goal.now c.args.v c.args.part.now c.requires.kept _ _ c.search-half.ensures c.requires.left_bound)))
 
 pub combine-requires-clause-n_nonzero : goal.combine-requires-clause-n_nonzero
 combine-requires-clause-n_nonzero t c =
     let some = c.if-turn-eq0.false in
-    let counts = combine_counts c.args.space.now c.requires.turned some _ (ap (λ (l : List ℕ). length l - c.args.turn.left) c.atoms.ensures) c.decided.ensures c.decided-2.ensures c.args.goal.now c.args.v c.args.part.now c.requires.kept _ _ c.search-half.ensures _ _ c.search-both.ensures c.requires.left_bound in
+    let counts = combine_counts c.args.space.now c.requires.turned some _ (ap (λ (l : List ℕ). length l - c.args.turn.left) c.as_slice.ensures.value) c.decided.ensures c.decided-2.ensures c.args.goal.now c.args.v c.args.part.now c.requires.kept _ _ c.search-half.ensures _ _ c.search-both.ensures c.requires.left_bound in
     ((space_searchable c.args.space.now).some, (space_searchable c.args.space.now).few, counts.0, counts.1, counts.2)
 
 pub combine-requires-clause-room_for : goal.combine-requires-clause-room_for
 combine-requires-clause-room_for t c =
     let some = c.if-turn-eq0.false in
-    combine_room c.args.space.now c.requires.turned some _ (ap (λ (l : List ℕ). length l - c.args.turn.left) c.atoms.ensures) c.decided.ensures c.decided-2.ensures c.args.goal.now c.args.v c.args.part.now c.requires.kept _ _ c.search-half.ensures _ _ c.search-both.ensures (search rules)
+    combine_room c.args.space.now c.requires.turned some _ (ap (λ (l : List ℕ). length l - c.args.turn.left) c.as_slice.ensures.value) c.decided.ensures c.decided-2.ensures c.args.goal.now c.args.v c.args.part.now c.requires.kept _ _ c.search-half.ensures _ _ c.search-both.ensures (search rules)
 
 pub returns : goal.returns
 returns t c =
     let some = c.if-turn-eq0.false in
-    both_searched c.args.space.now c.requires.turned some _ (ap (λ (l : List ℕ). length l - c.args.turn.left) c.atoms.ensures) c.decided.ensures c.decided-2.ensures c.args.goal.now c.args.v c.args.part.now c.requires.kept _ _ c.search-half.ensures _ _ c.search-both.ensures _ c.combine.ensures
+    both_searched c.args.space.now c.requires.turned some _ (ap (λ (l : List ℕ). length l - c.args.turn.left) c.as_slice.ensures.value) c.decided.ensures c.decided-2.ensures c.args.goal.now c.args.v c.args.part.now c.requires.kept _ _ c.search-half.ensures _ _ c.search-both.ensures _ c.combine.ensures

@@ -7,4 +7,4 @@ use Rattle.search.proofs.promising.Goals as goal
 
 pub returns-then-headed : goal.returns-then-headed
 returns-then-headed c =
-    λ e. inr (subst (λ (l : List Nogood). Violated l c.args.turn.standing c.args.turn.denied) c.nogoods.ensures (c.has_nogood.ensures (not-false c.has_nogood.result e)))
+    λ e. inr (subst (λ (l : List Nogood). Violated l c.args.turn.standing c.args.turn.denied) c.as_slice-then-headed.ensures.value (c.has_nogood.ensures (not-false c.has_nogood.result e)))

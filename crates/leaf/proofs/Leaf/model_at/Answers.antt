@@ -17,7 +17,7 @@ fill-requires c =
 pub returns-then-is_err : goal.returns-then-is_err
 returns-then-is_err c =
     let d = denied_of_lem (choices c.requires.ready.table _ refl) c.args.self.now.setting.standing in
-    model_conflict c.requires.ready.table _ c.requires.ready.masks d (early_conflict c.assume.ensures c.fill.ensures (sym c.if-is_err.ensures.value))
+    model_conflict c.requires.ready.table _ c.requires.ready.masks d (early_conflict c.assume.ensures c.fill.ensures (sym c.if-is_err.ensures.value)) _
 
 pub decide-requires-clause-only_state : goal.decide-requires-clause-only_state
 decide-requires-clause-only_state c =

@@ -10,7 +10,7 @@ use Rattle.leaf.proofs.Leaf.model_from.Goals as goal
 pub returns-then-reaches_denied : goal.returns-then-reaches_denied
 returns-then-reaches_denied c =
     let d = denied_of_lem (choices c.requires.ready.table _ refl) c.args.self.now.setting.standing in
-    model_conflict c.requires.ready.table _ c.requires.ready.masks d (denied_conflict c.requires.begun d c.reaches_denied.result c.reaches_denied.ensures c.requires.ready.table c.if-reaches_denied.true)
+    model_conflict c.requires.ready.table _ c.requires.ready.masks d (denied_conflict c.requires.begun d c.reaches_denied.result c.reaches_denied.ensures c.requires.ready.table c.if-reaches_denied.true) _
 
 pub join-requires : goal.join-requires
 join-requires c =
@@ -24,7 +24,7 @@ pub returns-then-is_err : goal.returns-then-is_err
 returns-then-is_err c =
     let d = denied_of_lem (choices c.requires.ready.table _ refl) c.args.self.now.setting.standing in
     let grown = going_on c.requires.begun d c.reaches_denied.result c.reaches_denied.ensures c.if-reaches_denied.false c.join.ensures c.fill_on.ensures in
-    model_conflict c.requires.ready.table _ c.requires.ready.masks d (grown.clash (sym c.if-is_err.ensures.value))
+    model_conflict c.requires.ready.table _ c.requires.ready.masks d (grown.clash (sym c.if-is_err.ensures.value)) _
 
 pub decide-requires-clause-only_state : goal.decide-requires-clause-only_state
 decide-requires-clause-only_state c =
