@@ -1,5 +1,5 @@
 -- Two arrays of marks, filled by passes over the rows until nothing is added: what a pass keeps, and that all that follows is
--- marked at the end. Used by propagate, pass_over_rows, fill_on and fill, and by the search, which goes on from marks in hand. Assumes nothing.
+-- marked at the end. Used by propagate, pass, fill_on and fill, and by the search, which goes on from marks in hand. Assumes nothing.
 use Rattle.table.specs.declared.Row.{Row}
 use mathlib.Core.Path.{◌≡◌, sym, subst}
 use mathlib.Core.Bool.{Bool, true, false, not, ◌&&◌, cond, true≢false}
@@ -78,8 +78,8 @@ module _ {book : List ℕ} {rows : List Row} {rejects : List ℕ} where
     clash = λ e. w.clash e start s.sound;
   }
 
-  pub filled-from-start : (n : ℕ) {start blanks p q : List Bool} {c : Bool} → blanks ≡ replicate n false → FilledOn book rows rejects blanks start p q c → Fills book rows rejects start p q c
-  filled-from-start n {start} {p = p} {q = q} {c = c} e w = filled_on (start-sound n start) (start-apart n start) (subst (λ (b : List Bool). FilledOn book rows rejects b start p q c) e w)
+  pub filled_from_start : (n : ℕ) {start blanks p q : List Bool} {c : Bool} → blanks ≡ replicate n false → FilledOn book rows rejects blanks start p q c → Fills book rows rejects start p q c
+  filled_from_start n {start} {p = p} {q = q} {c = c} e w = filled_on (start-sound n start) (start-apart n start) (subst (λ (b : List Bool). FilledOn book rows rejects b start p q c) e w)
 
   -- after what had grown, a pass added nothing, or met a fact both ways
   pub filled : {E : Type 0} {p₀ q₀ p₁ q₁ p q : List Bool} {r : Result Bool E} → Grown book rows rejects p₀ q₀ p₁ q₁ → PassEnd book rows rejects p₁ q₁ p q r → r ≡ Ok false → FilledOn book rows rejects p₀ q₀ p q false

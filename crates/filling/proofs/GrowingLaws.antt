@@ -167,6 +167,6 @@ module _ {book : List ℕ} {rows : List Row} {rejects : List ℕ} where
     unfolding atom_holds literal_marked
     grown-sound {start} w = record { sound = g.sound start w.sound; started = λ f t. g.keeps (negative f) (w.started f t) }
 
-    pub grown-fewer : length p ≡ length p₀ → length q ≡ length q₀ → falses p + falses q ≤ falses p₀ + falses q₀
+    pub grown_fewer : length p ≡ length p₀ → length q ≡ length q₀ → falses p + falses q ≤ falses p₀ + falses q₀
     unfolding atom_holds literal_marked
-    grown-fewer x y = omega (arith, falses_fall p₀ p x (λ f. g.keeps (positive f)), falses_fall q₀ q y (λ f. g.keeps (negative f)))
+    grown_fewer x y = omega (arith, falses_fall p₀ p x (λ f. g.keeps (positive f)), falses_fall q₀ q y (λ f. g.keeps (negative f)))

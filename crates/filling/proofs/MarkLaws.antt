@@ -1,6 +1,5 @@
--- Marks of names, of literals of two bytes and of rows, as the code reads them: a row adds its head where its three tests say so, and a
--- literal of its body that is not marked, the watched one or another, keeps it from it. Used by name_marked, literal_marked,
--- body_marked and row_adds. Assumes nothing.
+-- Marks of literals and of names, and the literals of a body, as the code reads them; and when a row adds its head. Used by the methods
+-- of Marks and RuleRow. Assumes nothing.
 use Rattle.table.specs.declared.Row.{Row}
 use mathlib.Core.Path.{◌≡◌, refl, sym, ap, subst, ◌∙◌}
 use mathlib.Core.Bool.{Bool, true, false, not, ◌&&◌, cond}
@@ -18,7 +17,7 @@ use Rattle.base.specs.Bounds.{max_atoms}
 use Rattle.base.specs.Lists.{all}
 use Rattle.base.proofs.MapLaws.{constant_at}
 use Rattle.format.specs.Book.{Literal, literals_of}
-use Rattle.models.specs.StableModels.{atom_holds, complement}
+use Rattle.models.specs.StableModels.{atom_holds}
 use Rattle.table.specs.Names.{literal_named}
 use Rattle.table.specs.Rows.{row_count, head_name, row_body, row_at, alive}
 use Rattle.table.proofs.NameLaws.{name_low, name-high}
@@ -45,32 +44,23 @@ set_keeps p f g h t = go (ℕ_discrete g f)
     go (yes e) = subst (λ (x : ℕ). T (get_or (set p f true) x false)) (sym e) (subst T (sym (get_or-set_same p f true false h)) tt)
     go (no n) = subst T (sym (get_or-set_other p f g true false n)) t
 
-module _ (p q : List Bool) where
-  pub marked_low : (h : ℕ) → h < max_atoms → atom_holds p h ≡ literal_marked p q (literal_named h)
-  unfolding literal_marked
-  marked_low h k = ap (literal_marked p q) (sym (name_low h k))
+-- a fact past the arrays is not marked, and the sign says which array has the mark
+module _ (p q : List Bool) (l : Literal) where
+  pub marked_past : length q ≡ length p → length p ≤ l.atom → false ≡ literal_marked p q l
+  unfolding literal_marked atom_holds
+  marked_past size h = past l.negated
+    where
+      past : (c : Bool) → false ≡ get_or (cond c q p) l.atom false
+      past true = sym (get_or-eq_default q false (omega (arith, size)))
+      past false = sym (get_or-eq_default p false h)
 
-  pub marked_high : (h : ℕ) → max_atoms ≤ h → atom_holds q (h - max_atoms) ≡ literal_marked p q (literal_named h)
-  unfolding literal_marked
-  marked_high h k = ap (literal_marked p q) (sym (name-high h k))
+  pub negated_marked : l.negated ≡ true → get_or q l.atom false ≡ literal_marked p q l
+  unfolding literal_marked atom_holds
+  negated_marked e = rw e refl
 
-  -- a fact past the arrays is not marked, and the sign says which array has the mark
-  module _ (l : Literal) where
-    pub marked_past : length q ≡ length p → length p ≤ l.atom → false ≡ literal_marked p q l
-    unfolding literal_marked atom_holds
-    marked_past size h = past l.negated
-      where
-        past : (c : Bool) → false ≡ get_or (cond c q p) l.atom false
-        past true = sym (get_or-eq_default q false (omega (arith, size)))
-        past false = sym (get_or-eq_default p false h)
-
-    pub negated_marked : l.negated ≡ true → get_or q l.atom false ≡ literal_marked p q l
-    unfolding literal_marked atom_holds
-    negated_marked e = rw e refl
-
-    pub plain_marked : l.negated ≡ false → get_or p l.atom false ≡ literal_marked p q l
-    unfolding literal_marked atom_holds
-    plain_marked e = rw e refl
+  pub plain_marked : l.negated ≡ false → get_or p l.atom false ≡ literal_marked p q l
+  unfolding literal_marked atom_holds
+  plain_marked e = rw e refl
 
 -- the fact of a name
 pub atom_low : (h : ℕ) → h < max_atoms → (literal_named h).atom ≡ h
@@ -79,17 +69,13 @@ atom_low h k = ap (λ (l : Literal). l.atom) (name_low h k)
 pub atom_high : (h : ℕ) → max_atoms ≤ h → (literal_named h).atom ≡ h - max_atoms
 atom_high h k = ap (λ (l : Literal). l.atom) (name-high h k)
 
--- a head, whose name is in a local, and its opposite
+-- a head, whose name is in a local
 module _ {rows : List Row} {p q : List Bool} (w : Room rows p q) where
   pub head_within : (j h : ℕ) → j < row_count rows → h ≡ head_name rows j → (literal_named h).atom < length p
   head_within j h b e = subst (λ (x : ℕ). (literal_named x).atom < length p) (sym e) (w.heads j b)
 
-  pub opposite_within : (j h o : ℕ) → j < row_count rows → h ≡ head_name rows j → literal_named o ≡ complement (literal_named h) → (literal_named o).atom < length p
-  unfolding complement
-  opposite_within j h o b e c = subst (λ (l : Literal). l.atom < length p) (sym c) (head_within j h b e)
-
-  pub room-same : (p' q' : List Bool) → length p' ≡ length p → length q' ≡ length q → Room rows p' q'
-  room-same p' q' x y = record { same = y ∙ w.same ∙ sym x; few = omega (arith, x, w.few); heads = λ j b. omega (arith, x, w.heads j b) }
+  pub room_same : (p' q' : List Bool) → length p' ≡ length p → length q' ≡ length q → Room rows p' q'
+  room_same p' q' x y = record { same = y ∙ w.same ∙ sym x; few = omega (arith, x, w.few); heads = λ j b. omega (arith, x, w.heads j b) }
 
 -- the tests of a row: its head, whether it is alive, its body
 pub adds_row : (p q : List Bool) (book : List ℕ) (rows : List Row) (rejects : List ℕ) (j : ℕ)

@@ -5,6 +5,7 @@ ghost use Rattle.std.specs.Prelude.{IsNone, ◌≡◌, ◌<◌, ◌≤◌, repli
 ghost use Rattle.base.specs.Bounds.{max_atoms, max_names, max_rules};
 
 use base::{ArrayVec, MAX_ATOMS, MAX_NAMES, MAX_RULES};
+use format::Literal;
 
 // Rows or names, as many as there are rules.
 type Pile = ArrayVec<u16, MAX_RULES>;
@@ -15,6 +16,14 @@ fn push(pile: &mut Pile, number: usize) {
         pile.clear();
     }
     pile.push((number % 65536) as u16);
+}
+
+// The name under which a row waits for a literal.
+fn waiting_name(l: Literal) -> usize
+    ensures { result < max_names }
+{
+    let f = l.atom % MAX_ATOMS;
+    if l.negated { f + MAX_ATOMS } else { f }
 }
 
 #[derive(Drop)]
@@ -93,25 +102,24 @@ impl Hints {
         }
     }
 
-    // Lets a row wait for the literal i of its body, whose name is h.
-    pub(crate) fn wait(&mut self, j: usize, i: usize, h: usize)
-        requires { h < max_names }
-    {
+    // Lets a row wait for the literal i of its body.
+    pub(crate) fn wait(&mut self, j: usize, i: usize, l: Literal) {
         if MAX_RULES <= j {
             return;
         }
         self.watched[j] = (i % 65536) as u16;
         if let Some(lists) = &mut self.lists {
+            let h = waiting_name(l);
             lists.next_waiting[j] = lists.first_waiting[h];
             lists.first_waiting[h] = Some(j as u16);
         }
     }
 
     // Takes a row up for the first time: it is the last of its list.
-    pub(crate) fn take_up(&mut self, j: usize)
-        requires { j < max_rules }
-    {
-        if let Some(lists) = &mut self.lists {
+    pub(crate) fn take_up(&mut self, j: usize) {
+        if let Some(lists) = &mut self.lists
+            && j < MAX_RULES
+        {
             lists.next_waiting[j] = None;
         }
     }

@@ -4,9 +4,8 @@
 // `hints` is what one filling leaves for the next. Nothing rests on it but speed, so no contract speaks of it.
 #![tactic(auto)]
 
-ghost use Rattle.std.specs.Prelude.{IfSome, ◌/◌, ◌≡◌, false, ◌<◌, ◌≤◌, length, drop, replicate};
+ghost use Rattle.std.specs.Prelude.{◌≡◌, false, ◌<◌, length, drop, replicate};
 ghost use Rattle.std.specs.Result.{is_err};
-ghost use Rattle.base.specs.Bounds.{max_names, max_rules};
 ghost use Rattle.base.specs.Lists.{all};
 ghost use Rattle.format.specs.Book.{literals_of};
 ghost use Rattle.table.specs.Names.{literal_named};
@@ -55,6 +54,7 @@ impl Marks<'_> {
     }
 
     // Whether every literal of a body's bytes is marked. The one numbered `watch` is tried first.
+    #[tactic(auto, using(crate::proofs::MarkLaws::one_fails))]
     fn body(&self, body: &[u8], watch: u16) -> bool
         ensures { result ≡ all (literal_marked self.now.positive.now self.now.negative.now) (literals_of body.now) }
     {
@@ -106,7 +106,6 @@ impl RuleRow<'_> {
     // Whether it adds its head: the head is not marked, the rule is alive and its body is marked.
     #[tactic(auto, using(crate::proofs::MarkLaws::adds_row))]
     fn adds(&self, marks: &Marks, hints: &Hints) -> bool
-        requires { Room self.now.row.table.rows.now marks.now.positive.now marks.now.negative.now }
         ensures { result ≡ adds marks.now.positive.now marks.now.negative.now self.now.rejects.now (row_at self.now.row.table.book.now self.now.row.table.rows.now self.now.row.j) }
     {
         !marks.name(self.row.head())
@@ -115,6 +114,7 @@ impl RuleRow<'_> {
     }
 
     // Marks its head if it adds that, and says whether it did. Where the opposite is marked, it marks nothing.
+    #[tactic(auto, using(crate::proofs::MarkLaws::head_within, crate::proofs::MarkLaws::atom_low, crate::proofs::MarkLaws::atom_high))]
     fn add_head(
         &self,
         positive: &mut [bool],
@@ -145,7 +145,7 @@ impl RuleRow<'_> {
     fn wait(&self, marks: &Marks, hints: &mut Hints) -> bool {
         let unmarked = marks.unmarked(self.row.body(), hints.watched(self.row.j));
         if let Some((i, l)) = unmarked {
-            hints.wait(self.row.j, i, waiting_name(l));
+            hints.wait(self.row.j, i, l);
         }
         unmarked.is_some()
     }
@@ -211,9 +211,6 @@ impl<'a> Rules<'a> {
         ensures { Grown self.now.table.book.now self.now.table.rows.now self.now.rejects.now positive.old negative.old positive.new negative.new }
     {
         let count = self.table.len();
-        if MAX_RULES < count {
-            return;
-        }
         hints.begin(positive.len());
         let mut fresh = 0;
         let mut waiting: Option<usize> = None;
@@ -262,6 +259,7 @@ impl<'a> Rules<'a> {
     // The two arrays, filled from the marks in hand until nothing is added, or until a fact is reached both ways. Passes over the rows say
     // when nothing is added. Few books need more than two; where the second still adds, waiting lists go on from there, and the next
     // filling begins with the trail.
+    #[tactic(auto, using(crate::proofs::GrowingLaws::grown_fewer, crate::proofs::GrowingLaws::grown_both, crate::proofs::FillingLaws::filled, crate::proofs::MarkLaws::room_same))]
     pub fn fill_on(
         &self,
         positive: &mut [bool],
@@ -283,6 +281,7 @@ impl<'a> Rules<'a> {
 
     // The two arrays, reached facts and reached negations, filled until nothing is added, or until a fact is reached both ways: no fact is
     // reached at first, and of the negations those that are marked.
+    #[tactic(auto, using(crate::proofs::FillingLaws::filled_from_start))]
     pub fn fill(
         &self,
         positive: &mut [bool],
@@ -295,14 +294,6 @@ impl<'a> Rules<'a> {
         clear_marks(positive);
         self.fill_on(positive, negative, hints)
     }
-}
-
-// The name under which a row waits for a literal.
-fn waiting_name(l: Literal) -> usize
-    ensures { result < max_names }
-{
-    let f = l.atom % MAX_ATOMS;
-    if l.negated { f + MAX_ATOMS } else { f }
 }
 
 // Takes all marks away.

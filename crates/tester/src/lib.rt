@@ -3,11 +3,11 @@
 // with the candidate.
 #![tactic(auto)]
 
-ghost use Rattle.std.specs.Prelude.{◌≡◌, false, cond, ◌<◌, ◌≤◌, length, replicate};
+ghost use Rattle.std.specs.Prelude.{◌≡◌, cond, ◌≤◌, length, replicate};
 ghost use Rattle.base.specs.Bounds.{max_atoms, max_names};
 ghost use Rattle.base.specs.Lists.{all, up_to};
 ghost use Rattle.models.specs.StableModels.{body_holds, stable, WellFormed};
-ghost use Rattle.table.specs.Rows.{row_count, row_at, RowsFit, overridden};
+ghost use Rattle.table.specs.Rows.{row_count, row_at, overridden};
 ghost use Rattle.table.specs.Table.{Tabulates};
 ghost use Rattle.table.specs.Tabled.{tabled};
 ghost use Rattle.tester.specs.Agreement.{marks_agree};
@@ -40,6 +40,7 @@ fn reject(table: Table, m: &[bool], rejects: &mut [u32; MAX_NAMES])
     }
 }
 
+// Kept: the bound on a number of facts is a clause here and below, since a type for it would be turned into the number at each use.
 // Marks the plain heads of the rows whose bodies hold, rejected or not, and says whether a row is violated: one that is alive and whose
 // head does not hold ends it, as no stable model violates such a row, and nothing need be filled.
 fn supported(rules: &Rules, m: &[bool], atoms: &mut [bool]) -> bool

@@ -1,17 +1,10 @@
--- The watched literal decides where it is not marked; else all are tried.
-use mathlib.Core.Path.{sym, ◌∙◌}
+-- All literals are tried.
 use Rattle.std.proofs.Common.{rules, tests}
 use Rattle.std.proofs.lemmas.Iterator.Search.{all_from_yields_List}
 use Rattle.base.specs.Lists.{all}
-use Rattle.format.specs.Book.{literals_of}
 use Rattle.format.proofs.Walks.{literals_yielded}
 use Rattle.filling.specs.Marks.{literal_marked}
-use Rattle.filling.proofs.MarkLaws.{one_fails}
 use Rattle.filling.proofs.Marks.body.Goals as goal
-
-pub returns : goal.returns
-returns c =
-    one_fails (literal_marked c.args.self.now.positive.now c.args.self.now.negative.now) (literals_of c.args.body.now) c.args.watch (sym c.literals_from.ensures ∙ c.in-Some.ensures.steps) (search rules)
 
 pub returns-2 : goal.returns-2
 unfolding all

@@ -1,20 +1,10 @@
 -- The row adds its head and the opposite is marked, or a mark more stands in one of the two arrays.
-use Rattle.filling.proofs.MarkLaws.{atom_low, atom_high, head_within}
 use Rattle.filling.proofs.TryingLaws.{tried_clash, tried_low, tried_high}
-use native.Mathlib.Omega.{arith}
 use Rattle.filling.proofs.RuleRow.add_head.Goals as goal
 
 pub returns-then-name : goal.returns-then-name
 returns-then-name c =
     tried_clash c.requires c.args.self.now.row.j c.args.self.now.row.inside c.if-not-adds.ensures c.head-h.result c.head-h.ensures.0 c.opposite.result c.opposite.ensures.0 _ c.head-h.ensures.1 c.if-name.ensures
-
-pub bounds-positive-h : goal.bounds-positive-h
-bounds-positive-h c =
-    omega (arith, atom_low _ c.if-h-lt-MAX_ATOMS.true, head_within c.requires _ _ c.args.self.now.row.inside c.head-h.ensures.0)
-
-pub bounds-negative-h : goal.bounds-negative-h
-bounds-negative-h c =
-    omega (arith, c.requires.same, atom_high _ c.if-h-lt-MAX_ATOMS.false, head_within c.requires _ _ c.args.self.now.row.inside c.head-h.ensures.0)
 
 pub returns-then-h-lt-MAX_ATOMS : goal.returns-then-h-lt-MAX_ATOMS
 returns-then-h-lt-MAX_ATOMS c =
