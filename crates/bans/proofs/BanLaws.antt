@@ -35,7 +35,3 @@ bans_made {book} {first} {mask} {bans} w = record {
   fits = stand_fits (body_of book) (λ r. r.body) (SpanFits book) bans _ w.entries NO_SPAN;
   bodies_are = stand_values (body_of book) (λ r. r.body) (SpanFits book) bans _ w.entries;
 }
-
--- the same bodies under another name
-pub made_of : {bodies other : List (List Literal)} {book : List ℕ} {bans : List Span} → bodies ≡ other → BansMade bodies book bans → BansMade other book bans
-made_of {book = book} {bans = bans} e w = subst (λ (bs : List (List Literal)). BansMade bs book bans) e w

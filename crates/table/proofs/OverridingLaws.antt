@@ -1,5 +1,5 @@
--- The masks of layers, row by row: in which layers a head stands, and which layers a row overrides. Used by head_layers,
--- unless_leaning and overridden_layers. Assumes nothing.
+-- The masks of layers, row by row: in which layers a head stands, and which layers a row overrides. Used by head_layers and
+-- overridden_layers. Assumes nothing.
 use mathlib.Core.Path.{◌≡◌, refl, sym, ap, subst, ◌∙◌}
 use mathlib.Core.Logic.{⊎_elim}
 use mathlib.Core.Bool.{Bool, true, false, not, cond}
@@ -19,8 +19,8 @@ use Rattle.layers.proofs.BitLaws.{pow-fits, bit-same, bit-other, no_bit, no_bits
 use Rattle.table.specs.Names.{literal_named}
 use Rattle.table.specs.declared.Row.{Row}
 use Rattle.table.specs.declared.TheConstants.{NO_ROW}
-use Rattle.table.specs.Rows.{nth, row_count, head_name, row_layer, overridden, with_mask, row_at, SameRules}
-use Rattle.table.specs.Overriding.{HeadAt, HeadLayers, OpposedAt, unless_leaning, Overridden}
+use Rattle.table.specs.Rows.{nth, row_count, head_name, row_layer, overridden, row_at, SameRules}
+use Rattle.table.specs.Overriding.{HeadAt, HeadLayers, OpposedAt, Overridden}
 use Rattle.table.proofs.RowLaws.{count_same, name_kept, layer_kept, row_kept}
 use Rattle.table.proofs.NameLaws.{one_name}
 
@@ -87,6 +87,10 @@ overridden-start book rows lower table = record {
 pub rules-start : (rows : List Row) → SameRules rows rows
 rules-start rows = record { size = refl; same = λ j. refl }
 
+-- row j with another mask
+abbrev pub with_mask : List Row → ℕ → ℕ → List Row
+with_mask rows j mask = set rows j (record (nth rows j) { overridden = mask })
+
 -- a row's mask is written
 module _ (rows table : List Row) (r : SameRules rows table) (j mask : ℕ) (b : j < row_count rows) where
   abbrev masked : List Row
@@ -116,10 +120,13 @@ module _ (rows table : List Row) (r : SameRules rows table) (j mask : ℕ) (b : 
           nth_there x n ∙ r.same x
           ∙ ap (λ (m : ℕ). record (nth rows x) { overridden = m }) (sym (ap (λ (t : Row). t.overridden) (nth_there x n)))
 
+-- a rule's mask of layers, empty where it leans on itself
+abbrev pub unless_leaning : Rule → ℕ → ℕ
+unless_leaning r mask = cond (leans_on_itself r) 0 mask
+
 -- a rule that leans on itself keeps no bit of a mask, and any other keeps all of it
 module _ (r : Rule) (k : ℕ) where
   unless_bit : (i : ℕ) → bit_of (unless_leaning r k) i ≡ 1 → T (not (leans_on_itself r)) × (bit_of k i ≡ 1)
-  unfolding unless_leaning
   unless_bit i z = go (leans_on_itself r) z
     where
       go : (c : Bool) → bit_of (cond c 0 k) i ≡ 1 → T (not c) × (bit_of k i ≡ 1)
@@ -127,7 +134,6 @@ module _ (r : Rule) (k : ℕ) where
       go false y = (tt, y)
 
   unless_whole : T (not (leans_on_itself r)) → unless_leaning r k ≡ k
-  unfolding unless_leaning
   unless_whole t = go (leans_on_itself r) t
     where
       go : (c : Bool) → T (not c) → cond c 0 k ≡ k

@@ -1,8 +1,7 @@
 -- Masks of layers: in which layers a head stands, and in which layers the rules are that a row overrides. Assumes nothing.
-use Rattle.std.specs.Prelude.{◌≡◌, not, cond, List, ℕ, ◌<◌, T, length, get_or}
+use Rattle.std.specs.Prelude.{◌≡◌, not, List, ℕ, ◌<◌, T, length, get_or}
 use Rattle.base.specs.Bounds.{max_names}
 use Rattle.layers.specs.Masks.{bit_of}
-use Rattle.format.specs.Book.{Rule}
 use Rattle.models.specs.StableModels.{complement, leans_on_itself}
 use Rattle.table.specs.Names.{literal_named}
 use Rattle.table.specs.declared.Row.{Row}
@@ -26,10 +25,6 @@ pub record OpposedAt (rows : List Row) (h i : ℕ) : Type 0 where
   pub name : ℕ
   pub opposite_is : literal_named name ≡ complement (literal_named h)
   pub head_at : HeadAt rows (row_count rows) name i
-
--- a rule's mask of layers, empty where it leans on itself
-unfoldable pub unless_leaning : Rule → ℕ → ℕ
-unless_leaning r mask = cond (leans_on_itself r) 0 mask
 
 -- the masks of the first n rows, as the table has them: of the layers below a row's own, exactly those in which a row has the opposite
 -- head; and none of a row that leans on itself

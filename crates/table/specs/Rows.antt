@@ -1,5 +1,5 @@
 -- The rows of the table, one rule after the other. Assumes nothing.
-use Rattle.std.specs.Prelude.{◌≡◌, Bool, not, ◌&&◌, List, map, ℕ, ◌+◌, ◌<◌, ◌≤◌, eqb, length, get_or, set, take, drop}
+use Rattle.std.specs.Prelude.{◌≡◌, Bool, not, ◌&&◌, List, map, ℕ, ◌+◌, ◌<◌, ◌≤◌, eqb, length, get_or, take, drop}
 use Rattle.base.specs.Bounds.{max_names, max_layers}
 use Rattle.layers.specs.Masks.{bit_of}
 use Rattle.format.specs.Book.{Rule, literals_of, is_constraint}
@@ -32,10 +32,6 @@ row_layer rows j = (nth rows j).layer
 -- the layers in which it can displace rules, a mask
 abbrev pub overridden : List Row → ℕ → ℕ
 overridden rows j = (nth rows j).overridden
-
--- row j with another such mask
-abbrev pub with_mask : List Row → ℕ → ℕ → List Row
-with_mask rows j mask = set rows j (record (nth rows j) { overridden = mask })
 
 -- its body's bytes
 abbrev pub row_body : List ℕ → List Row → ℕ → List ℕ

@@ -96,7 +96,7 @@ pub fn has_layer(mask: u32, layer: usize) -> bool
 pub struct Table<'a> {
     pub book: &'a [u8],
     pub rows: &'a [Row],
-    ghost fit: { RowsFit book.now rows.now },
+    pub ghost fit: { RowsFit book.now rows.now },
 }
 
 impl<'a> Table<'a> {

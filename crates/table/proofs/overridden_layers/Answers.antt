@@ -2,7 +2,6 @@
 -- itself, and the rest of the rows is as it was.
 use Rattle.models.specs.StableModels.{leans_on_itself}
 use Rattle.table.specs.Rows.{row_at}
-use Rattle.table.specs.Overriding.{unless_leaning}
 use Rattle.table.proofs.RowLaws.{fits-same, name_kept, layer_kept}
 use Rattle.table.proofs.OverridingLaws.{overridden-start, rules-start, rules-more, overridden-more}
 use Rattle.table.proofs.overridden_layers.Goals as goal
@@ -12,7 +11,7 @@ loop-row-init c =
     record { fits = c.requires; same = rules-start c.args.rows.now; masks = overridden-start c.args.book.now c.args.rows.now c.args.lower.now c.args.rows.now }
 
 pub loop-row-preserved : goal.loop-row-preserved
-unfolding row_at unless_leaning leans_on_itself
+unfolding row_at leans_on_itself
 loop-row-preserved c =
     let r = c.loop-row.invariant.same in
     let rules = rules-more c.args.rows.now c.loop-row.rows r c.loop-row.row-index c.unless_leaning-row.result c.loop-row-test.true in
