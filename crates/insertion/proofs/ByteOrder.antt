@@ -4,6 +4,7 @@ use Rattle.std.proofs.Common.{arith, ◌≡◌, ℕ, ◌<◌, ◌⊎◌, inl, in
 use Rattle.std.specs.Ordering.{nat_cmp, is_lt, ordering_then, ordering_reverse}
 use Rattle.std.specs.Cmp.Lexicographic.{slice_cmp}
 use Rattle.std.proofs.lemmas.Cmp.{ranked, by_ranked, nat_list_cmp_total}
+use Rattle.std.proofs.lemmas.Map.Lookups.{exact_bytes}
 use Rattle.insertion.specs.Runs.{bytes_before}
 
 module _ (x y : ℕ) (xs ys : List ℕ) where
@@ -59,3 +60,13 @@ bytes_asym x y p = go (slice_cmp nat_cmp x y) p (ap is_lt (nat_list_cmp_total.an
     go Less e f = f
     go Equal e f = cc
     go Greater e f = cc
+
+-- byte strings neither of which comes before the other are the same
+pub bytes_same : (x y : List ℕ) → bytes_before x y ≡ false → bytes_before y x ≡ false → x ≡ y
+unfolding bytes_before
+bytes_same x y p q = go (slice_cmp nat_cmp x y) refl p (sym (ap is_lt (nat_list_cmp_total.antisymm y x)) ∙ q)
+  where
+    go : (o : Ordering) → slice_cmp nat_cmp x y ≡ o → is_lt o ≡ false → is_lt (ordering_reverse (slice_cmp nat_cmp x y)) ≡ false → x ≡ y
+    go Less e f g = cc
+    go Equal e f g = exact_bytes x y e
+    go Greater e f g = let k : true ≡ false = sym (ap (λ (o : Ordering). is_lt (ordering_reverse o)) e) ∙ g in cc

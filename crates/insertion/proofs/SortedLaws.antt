@@ -8,7 +8,7 @@ use mathlib.Core.List.{List, [], ◌∷◌, ◌++◌, map}
 use Prim.Native.Nat.{ℕ, zero, suc, ◌+◌, ◌<◌}
 use native.Mathlib.Omega.{arith}
 use lib.Dec.{T}
-use lib.ListN.{length, get_or, take}
+use lib.ListN.{length, get_or, take, drop, take-append-drop}
 use Rattle.base.proofs.Members.{◌∈◌}
 use Rattle.insertion.specs.Sorted.{insert_past, insert_by, insert_all, Up}
 
@@ -18,13 +18,7 @@ get_d_member (x ∷ xs) zero d h = Memᴰ.head refl
 get_d_member (x ∷ xs) (suc i) d h = Memᴰ.tail (get_d_member xs i d (omega arith))
 
 pub take-from : {A : Type 0} (i : ℕ) (xs : List A) (z : A) → z ∈ take i xs → z ∈ xs
-take-from zero xs z m = absurd (Memᴰ.not-nil m)
-take-from (suc i) [] z m = m
-take-from (suc i) (x ∷ xs) z m = go (take-from i xs z) (Memᴰ.cases_cons m)
-  where
-    go : (z ∈ take i xs → z ∈ xs) → (z ≡ x) ⊎ z ∈ take i xs → z ∈ (x ∷ xs)
-    go f (inl e) = Memᴰ.head e
-    go f (inr k) = Memᴰ.tail (f k)
+take-from {A} i xs z m = subst (λ (l : List A). z ∈ l) (take-append-drop i xs) (Memᴰ.append_left (drop i xs) m)
 
 module _ {A : Type 0} (less : A → A → Bool) where
   pub take-keeps_up : (i : ℕ) (xs : List A) → Up less xs → Up less (take i xs)

@@ -4,7 +4,7 @@ use mathlib.Core.Path.{◌≡◌, refl, sym, ap, ap₂, subst, ◌∙◌}
 use mathlib.Core.Logic.{◌⊎◌, inl, inr}
 use mathlib.Core.Bool.{Bool, true, false}
 use mathlib.Core.List.Memᴰ
-use mathlib.Core.List.{List, [], ◌∷◌, ◌++◌}
+use mathlib.Core.List.{List, [], ◌++◌}
 use Prim.Native.Nat.{ℕ, zero, suc, ◌+◌, ◌-◌, ◌*◌, ◌/◌, ◌≤◌, ◌<◌}
 use native.Mathlib.Nat.{mul-le-mul_right, eq-or-lt_of_le}
 use native.Mathlib.Omega.{arith}
@@ -14,26 +14,12 @@ use lib.Seq.{get_or-append-add}
 use Rattle.base.proofs.Members.{◌∈◌}
 use Rattle.insertion.specs.Sorted.{Up}
 use Rattle.insertion.specs.Runs.{bytes_before, Wide}
-use Rattle.insertion.proofs.ByteOrder.{not-before_cases, bytes_le_lt, bytes_asym}
+use Rattle.insertion.proofs.ByteOrder.{bytes_le_lt, bytes_asym, bytes_same}
 use Rattle.insertion.proofs.RunLaws.{flat_append, flat_at}
 use Rattle.insertion.proofs.SortedLaws as insertion-laws
 use Rattle.merging.specs.Merging.{rec_at, GoesIn, Two, Parted}
 use Rattle.merging.proofs.MergeLaws as sorted
 use Rattle.merging.proofs.PlaceLaws.{lent, place-room, told}
-
--- byte strings neither of which comes before the other are the same
-pub bytes_same : (x y : List ℕ) → bytes_before x y ≡ false → bytes_before y x ≡ false → x ≡ y
-unfolding bytes_before
-bytes_same [] [] p q = refl
-bytes_same [] (b ∷ y) p q = absurd (subst T p tt)
-bytes_same (a ∷ x) [] p q = absurd (subst T q tt)
-bytes_same (a ∷ x) (b ∷ y) p q = go (λ f g. bytes_same x y f g) (not-before_cases a b x y p) (not-before_cases b a y x q)
-  where
-    go : (bytes_before x y ≡ false → bytes_before y x ≡ false → x ≡ y) → (b < a) ⊎ ((a ≡ b) × (bytes_before x y ≡ false)) → (a < b) ⊎ ((b ≡ a) × (bytes_before y x ≡ false)) → ◌≡◌ {A = List ℕ} (a ∷ x) (b ∷ y)
-    go f (inl h) (inl k) = absurd (omega arith)
-    go f (inl h) (inr k) = absurd (omega (arith, k.0))
-    go f (inr h) (inl k) = absurd (omega (arith, h.0))
-    go f (inr h) (inr k) = ap₂ (λ (z : ℕ) (zs : List ℕ). z ∷ zs) h.0 (f h.1 k.1)
 
 abbrev le_le : (y x r : List ℕ) → bytes_before y x ≡ false → bytes_before x r ≡ false → bytes_before y r ≡ false
 le_le = insertion-laws.le_le bytes_before bytes_le_lt bytes_asym

@@ -12,12 +12,11 @@ use Rattle.base.specs.Lists.{flat}
 use Rattle.insertion.specs.Sorted.{insert_all, Up}
 use Rattle.insertion.specs.Runs.{bytes_before, Wide}
 use Rattle.insertion.proofs.SortedLaws.{take-from, take-keeps_up}
-use Rattle.insertion.proofs.ByteOrder.{bytes_le_lt, bytes_asym}
+use Rattle.insertion.proofs.ByteOrder.{bytes_le_lt, bytes_asym, bytes_same}
 use Rattle.insertion.proofs.RunLaws.{flat_append, flat-length}
 use Rattle.merging.specs.Merging.{Two, Parted, Merged}
 use Rattle.merging.proofs.MergeLaws.{drop-from, merge_halves, insert_all-nothing}
 use Rattle.merging.proofs.RotateLaws.{turned, lent_length}
-use Rattle.merging.proofs.CutLaws.{bytes_same}
 
 -- the offsets of a cut
 pub record CutSizes (w n m i j len : ℕ) : Type 0 where

@@ -7,15 +7,14 @@ use mathlib.Core.List.Memᴰ
 use mathlib.Core.List.{List, [], ◌∷◌, ◌++◌}
 use Prim.Native.Nat.{ℕ, zero, suc, ◌<◌}
 use native.Mathlib.Omega.{arith}
-use lib.ListN.{length, get_or, take, drop}
+use lib.ListN.{length, get_or, take, drop, take-append-drop}
 use Rattle.base.proofs.Members.{◌∈◌}
+use Rattle.base.proofs.EntryLaws.{entry_in}
 use Rattle.insertion.specs.Sorted.{insert_past, insert_by, insert_all, Up}
-use Rattle.insertion.proofs.SortedLaws.{insert_keeps_up, insert_all-keeps_up, insert_all-append, insert_all-from, get_d_member}
+use Rattle.insertion.proofs.SortedLaws.{insert_keeps_up, insert_all-keeps_up, insert_all-append, insert_all-from}
 
 pub drop-from : {A : Type 0} (i : ℕ) (xs : List A) (z : A) → z ∈ drop i xs → z ∈ xs
-drop-from zero xs z m = m
-drop-from (suc i) [] z m = m
-drop-from (suc i) (x ∷ xs) z m = Memᴰ.tail (drop-from i xs z m)
+drop-from {A} i xs z m = subst (λ (l : List A). z ∈ l) (take-append-drop i xs) (Memᴰ.append_right (take i xs) m)
 
 module _ {A : Type 0} (less : A → A → Bool) (le_lt : (y x r : A) → less y x ≡ false → less y r ≡ true → less x r ≡ true) (asym : (x y : A) → less x y ≡ true → less y x ≡ false)
     (same : (x y : A) → less x y ≡ false → less y x ≡ false → x ≡ y) where
@@ -98,7 +97,7 @@ module _ {A : Type 0} (less : A → A → Bool) (le_lt : (y x r : A) → less y 
   up_front d (x ∷ xs) (suc i) u h l m = go (λ j. up_front d xs i u.1 (omega arith) l j) (Memᴰ.cases_cons m)
     where
       go : (l ∈ take i xs → less (get_or xs i d) l ≡ false) → (l ≡ x) ⊎ l ∈ take i xs → less (get_or xs i d) l ≡ false
-      go f (inl e) = subst (λ (z : A). less (get_or xs i d) z ≡ false) (sym e) (u.0 (get_or xs i d) (get_d_member xs i d (omega arith)))
+      go f (inl e) = subst (λ (z : A). less (get_or xs i d) z ≡ false) (sym e) (u.0 (get_or xs i d) (entry_in xs i d (omega arith)))
       go f (inr j) = f j
 
   irreflexive : (x : A) → less x x ≡ false
@@ -129,5 +128,5 @@ module _ {A : Type 0} (less : A → A → Bool) (le_lt : (y x r : A) → less y 
   up_last d (x ∷ xs) (suc i) u h l m = go (λ j. up_last d xs i u.1 (omega arith) l j) (Memᴰ.cases_cons m)
     where
       go : (l ∈ take (suc i) xs → less (get_or xs i d) l ≡ false) → (l ≡ x) ⊎ l ∈ take (suc i) xs → less (get_or xs i d) l ≡ false
-      go f (inl e) = subst (λ (z : A). less (get_or xs i d) z ≡ false) (sym e) (u.0 (get_or xs i d) (get_d_member xs i d (omega arith)))
+      go f (inl e) = subst (λ (z : A). less (get_or xs i d) z ≡ false) (sym e) (u.0 (get_or xs i d) (entry_in xs i d (omega arith)))
       go f (inr j) = f j

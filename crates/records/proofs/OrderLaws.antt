@@ -1,6 +1,6 @@
 -- The order of records is the order of states, so states found in any order, none twice, are in the listing's order when they
 -- are sorted by their records. The search cites `sorted-listed`. Assumes nothing.
-use mathlib.Core.Path.{◌≡◌, refl, sym, ap₂, subst, ◌∙◌}
+use mathlib.Core.Path.{◌≡◌, refl, sym, subst, ◌∙◌}
 use mathlib.Core.Logic.{◌⊎◌, inl, inr}
 use mathlib.Core.Bool.{Bool, true, false}
 use mathlib.Core.List.Memᴰ
@@ -14,7 +14,7 @@ use Rattle.base.proofs.Members.{◌∈◌}
 use Rattle.base.proofs.Rising.{Rising}
 use Rattle.insertion.specs.Runs.{bytes_before}
 use Rattle.insertion.specs.Sorted.{insert_all, Up}
-use Rattle.insertion.proofs.ByteOrder.{before_cases, not-before_cases, before_by_first, before_by_rest, bytes_le_lt, bytes_asym}
+use Rattle.insertion.proofs.ByteOrder.{before_cases, bytes_le_lt, bytes_asym, bytes_same}
 use Rattle.insertion.proofs.SortedLaws.{insert_all-keeps_up, insert_all-length, insert_all-from, insert_all_into}
 use Rattle.insertion.proofs.Once.{Once, insert_all-once}
 use Rattle.models.specs.StableModels.{Interpretation}
@@ -39,24 +39,16 @@ less_true (a ∷ x) (b ∷ y) l h = go (λ q. less_true x y (omega arith) q) (be
     go f (inl q) = inl q
     go f (inr q) = inr (q.0, f q.1)
 
-total : (x y : List ℕ) → length x ≡ length y → bytes_before y x ≡ false → (bytes_before x y ≡ true) ⊎ (x ≡ y)
-unfolding bytes_before
-total [] [] l h = inr refl
-total [] (b ∷ y) l h = absurd (omega arith)
-total (a ∷ x) [] l h = absurd (omega arith)
-total (a ∷ x) (b ∷ y) l h = go (λ q. total x y (omega arith) q) (not-before_cases b a y x h)
+total : (x y : List ℕ) → bytes_before y x ≡ false → (bytes_before x y ≡ true) ⊎ (x ≡ y)
+total x y h = go (bytes_before x y) refl
   where
-    next : b ≡ a → (bytes_before x y ≡ true) ⊎ (x ≡ y) → (bytes_before (a ∷ x) (b ∷ y) ≡ true) ⊎ (a ∷ x ≡ b ∷ y)
-    next e (inl q) = inl (before_by_rest a b x y (sym e) ∙ q)
-    next e (inr q) = inr (ap₂ (λ (u : ℕ) (v : List ℕ). u ∷ v) (sym e) q)
-
-    go : (bytes_before y x ≡ false → (bytes_before x y ≡ true) ⊎ (x ≡ y)) → (a < b) ⊎ ((b ≡ a) × (bytes_before y x ≡ false)) → (bytes_before (a ∷ x) (b ∷ y) ≡ true) ⊎ (a ∷ x ≡ b ∷ y)
-    go f (inl q) = inl (before_by_first a b x y q)
-    go f (inr q) = next q.0 (f q.1)
+    go : (c : Bool) → bytes_before x y ≡ c → (bytes_before x y ≡ true) ⊎ (x ≡ y)
+    go true e = inl e
+    go false e = inr (bytes_same x y e h)
 
 rise : (n : ℕ) (x y : Interpretation) → length x ≡ n → length y ≡ n → (x ≡ y → ⊥) → before n y x ≡ false → x ⊏ y
 unfolding record_of
-rise n x y l k d h = go (total (record_of n x) (record_of n y) (record_length n x ∙ sym (record_length n y)) h)
+rise n x y l k d h = go (total (record_of n x) (record_of n y) h)
   where
     go : (bytes_before (record_of n x) (record_of n y) ≡ true) ⊎ (record_of n x ≡ record_of n y) → x ⊏ y
     go (inl q) = packed_less (record_size n) x y (l ∙ sym k) (less_true (record_of n x) (record_of n y) (record_length n x ∙ sym (record_length n y)) q)
@@ -75,7 +67,7 @@ record_rises n x y l k r = go (before n y x) refl
     last (inr q) = absurd (never (record_same n x y l k q))
 
     go : (c : Bool) → before n y x ≡ c → before n x y ≡ true
-    go false e = last (total (record_of n x) (record_of n y) (record_length n x ∙ sym (record_length n y)) e)
+    go false e = last (total (record_of n x) (record_of n y) e)
     go true e =
         absurd (asym x y r (packed_less (record_size n) y x (k ∙ sym l) (less_true (record_of n y) (record_of n x) (record_length n y ∙ sym (record_length n x)) e)))
 
