@@ -8,6 +8,7 @@ use native.Mathlib.Nat.{eq-or-lt_of_le, le_of_suc-le-suc}
 use native.Mathlib.Omega.{arith}
 use lib.ListN.{length, get_or, replicate, length-append, length-map, get_or-append}
 use lib.Seq.{get_or_at}
+use Rattle.std.proofs.lemmas.List.{map-append}
 use Rattle.base.specs.Lists.{up_to}
 
 -- a list of the same everywhere
@@ -17,8 +18,7 @@ constant_at a (suc n) zero = refl
 constant_at a (suc n) (suc i) = constant_at a n i
 
 pub map_snoc : {A B : Type 0} (f : A → B) (xs : List A) (y : A) → map f (xs ++ (y ∷ [])) ≡ map f xs ++ (f y ∷ [])
-map_snoc f [] y = refl
-map_snoc f (x ∷ xs) y = ap (λ (l : List _). f x ∷ l) (map_snoc f xs y)
+map_snoc f xs y = map-append f xs (y ∷ [])
 
 up_to-length : (n : ℕ) → length (up_to n) ≡ n
 unfolding up_to

@@ -7,6 +7,7 @@ ghost use Rattle.base.specs.Lists.{put_behind};
 use std::marker::Model;
 
 // Clauses see the list of the values that are there.
+// Kept: no heap, so an array and how many of its values are in use.
 #[derive(Drop)]
 pub struct ArrayVec<T, const N: usize> {
     items: [T; N],

@@ -214,6 +214,7 @@ pub fn read_condition(text: &[u8], n: usize) -> Result<Postfix, Cause>
 
 // Pushes a bit on a stack of bits, the top in the lowest. The 64 bits on top are kept, and no condition needs more: 16 brackets deep, its
 // stack has at most 36.
+// Kept: bits in one number, since a list of them would hand out each operand as an Option, and is no plainer.
 #[tactic(auto, using(crate::proofs::RunLaws::pushed))]
 fn push(stack: u64, bit: bool) -> u64
     ensures { result ≡ push stack bit % 2 ^ 64 }
