@@ -113,7 +113,9 @@ impl RuleRow<'_> {
             && marks.body(self.row.body(), hints.watched(self.row.j))
     }
 
-    // Marks its head if it adds that, and says whether it did. Where the opposite is marked, it marks nothing.
+    // Marks its head if it adds that, and says whether it did. Where the opposite is marked, it marks nothing. Inlined, since it is what a
+    // pass does with each row.
+    #[inline(always)]
     #[tactic(auto, using(crate::proofs::MarkLaws::head_within, crate::proofs::MarkLaws::atom_low, crate::proofs::MarkLaws::atom_high))]
     fn add_head(
         &self,
