@@ -65,10 +65,8 @@ fn print_listing<W: Write>(out: &mut W, listed: Listed, listing: &[u8; ROOM]) ->
 
 // The last layer, L - 1. A book with no layer, or with too few bytes to say, is refused whatever layer is driven.
 fn last_layer(book: &[u8]) -> u32 {
-    match book.get(LAYERS_AT) {
-        Some(layers) => u32::from(layers.saturating_sub(1)),
-        None => 0,
-    }
+    book.get(LAYERS_AT)
+        .map_or(0, |layers| u32::from(layers.saturating_sub(1)))
 }
 
 // Nothing is switched off.
