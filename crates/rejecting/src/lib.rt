@@ -46,6 +46,7 @@ pub fn rejecting_masks(body: BodyMasks, name: usize, layers: u32) -> Option<Reje
 
 // Bit i at name h: rules of layer i with that head are rejected at the setting of this mask. The array is lent, all 0: there is a number
 // for each name, and to make or copy it would be felt at every setting.
+#[tactic(auto, using(crate::proofs::RejectingLaws::named_at))]
 pub fn reject_at(rejecting: &[RejectingMasks], standing: u32, rejects: &mut [u32; MAX_NAMES])
     requires named { Named rejecting.now }
     requires rejects_value { rejects.old ≡ replicate max_names 0 }
@@ -59,6 +60,7 @@ pub fn reject_at(rejecting: &[RejectingMasks], standing: u32, rejects: &mut [u32
 }
 
 // Makes the masks 0 again at the rows' names, so that the next setting finds them all 0: nothing else was set.
+#[tactic(auto, using(crate::proofs::RejectingLaws::named_at))]
 pub fn clear_at(rejecting: &[RejectingMasks], rejects: &mut [u32; MAX_NAMES])
     requires named { Named rejecting.now }
     requires uncleared { Uncleared rejecting.now rejects.old }

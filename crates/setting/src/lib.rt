@@ -43,6 +43,7 @@ pub struct BodyMasks {
 }
 
 // The masks of a body's bytes. An atom that does not branch has no bit, and leaves the masks as they are.
+#[tactic(auto, using(crate::proofs::RuleMaskLaws::masked_none, crate::proofs::RuleMaskLaws::masked_negated, crate::proofs::RuleMaskLaws::masked_plain))]
 pub fn body_masks(bits: &[u32], body: &[u8]) -> BodyMasks
     ensures { BodyMasked bits.now (literals_of body.now) result }
 {
@@ -99,6 +100,7 @@ fn head_unless(denials: u32, head: u32) -> u64
 }
 
 // Whether each atom that stands is the head of a rule of whose body no literal is denied. Most often the first rules show it.
+#[tactic(auto, using(crate::proofs::RuleMaskLaws::heads_more))]
 pub fn headed(rules: &[HeadMasks], standing: u32, denied: u32) -> bool
     ensures { Headed rules.now standing denied → result ≡ true }
 {

@@ -1,11 +1,6 @@
 -- What is not 0 stands at the name of an entry to come.
-use native.Mathlib.Omega.{arith}
-use Rattle.rejecting.proofs.RejectingLaws.{named_at}
 use Rattle.rejecting.proofs.ClearLaws.{cleared_at, cleared_end}
 use Rattle.rejecting.proofs.clear_at.Goals as goal
-
-pub bounds-rejects-from : goal.bounds-rejects-from
-bounds-rejects-from c = omega (arith, named_at c.args.rejecting.now _ c.loop-row-test.true c.requires.named _ c.from.ensures, c.loop-row.invariant.size)
 
 pub loop-row-preserved : goal.loop-row-preserved
 loop-row-preserved c = cleared_at c.args.rejecting.now _ c.loop-row-test.true _ c.loop-row.invariant c.requires.named _ c.from.ensures

@@ -3,21 +3,14 @@ use mathlib.Core.Path.{sym, subst, ◌∙◌}
 use mathlib.Core.Bool.{false≢true}
 use mathlib.Core.List.{List, []}
 use Prim.Native.Nat.{ℕ}
-use native.Mathlib.Omega.{arith}
 use Rattle.rejecting.specs.Rejecting.{RejectsAt}
-use Rattle.rejecting.proofs.RejectingLaws.{rejects_start, named_at, skipped_at, rejected_more}
+use Rattle.rejecting.proofs.RejectingLaws.{rejects_start, skipped_at, rejected_more}
 use Rattle.rejecting.proofs.reject_at.Goals as goal
 use Rattle.rejecting.proofs.reject_at.Goals.{then-fits, else-fits}
 
 pub loop-row-init : goal.loop-row-init
 loop-row-init c =
     subst (λ (x : List ℕ). RejectsAt [] c.args.standing x) (sym c.requires.rejects_value) rejects_start
-
-pub bounds-rejects-from : goal.bounds-rejects-from
-bounds-rejects-from c = omega (arith, named_at c.args.rejecting.now _ c.loop-row-test.true c.requires.named _ c.from.ensures, c.loop-row.invariant.size)
-
-pub bounds-rejects-from-then-fits : goal.bounds-rejects-from-then-fits
-bounds-rejects-from-then-fits c = omega (arith, named_at c.args.rejecting.now _ c.loop-row-test.true c.requires.named _ c.from.ensures, c.loop-row.invariant.size)
 
 pub loop-row-preserved : goal.loop-row-preserved
 loop-row-preserved c =
