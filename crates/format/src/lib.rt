@@ -88,6 +88,7 @@ pub fn be16(s: &[u8], at: usize) -> usize
 }
 
 // The four bytes at an offset as a big-endian number.
+// Kept: by the field's offset, as in `be16`.
 #[tactic(auto, unfolding(crate::specs::Book::u32_at))]
 pub fn be32(s: &[u8], at: usize) -> usize
     requires { at + 4 ≤ length s.now }
