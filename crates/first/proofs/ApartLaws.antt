@@ -23,7 +23,6 @@ use Rattle.models.specs.Branching.{branching, branching_atoms}
 use Rattle.models.specs.Listing.{bit_value}
 use Rattle.bans.specs.Bans.{barred}
 use Rattle.setting.specs.Setting.{setting_of}
-use Rattle.plan.specs.Plan.{plan_bans}
 use Rattle.leaf.specs.Searchable.{Searchable}
 use Rattle.search.specs.declared.space.Space.{Space}
 use Rattle.search.specs.declared.Turn.{Turn}
@@ -193,12 +192,12 @@ module _ (s : Space) {turn : Turn} (t : Turned (space_atoms s) turn) (some : tur
     apart_first step =
         half_apart f is false r step first (ap (λ (h : Turn). h.left) e₁)
         (λ m k. subst (λ (l : List Interpretation). m ∈ l) (sym (halves_are s t some i ei e₁ e₂)) (Memᴰ.append_left _ k))
-        (λ m k. not_held (atom_holds m (get_or atoms i 0)) (group_lacks (space_searchable s) (plan_bans s.plan.now) (setting_of atoms first.standing) (turned_first s t some i ei e₁ e₂).decided m k i
+        (λ m k. not_held (atom_holds m (get_or atoms i 0)) (group_lacks (space_searchable s) s.bans.spans.now (setting_of atoms first.standing) (turned_first s t some i ei e₁ e₂).decided m k i
         (subst (λ (x : ℕ). bit_of x i ≡ 1) (sym (ap (λ (h : Turn). h.denied) e₁)) (or_right turn.denied (2 ^ i) i (bit-same i)))))
 
     pub apart_second : r ≡ bit_value (ltb f (length wanted) && not (beq (atom_holds wanted f) true)) 1 → Apart wanted (undecided atoms second.left) (models_left s second) second.left (apart + r)
     apart_second step =
         half_apart f is true r step second (ap (λ (h : Turn). h.left) e₂)
         (λ m k. subst (λ (l : List Interpretation). m ∈ l) (sym (halves_are s t some i ei e₁ e₂)) (Memᴰ.append_right (models_left s first) k))
-        (λ m k. passed (atom_holds m (get_or atoms i 0)) (group_has (space_searchable s) (plan_bans s.plan.now) (setting_of atoms second.standing) (turned_second s t some i ei e₁ e₂).decided m k i
+        (λ m k. passed (atom_holds m (get_or atoms i 0)) (group_has (space_searchable s) s.bans.spans.now (setting_of atoms second.standing) (turned_second s t some i ei e₁ e₂).decided m k i
         (subst (λ (x : ℕ). bit_of x i ≡ 1) (sym (ap (λ (h : Turn). h.standing) e₂)) (or_right turn.standing (2 ^ i) i (bit-same i)))))

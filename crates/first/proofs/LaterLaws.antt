@@ -1,5 +1,5 @@
 -- A group of settings is left out: the test by masks, why no model of the group comes before the one in hand, and that the one in hand is
--- then the first of both. Used by comes_later and search_first. Assumes nothing.
+-- then the first of both. Used by comes_first and search_first. Assumes nothing.
 use mathlib.Core.Path.{◌≡◌, refl, sym, ap, subst, ◌∙◌}
 use mathlib.Core.Logic.{◌⊎◌, inl, inr}
 use mathlib.Core.Bool.{Bool, true, false, not, false≢true}

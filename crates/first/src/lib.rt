@@ -22,6 +22,7 @@ use table::Table;
 // What is kept of the state in hand, whose record stands in the lent part: its distance to the wanted state; of the branching facts, bit i
 // for the i-th, those that stand in it, and those before which no other fact stands in it; and whether no other fact stands in it at all.
 // Facts that are sure do not count as others.
+// Kept: a flag beside the masks: as an Option it would name the first other fact, which nothing reads.
 #[derive(Clone, Copy)]
 pub struct Held {
     pub distance: usize,
@@ -71,6 +72,17 @@ impl Held {
 pub struct Wish<'a> {
     pub sure: &'a [bool],
     pub wanted: &'a [bool],
+}
+
+// A state that is met, over the facts of a space, with the bits of the branching facts that stand in it.
+#[derive(Clone, Copy)]
+struct Met<'a> {
+    atoms: &'a [u32],
+    state: &'a [bool],
+    standing: u32,
+    ghost atoms_few: { length atoms.now ≤ max_branching },
+    ghost state_few: { length state.now ≤ max_atoms },
+    ghost standing_has: { StandingHas atoms.now state.now standing },
 }
 
 // Facts that stand in every stable model: those that follow from nothing by rules that nothing can displace.
@@ -124,37 +136,33 @@ fn unsure(m: &[bool], sure: &[bool], f: usize) -> bool
     m[f] && !sure[f]
 }
 
-// What is kept of a state of this distance in which these branching facts stand: it goes along the facts up to the first that stands and
-// neither branches nor is sure.
-fn outline(atoms: &[u32], sure: &[bool], m: &[bool], standing: u32, distance: usize) -> Held
-    requires m_len_bound { (length m.now ≤ max_atoms) × (length atoms.now ≤ max_branching) × (length sure.now ≡ length m.now) }
-    requires standing_has { StandingHas atoms.now m.now standing }
-    ensures { (result.distance ≡ distance) × Outlined atoms.now sure.now m.now result }
+// What is kept of a state of this distance: it goes along the facts up to the first that stands and neither branches nor is sure.
+fn outline(met: Met, sure: &[bool], distance: usize) -> Held
+    requires { length sure.now ≡ length met.state.now }
+    ensures { (result.distance ≡ distance) × Outlined met.entry.atoms.now sure.now met.entry.state.now result }
 {
-    let mut ahead: u32 = 0;
+    let mut held = Held {
+        distance,
+        standing: met.standing,
+        ahead: 0,
+        alone: false,
+    };
+    // Kept: i counts the branching facts that are passed, and not the turns: both lists rise, and to look each fact up would be slower.
     let mut i: usize = 0;
-    for f in 0..m.len() {
-        if branches_next(atoms, i, f) {
-            ahead |= 1 << (i as u32);
+    for f in 0..met.state.len() {
+        if branches_next(met.atoms, i, f) {
+            held.ahead |= 1 << (i as u32);
             i += 1;
-        } else if unsure(m, sure, f) {
-            return Held {
-                distance,
-                standing,
-                ahead,
-                alone: false,
-            };
+        } else if unsure(met.state, sure, f) {
+            return held;
         }
     }
-    Held {
-        distance,
-        standing,
-        ahead,
-        alone: true,
-    }
+    held.alone = true;
+    held
 }
 
-// Whether a record comes before a state's: the bytes of that are made as far as they are compared.
+// Whether a record comes before a state's.
+// Kept: compared by hand, since the bytes of the second record are made only as far as they are compared.
 fn precedes(part: &[u8], m: &[bool]) -> bool
     requires { (length m.now ≤ max_atoms) × (length part.now ≡ record_size (length m.now)) }
     ensures { result ≡ bytes_before part.now (record_of (length m.now) m.now) }
@@ -168,30 +176,24 @@ fn precedes(part: &[u8], m: &[bool]) -> bool
     false
 }
 
-// A stable model in which these branching facts stand is met: its record is taken in hand, unless the one in hand comes before it.
-fn take_first(
-    atoms: &[u32],
-    wish: &Wish,
-    m: &[bool],
-    standing: u32,
-    part: &mut [u8],
-    held: Option<Held>,
-) -> Held
-    requires m_len_bound { (length m.now ≤ max_atoms) × (length atoms.now ≤ max_branching) × (length wish.now.sure.now ≡ length m.now) × (length wish.now.wanted.now ≤ length m.now) }
-    requires standing_has { StandingHas atoms.now m.now standing }
-    requires part_len { length part.old ≡ record_size (length m.now) }
-    ensures { Takes atoms.now wish.now.sure.now wish.now.wanted.now (length m.now) (m.now ∷ []) held part.old (Some result) part.new }
-{
-    let d = distance(wish.wanted, m);
-    if let Some(kept) = held {
-        if kept.stays(d, part, m) {
-            return kept;
+impl Wish<'_> {
+    // A stable model is met: its record is taken in hand, unless the one in hand comes before it.
+    fn take(&self, met: Met, part: &mut [u8], held: Option<Held>) -> Held
+        requires lengths { (length self.now.sure.now ≡ length met.state.now) × (length self.now.wanted.now ≤ length met.state.now) }
+        requires part_len { length part.old ≡ record_size (length met.state.now) }
+        ensures { Takes met.entry.atoms.now self.now.sure.now self.now.wanted.now (length met.entry.state.now) (met.entry.state.now ∷ []) held part.old (Some result) part.new }
+    {
+        let d = distance(self.wanted, met.state);
+        if let Some(kept) = held {
+            if kept.stays(d, part, met.state) {
+                return kept;
+            }
         }
+        let rec = record_of(met.state);
+        let w = record_size(met.state.len());
+        part.copy_from_slice(&rec[..w]);
+        outline(met, self.sure, d)
     }
-    let rec = record_of(m);
-    let w = record_size(m.len());
-    part.copy_from_slice(&rec[..w]);
-    outline(atoms, wish.sure, m, standing, d)
 }
 
 // Meets the stable model of one setting, if there is one. It is a function of its own so that the recursion's frames stay small.
@@ -209,8 +211,12 @@ fn visit_first(
 {
     match space.find_model(standing, scratch) {
         Some(state) => {
-            let first = take_first(space.plan.atoms(), wish, state, standing, part, held);
-            Some(first)
+            let met = Met {
+                atoms: space.plan.atoms.as_slice(),
+                state,
+                standing,
+            };
+            Some(wish.take(met, part, held))
         }
         None => held,
     }
@@ -226,8 +232,9 @@ fn left_out(held: Option<Held>, standing: u32, apart: usize) -> bool
     }
 }
 
-// Goes through the settings of the branching facts that are left, as `search` does, and takes the first state of all in hand. `apart` of the
-// facts decided so far differ in the wanted state. A group of settings in which no state comes before the one in hand is left out.
+// Goes through the settings of the branching facts that are left, as `search` does, and takes the first state of all in hand. `apart` of
+// the facts decided so far differ in the wanted state. A group of settings in which no state comes before the one in hand is left out.
+// Kept: beside `search`: a trait of both would need two types, five methods and eight laws of them for two bodies of a dozen lines each.
 pub fn search_first(
     space: &Space,
     wish: &Wish,
@@ -250,7 +257,7 @@ pub fn search_first(
     if turn.left == 0 {
         return visit_first(space, wish, turn.standing, scratch, part, held);
     }
-    let atoms = space.plan.atoms();
+    let atoms = space.plan.atoms.as_slice();
     let i = atoms.len() - turn.left;
     let f = atoms[i] as usize;
     let denied = apart + step_apart(wish.wanted, f, false);

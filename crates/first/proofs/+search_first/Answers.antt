@@ -1,7 +1,6 @@
 -- A group in which no state comes before the one in hand (`takes_skipped`), one in which nothing can be found (`none_promised`), a leaf, and
 -- two halves with the first fact that is left decided each way (TurnLaws, ApartLaws).
 use Rattle.std.proofs.Common.{rules, refl, sym, ap, ◌∙◌, ◌-◌, ℕ, List, length, get_or, arith}
-use Rattle.plan.specs.Plan.{plan_bans}
 use Rattle.search.specs.declared.Turn.{Turn}
 use Rattle.search.proofs.AllowedLaws.{barred-size}
 use Rattle.search.proofs.ReadyLaws.{space_searchable}
@@ -15,13 +14,13 @@ use Rattle.first.proofs.+search_first.Goals.{then-left_out-via-then-left_out, th
 pub returns-then-left_out : goal.returns-then-left_out
 returns-then-left_out t c =
     elim c.then-left_out.branch [
-      | then-left_out-via-then-left_out w ↦ takes_skipped (space_searchable c.args.space.now) (plan_bans c.args.space.now.plan.now) _ c.requires.turned.decided c.requires.sure c.args.wish.now.wanted.now c.requires.apart c.args.held c.left_out.result c.left_out.ensures w.if-left_out.true c.args.part.now
+      | then-left_out-via-then-left_out w ↦ takes_skipped (space_searchable c.args.space.now) c.args.space.now.bans.spans.now _ c.requires.turned.decided c.requires.sure c.args.wish.now.wanted.now c.requires.apart c.args.held c.left_out.result c.left_out.ensures w.if-left_out.true c.args.part.now
       | then-left_out-via-else-left_out+then-not-promising w ↦ takes_none _ _ _ _ _ (none_promised c.args.space.now c.requires.turned w.promising.result w.promising.ensures w.if-not-promising.true) c.args.held c.args.part.now
     ]
 
 pub visit_first-requires-clause-sure_len : goal.visit_first-requires-clause-sure_len
 visit_first-requires-clause-sure_len t c =
-    (c.requires.sure.size ∙ sym (barred-size (space_searchable c.args.space.now) (plan_bans c.args.space.now.plan.now)), c.requires.wanted_len_bound)
+    (c.requires.sure.size ∙ sym (barred-size (space_searchable c.args.space.now) c.args.space.now.bans.spans.now), c.requires.wanted_len_bound)
 
 pub returns-then-turn-eq0 : goal.returns-then-turn-eq0
 returns-then-turn-eq0 t c =
@@ -34,7 +33,7 @@ overflow_add-denied t c =
 pub search_first-half-requires : goal.search_first-half-requires
 search_first-half-requires t c =
     let some = c.if-turn-eq0.false in
-    (omega (arith, some, c.decreases, ap (λ (u : Turn). u.left) c.decided.ensures), (turned_first c.args.space.now c.requires.turned some _ (ap (λ (l : List ℕ). length l - c.args.turn.left) c.atoms-atoms.ensures) c.decided.ensures refl, (c.requires.sure, (c.requires.wanted_len_bound, (apart_first c.args.space.now c.requires.turned some _ (ap (λ (l : List ℕ). length l - c.args.turn.left) c.atoms-atoms.ensures) c.args.wish.now.wanted.now c.requires.apart c.decided.ensures refl _ (ap (λ (l : List ℕ). get_or l (length c.atoms-atoms.result.now - c.args.turn.left) 0) c.atoms-atoms.ensures) c.step_apart.result c.step_apart.ensures, c.requires.part_len)))))
+    (omega (arith, some, c.decreases, ap (λ (u : Turn). u.left) c.decided.ensures), (turned_first c.args.space.now c.requires.turned some _ (ap (λ (l : List ℕ). length l - c.args.turn.left) c.as_slice-atoms.ensures.value) c.decided.ensures refl, (c.requires.sure, (c.requires.wanted_len_bound, (apart_first c.args.space.now c.requires.turned some _ (ap (λ (l : List ℕ). length l - c.args.turn.left) c.as_slice-atoms.ensures.value) c.args.wish.now.wanted.now c.requires.apart c.decided.ensures refl _ (ap (λ (l : List ℕ). get_or l (length c.as_slice-atoms.result.now - c.args.turn.left) 0) c.as_slice-atoms.ensures.value) c.step_apart.result c.step_apart.ensures, c.requires.part_len)))))
 
 pub overflow_add-stands : goal.overflow_add-stands
 overflow_add-stands t c =
@@ -43,8 +42,8 @@ overflow_add-stands t c =
 pub search_first-requires : goal.search_first-requires
 search_first-requires t c =
     let some = c.if-turn-eq0.false in
-    (omega (arith, some, c.decreases, ap (λ (u : Turn). u.left) c.decided-2.ensures), (turned_second c.args.space.now c.requires.turned some _ (ap (λ (l : List ℕ). length l - c.args.turn.left) c.atoms-atoms.ensures) c.decided.ensures c.decided-2.ensures, (c.requires.sure, (c.requires.wanted_len_bound, (apart_second c.args.space.now c.requires.turned some _ (ap (λ (l : List ℕ). length l - c.args.turn.left) c.atoms-atoms.ensures) c.args.wish.now.wanted.now c.requires.apart c.decided.ensures c.decided-2.ensures _ (ap (λ (l : List ℕ). get_or l (length c.atoms-atoms.result.now - c.args.turn.left) 0) c.atoms-atoms.ensures) c.step_apart-2.result c.step_apart-2.ensures, search rules)))))
+    (omega (arith, some, c.decreases, ap (λ (u : Turn). u.left) c.decided-2.ensures), (turned_second c.args.space.now c.requires.turned some _ (ap (λ (l : List ℕ). length l - c.args.turn.left) c.as_slice-atoms.ensures.value) c.decided.ensures c.decided-2.ensures, (c.requires.sure, (c.requires.wanted_len_bound, (apart_second c.args.space.now c.requires.turned some _ (ap (λ (l : List ℕ). length l - c.args.turn.left) c.as_slice-atoms.ensures.value) c.args.wish.now.wanted.now c.requires.apart c.decided.ensures c.decided-2.ensures _ (ap (λ (l : List ℕ). get_or l (length c.as_slice-atoms.result.now - c.args.turn.left) 0) c.as_slice-atoms.ensures.value) c.step_apart-2.result c.step_apart-2.ensures, search rules)))))
 
 pub returns : goal.returns
 returns t c =
-    takes_both _ _ _ _ _ _ _ (halves_are c.args.space.now c.requires.turned c.if-turn-eq0.false _ (ap (λ (l : List ℕ). length l - c.args.turn.left) c.atoms-atoms.ensures) c.decided.ensures c.decided-2.ensures) c.search_first-half.ensures c.search_first.ensures
+    takes_both _ _ _ _ _ _ _ (halves_are c.args.space.now c.requires.turned c.if-turn-eq0.false _ (ap (λ (l : List ℕ). length l - c.args.turn.left) c.as_slice-atoms.ensures.value) c.decided.ensures c.decided-2.ensures) c.search_first-half.ensures c.search_first.ensures

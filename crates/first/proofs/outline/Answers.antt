@@ -1,35 +1,36 @@
 -- Of the facts passed, those that branch are ahead, and every one that stands is known (`OutlinedTo`).
-use Rattle.std.proofs.Common.{refl, arith}
+use Rattle.std.proofs.Common.{refl, sym, subst, arith, ℕ}
+use Rattle.first.specs.InHand.{StandingHas}
 use Rattle.first.proofs.OutlineLaws.{outlined_start, outlined_branching, outlined_other, outlined_part, outlined_whole}
 use Rattle.first.proofs.outline.Goals as goal
 use Rattle.first.proofs.outline.Goals.{else-branches_next+else-unsure, then-branches_next}
 
 pub loop-f-init : goal.loop-f-init
-loop-f-init c = outlined_start c.args.atoms.now c.args.sure.now c.args.m.now
+loop-f-init c = record { passed = outlined_start _ _ _; distance_is = refl; standing_is = refl; unsaid = refl }
 
-pub overflow_cast-ahead : goal.overflow_cast-ahead
-overflow_cast-ahead c =
-    record { fits = omega (arith, (c.branches_next.ensures c.if-branches_next.true).0, c.requires.m_len_bound.1) }
+pub overflow_cast-held : goal.overflow_cast-held
+overflow_cast-held c =
+    record { fits = omega (arith, (c.branches_next.ensures c.if-branches_next.true).0, c.args.met.atoms_few) }
 
-pub overflow_shl-ahead : goal.overflow_shl-ahead
-overflow_shl-ahead c =
-    omega (arith, (c.branches_next.ensures c.if-branches_next.true).0, c.requires.m_len_bound.1)
+pub overflow_shl-held : goal.overflow_shl-held
+overflow_shl-held c =
+    omega (arith, (c.branches_next.ensures c.if-branches_next.true).0, c.args.met.atoms_few)
 
 pub overflow_add-i : goal.overflow_add-i
 overflow_add-i c =
-    omega (arith, (c.branches_next.ensures c.if-branches_next.true).0, c.requires.m_len_bound.1)
+    omega (arith, (c.branches_next.ensures c.if-branches_next.true).0, c.args.met.atoms_few)
 
 pub returns-then-unsure : goal.returns-then-unsure
 returns-then-unsure c =
-    (refl, outlined_part c.args.atoms.now c.args.sure.now c.args.m.now c.loop-f.ahead c.loop-f.i c.loop-f.f c.loop-f.invariant _ c.requires.standing_has refl refl)
+    (c.loop-f.invariant.distance_is, outlined_part _ _ _ _ _ _ c.loop-f.invariant.passed _ (subst (λ (x : ℕ). StandingHas c.args.met.atoms.now c.args.met.state.now x) (sym c.loop-f.invariant.standing_is) c.args.met.standing_has) refl c.loop-f.invariant.unsaid)
 
 pub loop-f-preserved : goal.loop-f-preserved
 loop-f-preserved c =
     elim c.if-branches_next.branch [
-      | then-branches_next w ↦ rw (w.ahead-is, w.i-is) (outlined_branching c.args.atoms.now c.args.sure.now c.args.m.now c.loop-f.ahead c.loop-f.i c.loop-f.f c.loop-f.invariant (c.branches_next.ensures w.if-branches_next.true).0 c.requires.m_len_bound.1 (c.branches_next.ensures w.if-branches_next.true).1)
-      | else-branches_next+else-unsure w ↦ rw (w.ahead-is, w.i-is) (outlined_other c.args.atoms.now c.args.sure.now c.args.m.now c.loop-f.ahead c.loop-f.i c.loop-f.f c.loop-f.invariant (w.unsure.ensures w.if-unsure.false))
+      | then-branches_next w ↦ rw (w.held-is, w.i-is) (record { passed = outlined_branching _ _ _ _ _ _ c.loop-f.invariant.passed (c.branches_next.ensures w.if-branches_next.true).0 c.args.met.atoms_few (c.branches_next.ensures w.if-branches_next.true).1; distance_is = c.loop-f.invariant.distance_is; standing_is = c.loop-f.invariant.standing_is; unsaid = c.loop-f.invariant.unsaid })
+      | else-branches_next+else-unsure w ↦ rw (w.held-is, w.i-is) (record { passed = outlined_other _ _ _ _ _ _ c.loop-f.invariant.passed (w.unsure.ensures w.if-unsure.false); distance_is = c.loop-f.invariant.distance_is; standing_is = c.loop-f.invariant.standing_is; unsaid = c.loop-f.invariant.unsaid })
     ]
 
 pub returns : goal.returns
 returns c =
-    (refl, outlined_whole c.args.atoms.now c.args.sure.now c.args.m.now c.loop-f.ahead c.loop-f.i c.loop-f.f c.loop-f.invariant _ c.requires.standing_has refl (omega (arith, c.loop-f-test.false)))
+    (c.loop-f.invariant.distance_is, outlined_whole _ _ _ _ _ _ c.loop-f.invariant.passed _ (subst (λ (x : ℕ). StandingHas c.args.met.atoms.now c.args.met.state.now x) (sym c.loop-f.invariant.standing_is) c.args.met.standing_has) refl (omega (arith, c.loop-f-test.false)))
