@@ -1,6 +1,6 @@
 // A list with room for N values. There is no heap, so what is made one by one is kept in such a list.
 
-ghost use Rattle.std.specs.Prelude.{◌≡◌, ◌<◌, ◌≤◌, ◌+◌, ◌++◌, ◌∷◌, ◌==◌, ◌↔◌, [], length, IsSome};
+ghost use Rattle.std.specs.Prelude.{◌≡◌, ◌<◌, ◌≤◌, ◌++◌, ◌∷◌, ◌==◌, ◌↔◌, [], length, IsSome};
 ghost use Rattle.std.specs.Option.{option_to_list};
 ghost use Rattle.base.specs.Lists.{put_behind};
 
@@ -72,18 +72,6 @@ impl<T: Copy, const N: usize> ArrayVec<T, N> {
         if let Some(item) = entry {
             self.push(item);
         }
-    }
-
-    // Puts these values behind the others.
-    pub fn extend_from_slice(&mut self, items: &[T])
-        requires { length self.old + length items.now ≤ N }
-        ensures { self.new ≡ self.old ++ items.now }
-    {
-        let start = self.count;
-        let end = start + items.len();
-        let room = &mut self.items[..];
-        room[start..end].copy_from_slice(items);
-        self.count = end;
     }
 
     // Takes the last value away, if there is one.
