@@ -45,6 +45,7 @@ impl Code {
 pub type Postfix = ArrayVec<Code, MAX_CONDITION>;
 
 // A digit's value.
+// Kept: `char::to_digit` answers a u32, which would be cut down to a fact's u16, and is no plainer.
 fn digit_of(c: u8) -> Option<u16>
     ensures { DigitOf c result }
 {
@@ -95,6 +96,7 @@ impl Reader<'_> {
     }
 
     // Operands of `|`, from the left.
+    // Kept: a rule of the project names a function for each level, so this one and the next stay two.
     #[cycle(or_and_bracket)]
     #[tactic(auto, using(crate::proofs::ReaderLaws::first_operand, crate::proofs::ReaderLaws::next_operand))]
     fn or_level(&mut self) -> Option<()>
