@@ -103,11 +103,9 @@ module _ (book : List ℕ) (layer off : ℕ) (candidate : List ℕ) where
     pub not_bad : t ≡ false → is_bad_candidate (book_of d.book.now).atoms candidate ≡ false
     not_bad f = ap (λ (k : ℕ). is_bad_candidate k candidate) (sym en) ∙ sym et ∙ f
 
-    pub answered : t ≡ false → (r : Bool) → r ≡ stable (driven_program d) (interpretation_of (book_of d.book.now).atoms candidate) → Ok r ≡ test_reply book layer off candidate
+    pub answered : t ≡ false → Ok (stable (driven_program d) (interpretation_of (book_of d.book.now).atoms candidate)) ≡ test_reply book layer off candidate
     unfolding test_reply reply_of verdict_if
-    answered f r er =
-        let s : r ≡ stable (program_of book layer off) (interpretation_of (book_of book).atoms candidate) = er ∙ (λ i. stable (program_of (is.0 i) (is.1 i) (is.2 i)) (interpretation_of (book_of (is.0 i)).atoms candidate)) in
-        sym (rw (ten, f) (ap Ok (sym s)))
+    answered f = sym (rw (ten, f) (ap Ok (sym (λ i. stable (program_of (is.0 i) (is.1 i) (is.2 i)) (interpretation_of (book_of (is.0 i)).atoms candidate)))))
 
   -- the state that the candidate gives
   abbrev state : Interpretation

@@ -45,7 +45,7 @@ fn candidate_stable(driving: &Driving, candidate: &[u8]) -> bool
 }
 
 // Whether a candidate is stable.
-#[tactic(auto, using(crate::proofs::ReplyLaws::layer_refused, crate::proofs::ReplyLaws::candidate_refused, crate::proofs::ReplyLaws::not_bad))]
+#[tactic(auto, using(crate::proofs::ReplyLaws::layer_refused, crate::proofs::ReplyLaws::candidate_refused, crate::proofs::ReplyLaws::not_bad, crate::proofs::ReplyLaws::answered))]
 pub fn test(book: &[u8], layer: u32, off: u32, candidate: &[u8]) -> Result<bool, Cause>
     ensures { result ≡ test_reply book.now layer off candidate.now }
 {
