@@ -27,9 +27,11 @@ fn waiting_name(l: Literal) -> usize
 }
 
 #[derive(Drop)]
-struct Lists {
-    // The rows in the order in which they added their heads.
-    trail: Pile,
+pub struct Hints {
+    // The number of the literal that each row last waited for, below 128, since a record has no more than 255 bytes.
+    watched: [u8; MAX_RULES],
+    // The rows in the order in which they added their heads, once a filling has needed the waiting lists.
+    trail: Option<Pile>,
     // The first row that waits for each name, and the next that waits for the same as a row.
     first_waiting: [Option<u16>; MAX_NAMES],
     next_waiting: [Option<u16>; MAX_RULES],
@@ -37,54 +39,38 @@ struct Lists {
     marked: Pile,
 }
 
-impl Lists {
-    fn new() -> Lists {
-        Lists {
-            trail: Pile::new(0),
+impl Hints {
+    // Each row watches its first literal, and there is no trail.
+    pub fn new() -> Hints
+        ensures watched { result.watched ≡ replicate max_rules 0 }
+        ensures trail { IsNone result.trail }
+    {
+        Hints {
+            watched: [0; MAX_RULES],
+            trail: None,
             first_waiting: [None; MAX_NAMES],
             next_waiting: [None; MAX_RULES],
             marked: Pile::new(0),
         }
     }
-}
-
-#[derive(Drop)]
-pub struct Hints {
-    // The number of the literal that each row last waited for.
-    watched: [u16; MAX_RULES],
-    // The trail and the waiting lists, once a filling has needed them.
-    lists: Option<Lists>,
-}
-
-impl Hints {
-    // Each row watches its first literal.
-    pub fn new() -> Hints
-        ensures watched { result.watched ≡ replicate max_rules 0 }
-        ensures lists { IsNone result.lists }
-    {
-        Hints {
-            watched: [0; MAX_RULES],
-            lists: None,
-        }
-    }
 
     // The number of the literal that a row watches.
-    pub(crate) fn watched(&self, j: usize) -> u16 {
+    pub(crate) fn watched(&self, j: usize) -> u8 {
         self.watched.get(j).copied().unwrap_or(0)
     }
 
     // The rows of the trail, in the order in which they added their heads.
     pub(crate) fn trail(&self) -> &[u16] {
-        match &self.lists {
-            Some(lists) => lists.trail.as_slice(),
+        match &self.trail {
+            Some(trail) => trail.as_slice(),
             None => &[],
         }
     }
 
     // Puts a row that has added its head on the trail, where one is kept.
     pub(crate) fn remember(&mut self, j: usize) {
-        if let Some(lists) = &mut self.lists {
-            push(&mut lists.trail, j);
+        if let Some(trail) = &mut self.trail {
+            push(trail, j);
         }
     }
 
@@ -93,59 +79,49 @@ impl Hints {
     pub(crate) fn begin(&mut self, n: usize)
         requires { n ≤ max_atoms }
     {
-        match &mut self.lists {
-            Some(lists) => {
-                lists.first_waiting[0..n].fill(None);
-                lists.first_waiting[MAX_ATOMS..MAX_ATOMS + n].fill(None);
-            }
-            None => self.lists = Some(Lists::new()),
+        if self.trail.is_none() {
+            self.trail = Some(Pile::new(0));
         }
+        self.first_waiting[0..n].fill(None);
+        self.first_waiting[MAX_ATOMS..MAX_ATOMS + n].fill(None);
     }
 
     // Lets a row wait for the literal i of its body.
     pub(crate) fn wait(&mut self, j: usize, i: usize, l: Literal) {
-        if MAX_RULES <= j {
-            return;
-        }
-        self.watched[j] = (i % 65536) as u16;
-        if let Some(lists) = &mut self.lists {
+        if j < MAX_RULES {
             let h = waiting_name(l);
-            lists.next_waiting[j] = lists.first_waiting[h];
-            lists.first_waiting[h] = Some(j as u16);
+            self.watched[j] = (i % 256) as u8;
+            self.next_waiting[j] = self.first_waiting[h];
+            self.first_waiting[h] = Some(j as u16);
         }
     }
 
     // Takes a row up for the first time: it is the last of its list.
     pub(crate) fn take_up(&mut self, j: usize) {
-        if let Some(lists) = &mut self.lists
-            && j < MAX_RULES
-        {
-            lists.next_waiting[j] = None;
+        if j < MAX_RULES {
+            self.next_waiting[j] = None;
         }
     }
 
     // The first row that waits for a name.
     pub(crate) fn first_waiting(&self, h: usize) -> Option<usize> {
-        let lists = self.lists.as_ref()?;
-        let first = lists.first_waiting.get(h).copied().flatten()?;
+        let first = self.first_waiting.get(h).copied().flatten()?;
         Some(usize::from(first))
     }
 
     // The row that waits behind another for the same name.
     pub(crate) fn next_waiting(&self, j: usize) -> Option<usize> {
-        let lists = self.lists.as_ref()?;
-        let next = lists.next_waiting.get(j).copied().flatten()?;
+        let next = self.next_waiting.get(j).copied().flatten()?;
         Some(usize::from(next))
     }
 
+    // Puts a name that was marked on those just marked.
     pub(crate) fn push_marked(&mut self, h: usize) {
-        if let Some(lists) = &mut self.lists {
-            push(&mut lists.marked, h);
-        }
+        push(&mut self.marked, h);
     }
 
+    // Takes the name that was marked last, if there is one.
     pub(crate) fn pop_marked(&mut self) -> Option<usize> {
-        let lists = self.lists.as_mut()?;
-        lists.marked.pop().map(|h| h as usize)
+        self.marked.pop().map(usize::from)
     }
 }

@@ -55,7 +55,7 @@ impl Marks<'_> {
 
     // Whether every literal of a body's bytes is marked. The one numbered `watch` is tried first.
     #[tactic(auto, using(crate::proofs::MarkLaws::one_fails))]
-    fn body(&self, body: &[u8], watch: u16) -> bool
+    fn body(&self, body: &[u8], watch: u8) -> bool
         ensures { result ≡ all (literal_marked self.now.positive.now self.now.negative.now) (literals_of body.now) }
     {
         if let Some(l) = literals_from(body, watch).next()
@@ -68,7 +68,7 @@ impl Marks<'_> {
 
     // A literal of a body's bytes that is not marked, with its number. It is looked for from the one numbered `watch` on and then from the
     // first on.
-    fn unmarked(&self, body: &[u8], watch: u16) -> Option<(usize, Literal)> {
+    fn unmarked(&self, body: &[u8], watch: u8) -> Option<(usize, Literal)> {
         let from = usize::from(watch);
         let mut late = literals_from(body, watch).enumerate();
         if let Some((i, l)) = late.find(|(_, l)| !self.literal(*l)) {
@@ -81,7 +81,7 @@ impl Marks<'_> {
 
 // The literals of a body's bytes from a number on.
 #[tactic(auto, using(crate::proofs::MarkLaws::literals_drop, crate::proofs::MarkLaws::literals_end))]
-fn literals_from(body: &[u8], from: u16) -> Literals<'_>
+fn literals_from(body: &[u8], from: u8) -> Literals<'_>
     ensures { literals_of result.0.now ≡ drop from (literals_of body.now) }
 {
     match body.split_at_checked(2 * usize::from(from)) {
