@@ -2,8 +2,9 @@
 // whether some body holds in a finished state.
 #![tactic(auto)]
 
-ghost use Rattle.std.specs.Prelude.{◌≡◌, map};
+ghost use Rattle.std.specs.Prelude.{◌≡◌, ◌≤◌, length, map};
 ghost use Rattle.std.proofs.Props.{props};
+ghost use Rattle.base.specs.Bounds.{max_rules};
 ghost use Rattle.base.specs.Lists.{all, any, filter};
 ghost use Rattle.models.specs.StableModels.{holds};
 ghost use Rattle.table.specs.Records.{rules_from};
@@ -20,6 +21,7 @@ pub struct Bans<'a> {
     pub book: &'a [u8],
     pub spans: &'a [Span],
     pub ghost fit: { BansFit book.now spans.now } by { Prim.hlevel props },
+    pub ghost few: { length spans.now ≤ max_rules },
 }
 
 impl<'a> Bans<'a> {

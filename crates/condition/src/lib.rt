@@ -96,7 +96,7 @@ impl Reader<'_> {
     }
 
     // Operands of `|`, from the left.
-    // Kept: a rule of the project names a function for each level, so this one and the next stay two.
+    // Kept: a rule of the project: document 01 names a function for each level, so this one and the next stay two.
     #[cycle(or_and_bracket)]
     #[tactic(auto, using(crate::proofs::ReaderLaws::first_operand, crate::proofs::ReaderLaws::next_operand))]
     fn or_level(&mut self) -> Option<()>

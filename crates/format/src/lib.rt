@@ -20,7 +20,7 @@ impl Literal {
     pub fn from_bytes(a: u8, b: u8) -> Literal
         ensures { result ≡ literal_of a b }
     {
-        // Kept: the book's format is read here, where the top bit of the number is the sign.
+        // Kept: a rule of the project: documents give a literal as a number with its sign in the top bit, and it is read here alone.
         let number = usize::from(u16::from_be_bytes([a, b]));
         Literal {
             atom: number % 32768,

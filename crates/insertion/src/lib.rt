@@ -5,7 +5,7 @@ ghost use Rattle.std.specs.Prelude.{◌≡◌, ◌++◌, ◌+◌, ◌≤◌, len
 ghost use Rattle.insertion.specs.Runs.{bytes_before};
 
 // Whether the record at an offset comes before rec.
-// Kept: the new form is no plainer: each of the calls would take the record out of the part and prove what the order of slices says.
+// Kept: a name for std's `cmp` of a record in a part: the calls are no plainer with it, and each would prove what that order is.
 #[tactic(auto, unfolding(crate::specs::Runs::bytes_before))]
 pub fn record_before(part: &[u8], at: usize, rec: &[u8]) -> bool
     requires { at + length rec.now ≤ length part.now }
@@ -15,7 +15,7 @@ pub fn record_before(part: &[u8], at: usize, rec: &[u8]) -> bool
 }
 
 // Writes rec at an offset.
-// Kept: the new form is no plainer: each of the writers would prove what a copy into a range leaves of the part.
+// Kept: a name for std's `copy_from_slice` into a part: the writers are no plainer with it, and each would prove what it leaves.
 pub fn put_record(part: &mut [u8], at: usize, rec: &[u8])
     requires { at + length rec.now ≤ length part.old }
     ensures { part.new ≡ take at part.old ++ (rec.now ++ drop (at + length rec.now) part.old) }

@@ -49,12 +49,11 @@ pub const NO_ROW: Row = Row {
 };
 
 // Whether an atom holds: one that the array does not have does not.
-// Kept: a bound and an index: `m.get(f).copied().unwrap_or(false)` is the same in more words.
 #[tactic(auto, unfolding(models::specs::StableModels::atom_holds))]
 pub fn atom_holds(m: &[bool], f: usize) -> bool
     ensures { result ≡ atom_holds m.now f }
 {
-    f < m.len() && m[f]
+    m.get(f).copied().unwrap_or(false)
 }
 
 // Whether a literal holds.
@@ -186,7 +185,7 @@ impl<'a> TableRow<'a> {
 }
 
 // The name of the opposite literal.
-// Kept: a literal as a number, its sign an offset: rows hold it in 16 bits, and arrays of masks and marks are indexed by it.
+// Kept: a literal as a number is no plainer as a struct: rows hold it in 16 bits, and masks are found by it, so it would be turned back.
 #[tactic(auto, using(crate::proofs::NameLaws::opposite_low, crate::proofs::NameLaws::opposite_high))]
 pub fn opposite(h: usize) -> usize
     requires { h < max_names }

@@ -152,6 +152,7 @@ impl<'a> Iterator for RuleSection<'a> {
 }
 
 // Writes what the rules give whose layer is in the mask, in their order, and lends the part that is filled: one walk over the records.
+// Kept: no heap, so the array is the caller's, and what is written to it is counted.
 pub fn gather<'r, E: FromRecord>(
     rules: RuleSection,
     mask: u32,
