@@ -1,5 +1,6 @@
 // Nogoods: a rule that nothing can reject, with a body that holds and a head that does not, is in no stable model, nor is a constraint
-// with a body that holds. Where all atoms branch, two masks say it, and the search leaves out every group of settings that has them decided so.
+// with a body that holds. Where all atoms branch, two masks say it, and the search leaves out every group of settings that has them
+// decided so.
 #![tactic(auto)]
 
 ghost use Rattle.std.specs.Prelude.{◌≡◌, ◌↔◌, true, ◌<◌, length, IfSome, IsTrue};

@@ -10,6 +10,7 @@ use lib.Dec.{ltb}
 use lib.ListN.{length}
 use Rattle.std.specs.Prelude.{Option, Some, None, IfSome, nat_lt}
 use Rattle.std.specs.Option.{option_to_list}
+use Rattle.std.proofs.lemmas.Option.{IfSome_then}
 use Rattle.base.specs.Lists.{put_behind}
 use Rattle.base.proofs.Members.{◌∈◌}
 use Rattle.table.specs.declared.Row.{Row}
@@ -44,10 +45,6 @@ nogood_put {book} {rows} {bans} {rejectable} {bits} {before} w room entry f = go
     go true e f = nogoods_more w (option_to_list e) (one e f)
     go false e f = w
 
-pub if_some : {T : Type 0} {P Q : T → Type 0} (o : Option T) → ((x : T) → P x → Q x) → IfSome o P → IfSome o Q
-if_some None f p = p
-if_some (Some x) f p = f x p
-
 -- ---- the facts stay
 pub same_refl : (p : Plan) → SameFacts p p
 same_refl p = record { facts_same = refl; atoms_same = refl }
@@ -71,7 +68,7 @@ nogoods_of_rows {book} {rows} bans {rejectable} {bits} w n k = go (w n k)
 
 pub bans_more : {book : List ℕ} {bans : List Span} {bits : List ℕ} {before after : List Nogood} → NogoodsPut book bans bits before after → (ban : Span) → ban ∈ bans → (entry : Option Nogood)
     → IfSome entry (λ n. AllWithin bits n (body_of book ban)) → (room : ℕ) (later : List Nogood) → later ≡ put_behind after room entry → NogoodsPut book bans bits before later
-bans_more w ban b entry f room later e rows rejectable v = rw e (nogood_put (w rows rejectable v) room entry (if_some entry (λ n x. of_ban ban b x) f))
+bans_more w ban b entry f room later e rows rejectable v = rw e (nogood_put (w rows rejectable v) room entry (IfSome_then entry f (λ n x. of_ban ban b x)))
 
 -- ---- the whole plan: that of the rows, with the constraints' nogoods, which stand behind theirs
 pub plan_end : {book : List ℕ} {rows : List Row} {bits rejectable : List ℕ} {p : Plan} {j : ℕ} → PlanTo book rows bits rejectable p j → j ≡ row_count rows → {atoms : List ℕ} → p.atoms ≡ atoms
