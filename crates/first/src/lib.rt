@@ -55,6 +55,7 @@ impl Held {
     }
 
     // Whether it comes before another state of this distance: it is closer, or it is as close and its record comes first.
+    // Kept: the size of the part in each clause: a struct of a lent part and its size would be made and taken apart at each call.
     fn stays(self, distance: usize, part: &[u8], m: &[bool]) -> bool
         requires { (length m.now ≤ max_atoms) × (length part.now ≡ record_size (length m.now)) }
         ensures { result ≡ bytes_before (self.distance ∷ part.now) (distance ∷ record_of (length m.now) m.now) }
@@ -234,7 +235,7 @@ fn left_out(held: Option<Held>, standing: u32, apart: usize) -> bool
 
 // Goes through the settings of the branching facts that are left, as `search` does, and takes the first state of all in hand. `apart` of
 // the facts decided so far differ in the wanted state. A group of settings in which no state comes before the one in hand is left out.
-// Kept: beside `search`: a trait of both would need two types, five methods and eight laws of them for two bodies of a dozen lines each.
+// Kept: beside `search`: one recursion over a trait of both needs two types, four methods and six laws, for two bodies of a dozen lines.
 pub fn search_first(
     space: &Space,
     wish: &Wish,

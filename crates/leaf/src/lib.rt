@@ -186,7 +186,8 @@ impl Leaf<'_, '_> {
     // Whether there is a stable model at the setting, which then stands in the first of the three lent arrays. Filling starts from the
     // undisputed part of what the setting denies: the negations that are reached early, before anything disputed is assumed. Where they
     // come to be all that the setting denies, it need not go on.
-    // Kept: a flag, and the state in a lent array: lent back as an Option, it would outlast the clearing of the masks, which is not proved.
+    // Kept: a flag beside a lent array: lent back as an Option, it outlasts the clearing of the masks, which the check does not cover.
+    // Kept: arrays lent one by one: `decide` is lent two of them in either order, and a struct of them would hide which is which.
     pub fn model_at(
         &self,
         positive: &mut [bool],

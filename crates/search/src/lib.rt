@@ -24,6 +24,7 @@ use table::atom_holds;
 
 // What the search is for: every record, how many models there are, whether a fact stands in some but not in all, in how many models each
 // fact stands, or in how many the condition of these codes holds.
+// Kept: an enum with methods, and no closures or trait: the set is closed, and the specs speak of each goal by name.
 #[derive(Clone, Copy)]
 pub enum Goal<'a> {
     List,

@@ -1,7 +1,6 @@
 -- The distance over the facts passed so far is counted.
-use Rattle.std.proofs.Common.{ℕ, ap, ◌∙◌, arith}
+use Rattle.std.proofs.Common.{arith}
 use Rattle.models.specs.StableModels.{atom_holds}
-use Rattle.first.specs.Nearest.{distance}
 use Rattle.first.proofs.ApartLaws.{distance_none, distance_le, distance-more, distance-same}
 use Rattle.first.proofs.distance.Goals as goal
 use Rattle.first.proofs.distance.Goals.{then-w-m, else-w-m}
@@ -20,7 +19,3 @@ loop-f-preserved c =
       | then-w-m w ↦ rw w.d-is (distance-more c.args.wanted.now c.args.m.now c.loop-f.d c.loop-f.f c.loop-f.invariant w.if-w-m.true)
       | else-w-m w ↦ rw w.d-is (distance-same c.args.wanted.now c.args.m.now c.loop-f.d c.loop-f.f c.loop-f.invariant w.if-w-m.false)
     ]
-
-pub returns : goal.returns
-returns c =
-    c.loop-f.invariant ∙ ap (λ (k : ℕ). distance k c.args.wanted.now c.args.m.now) (omega arith)

@@ -1,28 +1,9 @@
 -- Of the facts passed, those that branch are ahead, and every one that stands is known (`OutlinedTo`).
 use Rattle.std.proofs.Common.{refl, sym, subst, arith, ℕ}
 use Rattle.first.specs.InHand.{StandingHas}
-use Rattle.first.proofs.OutlineLaws.{outlined_start, outlined_branching, outlined_other, outlined_part, outlined_whole}
+use Rattle.first.proofs.OutlineLaws.{outlined_branching, outlined_other, outlined_whole}
 use Rattle.first.proofs.outline.Goals as goal
 use Rattle.first.proofs.outline.Goals.{else-branches_next+else-unsure, then-branches_next}
-
-pub loop-f-init : goal.loop-f-init
-loop-f-init c = record { passed = outlined_start _ _ _; distance_is = refl; standing_is = refl; unsaid = refl }
-
-pub overflow_cast-held : goal.overflow_cast-held
-overflow_cast-held c =
-    record { fits = omega (arith, (c.branches_next.ensures c.if-branches_next.true).0, c.args.met.atoms_few) }
-
-pub overflow_shl-held : goal.overflow_shl-held
-overflow_shl-held c =
-    omega (arith, (c.branches_next.ensures c.if-branches_next.true).0, c.args.met.atoms_few)
-
-pub overflow_add-i : goal.overflow_add-i
-overflow_add-i c =
-    omega (arith, (c.branches_next.ensures c.if-branches_next.true).0, c.args.met.atoms_few)
-
-pub returns-then-unsure : goal.returns-then-unsure
-returns-then-unsure c =
-    (c.loop-f.invariant.distance_is, outlined_part _ _ _ _ _ _ c.loop-f.invariant.passed _ (subst (λ (x : ℕ). StandingHas c.args.met.atoms.now c.args.met.state.now x) (sym c.loop-f.invariant.standing_is) c.args.met.standing_has) refl c.loop-f.invariant.unsaid)
 
 pub loop-f-preserved : goal.loop-f-preserved
 loop-f-preserved c =

@@ -1,10 +1,7 @@
 -- The answer is that of the bytes from j on, and each turn takes their first bytes away or ends on them.
-use Rattle.std.proofs.Common.{refl, length, arith}
+use Rattle.std.proofs.Common.{length, arith}
 use Rattle.first.proofs.PrecedesLaws.{size_few, at_end, decides_here, goes_on}
 use Rattle.first.proofs.precedes.Goals as goal
-
-pub loop-j-init : goal.loop-j-init
-loop-j-init c = refl
 
 pub overflow_mul-j : goal.overflow_mul-j
 overflow_mul-j c =

@@ -1,7 +1,7 @@
 -- The setting's model, if there is one, is met.
 use Rattle.std.proofs.Common.{rules, arith, sym, subst, List, ℕ}
 use Rattle.first.specs.InHand.{StandingHas}
-use Rattle.first.proofs.InHandLaws.{takes_none, takes_met}
+use Rattle.first.proofs.InHandLaws.{takes_none}
 use Rattle.search.proofs.ReadyLaws.{space_searchable}
 use Rattle.first.proofs.OutlineLaws.{found_has}
 use Rattle.first.proofs.visit_first.Goals as goal
@@ -14,10 +14,6 @@ invariant_of-met c =
       standing_has = subst (λ (l : List ℕ). StandingHas l c.in-Some.state.now c.args.standing) (sym c.as_slice.ensures.value)
           (found_has (space_searchable c.args.space.now) c.args.space.now.bans.spans.now c.args.standing _ c.in-Some.ensures.0);
     }
-
-pub returns-in-Some : goal.returns-in-Some
-returns-in-Some c =
-    takes_met c.as_slice.ensures.value c.in-Some.ensures.1 c.in-Some.ensures.0 c.take.ensures
 
 pub returns-in-None : goal.returns-in-None
 returns-in-None c =

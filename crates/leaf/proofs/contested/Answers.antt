@@ -1,5 +1,5 @@
 -- A row is not contested where it is alive, where its head is answered or where its body does not hold.
-use Rattle.std.proofs.Common.{ap, not, arith}
+use Rattle.std.proofs.Common.{ap, not}
 use Rattle.leaf.proofs.ContestedLaws.{uncontested_alive, uncontested_answered, uncontested_not, uncontested_row}
 use Rattle.leaf.proofs.contested.Goals as goal
 use Rattle.leaf.proofs.contested.Goals.{else-not-alive-via-then-not-alive+then-undecided+else-holds, else-not-alive-via-then-not-alive+else-undecided, else-not-alive-via-else-not-alive}
@@ -11,9 +11,3 @@ loop-j-preserved c =
       | else-not-alive-via-then-not-alive+else-undecided w ↦ uncontested_answered v w.head.result w.head.ensures.0 (w.undecided.ensures w.if-undecided.false)
       | else-not-alive-via-else-not-alive w ↦ uncontested_alive v c.alive.result c.alive.ensures (ap not w.if-not-alive.false)
     ]) c.loop-j.invariant
-
-pub loop-j-init : goal.loop-j-init
-loop-j-init c = record { each = λ j h. absurd (omega arith) }
-
-pub returns : goal.returns
-returns c = λ y. record { each = λ j h. c.loop-j.invariant.each j (omega (arith, h, c.loop-j-test.false, c.len-j-end.ensures)) }

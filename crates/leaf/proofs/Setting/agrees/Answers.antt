@@ -1,11 +1,7 @@
 -- The atoms left decide.
 use Rattle.std.proofs.Common.{refl}
-use Rattle.setting.specs.Setting.{setting_of}
-use Rattle.leaf.proofs.ModelLaws.{stands_is, agree_start, agree_fails, agree_more, agree_end}
+use Rattle.leaf.proofs.ModelLaws.{stands_is, agree_fails, agree_more, agree_end}
 use Rattle.leaf.proofs.Setting.agrees.Goals as goal
-
-pub loop-i-init : goal.loop-i-init
-loop-i-init c = agree_start c.args.self.atoms.now c.args.state.now (setting_of c.args.self.atoms.now c.args.self.standing)
 
 pub returns-then-atom_holds-stands : goal.returns-then-atom_holds-stands
 returns-then-atom_holds-stands c =

@@ -1,13 +1,9 @@
 -- Of the facts passed, those that the setting denies are marked.
-use Rattle.std.proofs.Common.{◌≡◌, refl, sym, ap, subst, ◌∙◌, not, length, arith}
-use Rattle.leaf.specs.Searchable.{Joined}
+use Rattle.std.proofs.Common.{refl, sym, ap, ◌∙◌, not, arith}
 use Rattle.leaf.proofs.ModelLaws.{denied_is}
-use Rattle.leaf.proofs.GoingOnLaws.{joined-start, joined_skip, joined-more}
+use Rattle.leaf.proofs.GoingOnLaws.{joined_skip, joined-more}
 use Rattle.leaf.proofs.Setting.join.Goals as goal
 use Rattle.leaf.proofs.Setting.join.Goals.{else-not-stands, then-not-stands}
-
-pub loop-i-init : goal.loop-i-init
-loop-i-init c = joined-start _ _ _
 
 pub loop-i-preserved : goal.loop-i-preserved
 loop-i-preserved c =
@@ -16,8 +12,3 @@ loop-i-preserved c =
       | then-not-stands w ↦ rw w.negative-is (joined-more c.args.self.atoms.now _ _ c.loop-i.invariant _ refl (omega (arith, c.requires _ c.loop-i-test.true, c.loop-i.auto.negative)) (sym k ∙ ap not w.if-not-stands.true))
       | else-not-stands w ↦ rw w.negative-is (joined_skip c.args.self.atoms.now _ _ c.loop-i.invariant _ refl (sym k ∙ ap not w.if-not-stands.false))
     ]
-
-pub returns : goal.returns
-returns c =
-    let e : c.loop-i.i ≡ length c.args.self.atoms.now = omega arith in
-    subst (Joined _ _ _ _) e c.loop-i.invariant

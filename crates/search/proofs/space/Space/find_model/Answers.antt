@@ -9,10 +9,6 @@ use Rattle.search.proofs.StepLaws.{leaf_table, leaf_masks, found_none, found_one
 use Rattle.search.proofs.space.Space.find_model.Goals as goal
 use Rattle.search.proofs.space.Space.find_model.Goals.{else-found-via-then-found+else-not-banned, else-found-via-else-found}
 
-pub reject_at-requires-clause-named : goal.reject_at-requires-clause-named
-reject_at-requires-clause-named c =
-    space_named c.args.self.now c.as_slice-rejecting.ensures.value
-
 pub model_at-found-requires-clause-ready : goal.model_at-found-requires-clause-ready
 model_at-found-requires-clause-ready c =
     record { table = leaf_table c.args.self.now c.args.standing c.as_slice.ensures.value _ (search rules); masks = leaf_masks c.args.self.now c.args.standing c.as_slice.ensures.value c.as_slice-rejecting.ensures.value c.reject_at.ensures }
