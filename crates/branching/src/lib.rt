@@ -3,6 +3,7 @@
 
 ghost use Rattle.std.specs.Prelude.{◌≡◌, false, ◌&&◌, ◌||◌, ◌≤◌, ltb, length, replicate, IfOk};
 ghost use Rattle.base.specs.Bounds.{max_atoms, max_branching};
+ghost use Rattle.models.specs.Branching.{branching_count};
 ghost use Rattle.table.specs.Table.{Tabulates};
 ghost use Rattle.table.specs.Tabled.{tabled};
 ghost use Rattle.branching.specs.Marks.{BodyMarked, BranchingMarks, Listed};
@@ -62,4 +63,17 @@ pub fn branching_atoms(table: Table, n: usize) -> Result<ArrayVec<u32, MAX_BRANC
         return Err(count);
     }
     Ok(atoms)
+}
+
+// How many facts branch, whether or not a search goes through them.
+#[tactic(auto, unfolding(models::specs::Branching::branching_count, models::specs::Branching::branching_atoms))]
+pub fn branching_count(table: Table, n: usize) -> usize
+    requires tabulates { Tabulates (tabled table.book.now table.rows.now n) table.book.now table.rows.now }
+    requires n_le_max_atoms { n ≤ max_atoms }
+    ensures { result ≡ branching_count (tabled table.entry.book.now table.entry.rows.now n) }
+{
+    match branching_atoms(table, n) {
+        Ok(facts) => facts.as_slice().len(),
+        Err(count) => count,
+    }
 }
