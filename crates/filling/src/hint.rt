@@ -28,8 +28,8 @@ fn waiting_name(l: Literal) -> usize
 
 #[derive(Drop)]
 pub struct Hints {
-    // The number of the literal that each row last waited for, below 128, since a record has no more than 255 bytes.
-    watched: [u8; MAX_RULES],
+    // The number of the literal that each row last waited for.
+    watched: [u16; MAX_RULES],
     // The rows in the order in which they added their heads, once a filling has needed the waiting lists.
     trail: Option<Pile>,
     // The first row that waits for each name, and the next that waits for the same as a row.
@@ -55,8 +55,8 @@ impl Hints {
     }
 
     // The number of the literal that a row watches.
-    pub(crate) fn watched(&self, j: usize) -> u8 {
-        self.watched.get(j).copied().unwrap_or(0)
+    pub(crate) fn watched(&self, j: usize) -> usize {
+        self.watched.get(j).map_or(0, |i| usize::from(*i))
     }
 
     // The rows of the trail, in the order in which they added their heads.
@@ -90,7 +90,7 @@ impl Hints {
     pub(crate) fn wait(&mut self, j: usize, i: usize, l: Literal) {
         if j < MAX_RULES {
             let h = waiting_name(l);
-            self.watched[j] = (i % 256) as u8;
+            self.watched[j] = (i % 65536) as u16;
             self.next_waiting[j] = self.first_waiting[h];
             self.first_waiting[h] = Some(j as u16);
         }

@@ -4,10 +4,10 @@
 // `hints` is what one filling leaves for the next. Nothing rests on it but speed, so no contract speaks of it.
 #![tactic(auto)]
 
-ghost use Rattle.std.specs.Prelude.{◌≡◌, false, ◌<◌, length, drop, replicate};
+ghost use Rattle.std.specs.Prelude.{IfSome, ◌+◌, ◌*◌, ◌/◌, ◌≡◌, false, ◌<◌, ◌≤◌, length, get_or, replicate};
 ghost use Rattle.std.specs.Result.{is_err};
 ghost use Rattle.base.specs.Lists.{all};
-ghost use Rattle.format.specs.Book.{literals_of};
+ghost use Rattle.format.specs.Book.{literal_of, literals_of};
 ghost use Rattle.table.specs.Names.{literal_named};
 ghost use Rattle.table.specs.Rows.{row_count, row_at};
 ghost use Rattle.filling.specs.Marks.{Room, literal_marked, adds, Grown, Tried, PassEnd, FilledOn, Fills};
@@ -15,7 +15,7 @@ ghost use Rattle.filling.specs.Marks.{Room, literal_marked, adds, Grown, Tried, 
 use base::{MAX_ATOMS, MAX_BODY, MAX_NAMES, MAX_RULES};
 use format::{Literal, Literals};
 pub use hint::Hints;
-use table::{Table, TableRow, literal_named, opposite};
+use table::{Table, TableRow, opposite};
 
 mod hint;
 
@@ -33,10 +33,17 @@ struct Marks<'a> {
 
 impl Marks<'_> {
     // The mark of a name.
+    // Kept: by the name, since its literal's fact would be held against the length once more for each row of a pass.
+    #[tactic(auto, using(crate::proofs::MarkLaws::marked_low, crate::proofs::MarkLaws::marked_high, crate::proofs::MarkLaws::atom_low, crate::proofs::MarkLaws::atom_high), unfolding(models::specs::StableModels::atom_holds))]
     fn name(&self, h: usize) -> bool
+        requires { (literal_named h).atom < length self.now.positive.now }
         ensures { result ≡ literal_marked self.now.positive.now self.now.negative.now (literal_named h) }
     {
-        self.literal(literal_named(h))
+        if h < MAX_ATOMS {
+            self.positive[h]
+        } else {
+            self.negative[h - MAX_ATOMS]
+        }
     }
 
     // The mark of a literal. Both arrays are read, so that the sign is no branch: bodies mix signs as they like. A fact past them has
@@ -54,40 +61,49 @@ impl Marks<'_> {
     }
 
     // Whether every literal of a body's bytes is marked. The one numbered `watch` is tried first.
-    #[tactic(auto, using(crate::proofs::MarkLaws::one_fails))]
-    fn body(&self, body: &[u8], watch: u8) -> bool
+    fn body(&self, body: &[u8], watch: usize) -> bool
         ensures { result ≡ all (literal_marked self.now.positive.now self.now.negative.now) (literals_of body.now) }
     {
-        if let Some(l) = literals_from(body, watch).next()
-            && !self.literal(l)
-        {
+        if watch < body.len() / 2 && !self.literal(literal_at(body, watch)) {
             return false;
         }
         Literals(body).all(|l| self.literal(l))
     }
 
-    // A literal of a body's bytes that is not marked, with its number. It is looked for from the one numbered `watch` on and then from the
-    // first on.
-    fn unmarked(&self, body: &[u8], watch: u8) -> Option<(usize, Literal)> {
-        let from = usize::from(watch);
-        let mut late = literals_from(body, watch).enumerate();
-        if let Some((i, l)) = late.find(|(_, l)| !self.literal(*l)) {
-            return Some((from.saturating_add(i), l));
+    // The number of a literal of a body's bytes that is not marked, of those numbered from `from` up to `to`.
+    fn unmarked_between(&self, body: &[u8], from: usize, to: usize) -> Option<usize>
+        requires { to ≤ length body.now / 2 }
+        ensures { IfSome result (λ i. i < length body.now / 2) }
+    {
+        for i in from..to {
+            if !self.literal(literal_at(body, i)) {
+                return Some(i);
+            }
         }
-        let mut early = Literals(body).enumerate().take(from);
-        early.find(|(_, l)| !self.literal(*l))
+        None
+    }
+
+    // The number of a literal of a body's bytes that is not marked, looked for from the one numbered `watch` on and then from the first
+    // on.
+    fn unmarked(&self, body: &[u8], watch: usize) -> Option<usize>
+        ensures { IfSome result (λ i. i < length body.now / 2) }
+    {
+        let count = body.len() / 2;
+        let from = watch.min(count);
+        match self.unmarked_between(body, from, count) {
+            Some(i) => Some(i),
+            None => self.unmarked_between(body, 0, from),
+        }
     }
 }
 
-// The literals of a body's bytes from a number on.
-#[tactic(auto, using(crate::proofs::MarkLaws::literals_drop, crate::proofs::MarkLaws::literals_end))]
-fn literals_from(body: &[u8], from: u8) -> Literals<'_>
-    ensures { literals_of result.0.now ≡ drop from (literals_of body.now) }
+// The literal of a body's bytes by its number.
+// Kept: by an index, as is the search for one to wait for: over `Literals` from a number on, that took a tenth more of a filling's time.
+fn literal_at(body: &[u8], i: usize) -> Literal
+    requires { i < length body.now / 2 }
+    ensures { result ≡ literal_of (get_or body.now (2 * i) 0) (get_or body.now (2 * i + 1) 0) }
 {
-    match body.split_at_checked(2 * usize::from(from)) {
-        Some((_, rest)) => Literals(rest),
-        None => Literals(&[]),
-    }
+    Literal::from_bytes(body[2 * i], body[2 * i + 1])
 }
 
 // A fact is reached both ways.
@@ -106,6 +122,7 @@ impl RuleRow<'_> {
     // Whether it adds its head: the head is not marked, the rule is alive and its body is marked.
     #[tactic(auto, using(crate::proofs::MarkLaws::adds_row))]
     fn adds(&self, marks: &Marks, hints: &Hints) -> bool
+        requires { Room self.now.row.table.rows.now marks.now.positive.now marks.now.negative.now }
         ensures { result ≡ adds marks.now.positive.now marks.now.negative.now self.now.rejects.now (row_at self.now.row.table.book.now self.now.row.table.rows.now self.now.row.j) }
     {
         !marks.name(self.row.head())
@@ -145,11 +162,14 @@ impl RuleRow<'_> {
     // Lets it wait for a literal of its body that is not marked, and says whether there is one. It is looked for from the one on that the
     // row watches, which stays from filling to filling: what kept a row from adding its head at one setting often does at the next.
     fn wait(&self, marks: &Marks, hints: &mut Hints) -> bool {
-        let unmarked = marks.unmarked(self.row.body(), hints.watched(self.row.j));
-        if let Some((i, l)) = unmarked {
-            hints.wait(self.row.j, i, l);
+        let body = self.row.body();
+        match marks.unmarked(body, hints.watched(self.row.j)) {
+            Some(i) => {
+                hints.wait(self.row.j, i, literal_at(body, i));
+                true
+            }
+            None => false,
         }
-        unmarked.is_some()
     }
 
     // Tries it where it may still add its head: adds that, or lets the row wait. Says whether the head was added.
