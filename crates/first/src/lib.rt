@@ -148,7 +148,7 @@ fn outline(met: Met, sure: &[bool], distance: usize) -> Held
         ahead: 0,
         alone: false,
     };
-    // Kept: i counts the branching facts that are passed, and not the turns: both lists rise, and to look each fact up would be slower.
+    // Kept: i is the next branching fact and moves on only past one that branches, so that no `for` counts it.
     let mut i: usize = 0;
     for f in 0..met.state.len() {
         if branches_next(met.atoms, i, f) {
