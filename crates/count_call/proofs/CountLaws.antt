@@ -40,11 +40,9 @@ use Rattle.condition.specs.Code.{code_holds, StackFits}
 use Rattle.condition.specs.Causes.{condition_tests, fits_in, fits_text}
 use Rattle.search.specs.declared.Goal.TheVariants.{Fit}
 use Rattle.search.specs.Visits.{Asks, reaches}
-use Rattle.search.proofs.AllowedLaws.{barred-formed, barred-listed, barred-size}
-use Rattle.search.specs.Space.{Ready, space_atoms, space_program}
-use Rattle.search.specs.declared.Space.{Space}
-use Rattle.plan.specs.Plan.{plan_bans}
-use Rattle.table.specs.declared.Span.{Span}
+use Rattle.search.specs.Space.{space_atoms, space_program}
+use Rattle.search.specs.declared.space.Space.{Space}
+use Rattle.passes.proofs.SpaceLaws.{space_formed, space_count, space_few}
 use Rattle.passes.specs.Limit.{has_too_many_branching}
 use Rattle.passes.specs.Tallied.{searched, Tallied}
 use Rattle.passes.proofs.PassLaws.{searched-length, models_le}
@@ -64,35 +62,25 @@ module _ (P : Program) (condition : List ℕ) where
   search_last h = first_append (condition_tests P.atoms condition) (search_tests P) h
 
 -- ---- what the pass tells
-module _ {space : Space} (ready : Ready space) {codes : Bor (List Code)} {count weight : ℕ} (t : Tallied (space_program space) (Fit codes) count weight) where
+module _ (space : Space) {codes : Bor (List Code)} {count weight : ℕ} (t : Tallied (space_program space) (Fit codes) count weight) where
   abbrev P : Program
   P = space_program space
-
-  abbrev bans : List Span
-  bans = plan_bans space.plan.now
-
-  few : P.atoms ≤ max_atoms
-  few = subst (λ (k : ℕ). k ≤ max_atoms) (barred-size ready.table bans) ready.table.few
 
   all_seen : t.seen ≡ searched P
   unfolding reaches
   all_seen = sym (append-nil t.seen) ∙ ap (λ (l : List Interpretation). t.seen ++ l) (sym (t.whole refl)) ∙ sym t.split
 
   k_is : count ≡ length (stable_models P)
-  k_is = t.count_is ∙ ap length all_seen ∙ searched-length P (barred-formed ready.table bans) few
-
-  g_is : length (space_atoms space) ≡ branching_count P
-  unfolding branching_count
-  g_is = ap length (barred-listed ready.table bans)
+  k_is = t.count_is ∙ ap length all_seen ∙ searched-length P (space_formed space) (space_few space)
 
   count_is : weight ≡ length (filter (code_holds codes.now) (stable_models P))
   count_is =
       t.weight_is ∙ fitted_weight codes t.seen ∙ ap (λ (l : List Interpretation). length (filter (code_holds codes.now) l)) all_seen
-      ∙ searched_passing (code_holds codes.now) P (barred-formed ready.table bans) few
+      ∙ searched_passing (code_holds codes.now) P (space_formed space) (space_few space)
 
   pub counted : {g : ℕ} → g ≡ length (space_atoms space) → Ok (record { states = count; branching = g; fitting = weight }) ≡ reply_of (Ok tt) P (code_holds codes.now)
   unfolding reply_of
-  counted eg = λ i. Ok (record { states = k_is i; branching = (eg ∙ g_is) i; fitting = count_is i })
+  counted eg = λ i. Ok (record { states = k_is i; branching = (eg ∙ space_count space) i; fitting = count_is i })
 
 pub asks_fit : (codes : Bor (List Code)) → StackFits codes.now → Asks (Fit codes)
 unfolding Asks

@@ -4,7 +4,7 @@
 
 ghost use Rattle.std.specs.Prelude.{◌≡◌, Ok};
 ghost use Rattle.condition.specs.Code.{code_holds, StackFits};
-ghost use Rattle.search.specs.Space.{Ready, space_program};
+ghost use Rattle.search.specs.Space.{space_program};
 ghost use Rattle.count_call.specs.Reply.{reply_of};
 
 use condition::Code;
@@ -21,14 +21,13 @@ pub struct Counted {
 
 // One pass of the search, which meets every stable model and tries the condition's code on it.
 pub fn count_found(space: &Space, codes: &[Code]) -> Counted
-    requires ready { Ready space.now }
-    requires stack_fits { StackFits codes.now }
+    requires { StackFits codes.now }
     ensures { Ok result ≡ reply_of (Ok tt) (space_program space.now) (code_holds codes.now) }
 {
     let counts = tally(space, &Goal::Fit(codes));
     Counted {
         states: counts.count,
-        branching: space.plan.atoms().len(),
+        branching: space.plan.atoms.as_slice().len(),
         fitting: counts.weight,
     }
 }

@@ -94,8 +94,8 @@ module _ (book : List ℕ) (layer off : ℕ) where
     unfolding list.reply_of list.buffer_of
     list_refused c e = list_is (Err c) e
 
-    pub list_of_layer : (c : Cause) → Err c ≡ layer_verdict → (Err c ≡ list.list_reply book layer off old) × (old ≡ list.list_buffer book layer off old)
-    list_of_layer c e = list_refused c (layer_refuses (list.search_tests P (length old)) c e)
+    pub list_of_layer : {c : Cause} → Err c ≡ layer_verdict → (Err c ≡ list.list_reply book layer off old) × (old ≡ list.list_buffer book layer off old)
+    list_of_layer {c} e = list_refused c (layer_refuses (list.search_tests P (length old)) c e)
 
     pub list_of_twelve : Ok tt ≡ layer_verdict → has_too_many_branching P ≡ true → (Err TooManyBranching ≡ list.list_reply book layer off old) × (old ≡ list.list_buffer book layer off old)
     unfolding list.search_tests
@@ -119,8 +119,8 @@ module _ (book : List ℕ) (layer off : ℕ) where
     unfolding one.reply_of one.buffer_of
     one_refused c e = one_is (Err c) e
 
-    pub one_of_layer : (c : Cause) → Err c ≡ layer_verdict → (Err c ≡ one.one_reply book layer off old) × (old ≡ one.one_buffer book layer off old)
-    one_of_layer c e = one_refused c (layer_refuses (one.search_tests P (length old)) c e)
+    pub one_of_layer : {c : Cause} → Err c ≡ layer_verdict → (Err c ≡ one.one_reply book layer off old) × (old ≡ one.one_buffer book layer off old)
+    one_of_layer {c} e = one_refused c (layer_refuses (one.search_tests P (length old)) c e)
 
     pub one_of_twelve : Ok tt ≡ layer_verdict → has_too_many_branching P ≡ true → (Err TooManyBranching ≡ one.one_reply book layer off old) × (old ≡ one.one_buffer book layer off old)
     unfolding one.search_tests
@@ -144,8 +144,8 @@ module _ (book : List ℕ) (layer off : ℕ) where
     unfolding place.reply_of
     place_refused c e = place_is (Err c) e
 
-    pub place_of_layer : (c : Cause) → Err c ≡ layer_verdict → Err c ≡ place.place_reply book layer off fact
-    place_of_layer c e = place_refused c (layer_refuses (place.fact_tests P fact) c e)
+    pub place_of_layer : {c : Cause} → Err c ≡ layer_verdict → Err c ≡ place.place_reply book layer off fact
+    place_of_layer {c} e = place_refused c (layer_refuses (place.fact_tests P fact) c e)
 
     module _ (e : Ok tt ≡ layer_verdict) where
       pub place_of_eleven : P.atoms ≤ fact → Err NoSuchFact ≡ place.place_reply book layer off fact
@@ -179,8 +179,8 @@ module _ (book : List ℕ) (layer off : ℕ) where
     unfolding near.reply_of near.buffer_of
     near_refused c e = near_is (Err c) e
 
-    pub near_of_layer : (c : Cause) → Err c ≡ layer_verdict → (Err c ≡ near.near_reply book layer off candidate old) × (old ≡ near.near_buffer book layer off candidate old)
-    near_of_layer c e = near_refused c (layer_refuses (near.candidate_tests P candidate (length old)) c e)
+    pub near_of_layer : {c : Cause} → Err c ≡ layer_verdict → (Err c ≡ near.near_reply book layer off candidate old) × (old ≡ near.near_buffer book layer off candidate old)
+    near_of_layer {c} e = near_refused c (layer_refuses (near.candidate_tests P candidate (length old)) c e)
 
     module _ (e : Ok tt ≡ layer_verdict) where
       pub near_of_ten : is_bad_candidate P.atoms candidate ≡ true → (Err BadCandidate ≡ near.near_reply book layer off candidate old) × (old ≡ near.near_buffer book layer off candidate old)
@@ -215,12 +215,12 @@ module _ (book : List ℕ) (layer off : ℕ) where
     unfolding count.reply_of
     count_refused c e = count_is (Err c) e
 
-    pub count_of_layer : (c : Cause) → Err c ≡ layer_verdict → Err c ≡ count.count_reply book layer off condition
-    count_of_layer c e = count_refused c (layer_refuses (count.fit_tests P condition) c e)
+    pub count_of_layer : {c : Cause} → Err c ≡ layer_verdict → Err c ≡ count.count_reply book layer off condition
+    count_of_layer {c} e = count_refused c (layer_refuses (count.fit_tests P condition) c e)
 
     module _ (e : Ok tt ≡ layer_verdict) where
-      pub count_of_condition : (c : Cause) → first_of (condition_tests P.atoms condition) ≡ Err c → Err c ≡ count.count_reply book layer off condition
-      count_of_condition c h = count_refused c (layer_passes (count.fit_tests P condition) e ∙ count-laws.condition_first P condition c h)
+      pub count_of_condition : {c : Cause} → first_of (condition_tests P.atoms condition) ≡ Err c → Err c ≡ count.count_reply book layer off condition
+      count_of_condition {c} h = count_refused c (layer_passes (count.fit_tests P condition) e ∙ count-laws.condition_first P condition c h)
 
       module _ (read : first_of (condition_tests P.atoms condition) ≡ Ok tt) where
         pub count_of_twelve : has_too_many_branching P ≡ true → Err TooManyBranching ≡ count.count_reply book layer off condition

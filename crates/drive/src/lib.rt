@@ -10,7 +10,6 @@ ghost use Rattle.place_call.specs.Reply.{place_reply};
 ghost use Rattle.count_call.specs.Reply.{count_reply};
 
 use accepted::check_layer;
-use base::MAX_RULES;
 use book::Cause;
 use candidate::bad_candidate;
 use condition::read_condition;
@@ -18,10 +17,8 @@ use count_call::{Counted, count_found};
 use list_call::{Listed, list_models};
 use near_call::{Nearest, near_found};
 use one_call::one_found;
-use passes::set_up;
+use passes::Work;
 use place_call::{Placed, place_found};
-use plan::Plan;
-use table::NO_ROW;
 
 // Writes the listing of a book at a driven layer, with the layers of a set switched off. Here and below a refusal leaves every byte of the
 // buffer.
@@ -30,9 +27,8 @@ pub fn list(book: &[u8], layer: u32, off: u32, buffer: &mut [u8]) -> Result<List
     ensures bytes { buffer.new ≡ list_buffer book.now layer off buffer.old }
 {
     let driving = check_layer(book, layer, off)?;
-    let mut rows = [NO_ROW; MAX_RULES];
-    let mut plan = Plan::new();
-    let space = set_up(&driving, &mut rows, &mut plan)?;
+    let mut work = Work::new();
+    let space = work.set_up(&driving)?;
     list_models(&space, buffer)
 }
 
@@ -42,9 +38,8 @@ pub fn one(book: &[u8], layer: u32, off: u32, buffer: &mut [u8]) -> Result<usize
     ensures bytes { buffer.new ≡ one_buffer book.now layer off buffer.old }
 {
     let driving = check_layer(book, layer, off)?;
-    let mut rows = [NO_ROW; MAX_RULES];
-    let mut plan = Plan::new();
-    let space = set_up(&driving, &mut rows, &mut plan)?;
+    let mut work = Work::new();
+    let space = work.set_up(&driving)?;
     one_found(&space, buffer)
 }
 
@@ -57,9 +52,8 @@ pub fn place(book: &[u8], layer: u32, off: u32, fact: usize) -> Result<Placed, C
     if driving.atom_count() <= fact {
         return Err(Cause::NoSuchFact);
     }
-    let mut rows = [NO_ROW; MAX_RULES];
-    let mut plan = Plan::new();
-    let space = set_up(&driving, &mut rows, &mut plan)?;
+    let mut work = Work::new();
+    let space = work.set_up(&driving)?;
     place_found(&space, fact)
 }
 
@@ -78,9 +72,8 @@ pub fn nearest(
     if bad_candidate(candidate, driving.atom_count()) {
         return Err(Cause::BadCandidate);
     }
-    let mut rows = [NO_ROW; MAX_RULES];
-    let mut plan = Plan::new();
-    let space = set_up(&driving, &mut rows, &mut plan)?;
+    let mut work = Work::new();
+    let space = work.set_up(&driving)?;
     near_found(&space, candidate, buffer)
 }
 
@@ -90,8 +83,7 @@ pub fn count(book: &[u8], layer: u32, off: u32, condition: &[u8]) -> Result<Coun
 {
     let driving = check_layer(book, layer, off)?;
     let codes = read_condition(condition, driving.atom_count())?;
-    let mut rows = [NO_ROW; MAX_RULES];
-    let mut plan = Plan::new();
-    let space = set_up(&driving, &mut rows, &mut plan)?;
+    let mut work = Work::new();
+    let space = work.set_up(&driving)?;
     Ok(count_found(&space, codes.as_slice()))
 }

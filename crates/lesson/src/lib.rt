@@ -2,7 +2,7 @@
 // document 01's number. None has a `requires`: every input has an outcome.
 #![tactic(auto)]
 
-ghost use Rattle.std.specs.Prelude.{◌≡◌, ◌*◌, ◌≤◌, MatchResult};
+ghost use Rattle.std.specs.Prelude.{◌≡◌, MatchResult};
 ghost use Rattle.std.specs.Result.{ForOk};
 ghost use Rattle.book.specs.Causes.{verdict};
 ghost use Rattle.book.specs.Numbers.{number_of};
@@ -12,11 +12,10 @@ ghost use Rattle.one_call.specs.Reply.{one_reply, one_buffer};
 ghost use Rattle.near_call.specs.Reply.{near_reply, near_buffer};
 ghost use Rattle.place_call.specs.Reply.{place_reply};
 ghost use Rattle.count_call.specs.Reply.{count_reply};
-ghost use Rattle.lesson.specs.Answers.{check_answer, test_answer, list_answer, one_answer, place_bits, place_answer, near_answer, count_answer};
+ghost use Rattle.lesson.specs.Answers.{check_answer, test_answer, list_answer, one_answer, place_answer, near_answer, count_answer};
 
 use book::{Cause, check};
 use drive::{count, list, nearest, one, place};
-use place_call::Place;
 use test_call::test;
 
 // What an answer carries is told in bits of its own: g from bit 8 on, the call's own number from bit 16 on, and a count from bit 40 on.
@@ -27,14 +26,11 @@ const OWN: u64 = 1 << 16;
 const FITTING: u64 = 1 << 40;
 
 // How an answer is told: in the bits that its call makes of a granted one, or as the cause's number.
-fn number<T, F: FnOnce(T) -> u64>(answer: Result<T, Cause>, bits: F) -> u64
+fn number<T: Drop, F: FnOnce(T) -> u64>(answer: Result<T, Cause>, bits: F) -> u64
     requires { ForOk answer (λ told. F.pre bits told) }
     ensures { MatchResult answer (λ told. F.post bits told result) (λ c. result ≡ number_of c) }
 {
-    match answer {
-        Ok(told) => bits(told),
-        Err(c) => c.into(),
-    }
+    answer.map_or_else(u64::from, bits)
 }
 
 // Whether a book is accepted, or the first of causes 1 to 8 that applies.
@@ -50,7 +46,7 @@ pub fn lesson_test(book: &[u8], layer: u32, off: u32, candidate: &[u8]) -> u64
     ensures { result ≡ test_answer (test_reply book.now layer off candidate.now) }
 {
     number(test(book, layer, off, candidate), |yes| {
-        if yes { OWN } else { 0 }
+        u64::from(yes) * OWN
     })
 }
 
@@ -74,24 +70,13 @@ pub fn lesson_one(book: &[u8], layer: u32, off: u32, buffer: &mut [u8]) -> u64
     number(one(book, layer, off, buffer), |g| g as u64 * BRANCHING)
 }
 
-// A fact's place, which an answer has in bits 16 and 17.
-fn place_number(place: Place) -> u64
-    ensures { (result * 65536 ≡ place_bits place) × (result ≤ 2) }
-{
-    match place {
-        Place::Every => 2,
-        Place::InSome => 1,
-        Place::Nowhere => 0,
-    }
-}
-
 // Whether a fact stands in every stable state of a book at a layer, with the layers of a set switched off, in some or in none, or the
 // first of causes 1 to 9, 19, 11, 12 and 14 that applies. The answer carries the place and g.
 pub fn lesson_place(book: &[u8], layer: u32, off: u32, fact: u32) -> u64
     ensures { result ≡ place_answer (place_reply book.now layer off fact) }
 {
     number(place(book, layer, off, fact as usize), |p| {
-        place_number(p.place) * OWN + p.branching as u64 * BRANCHING
+        p.place as u64 * OWN + p.branching as u64 * BRANCHING
     })
 }
 

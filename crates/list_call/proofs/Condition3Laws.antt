@@ -21,7 +21,7 @@ use Rattle.format.specs.Book.{u16_at, u32_at, atom_count}
 use Rattle.insertion.specs.Runs.{bytes_before, Wide}
 use Rattle.insertion.proofs.ByteOrder.{bytes_asym}
 use Rattle.insertion.proofs.RunLaws.{flat_at}
-use Rattle.insertion.proofs.SortedLaws.{get_d_member}
+use Rattle.base.proofs.EntryLaws.{entry_in}
 use Rattle.models.specs.Program.{Program, program_at}
 use Rattle.models.specs.StableModels.{Interpretation, stable, WellFormed}
 use Rattle.models.specs.Branching.{branching_count}
@@ -109,7 +109,7 @@ index_of (x ∷ l) m k = go (λ j. index_of l m j) (Memᴰ.cases_cons k)
 rising_at : (ms : List Interpretation) → Rising ◌⊏◌ ms → (i j : ℕ) → i < j → j < length ms → get_or ms i [] ⊏ get_or ms j []
 rising_at [] r i j h b = absurd (omega arith)
 rising_at (m ∷ ms) r zero zero h b = absurd (omega arith)
-rising_at (m ∷ ms) r zero (suc j) h b = r.0 (get_or ms j []) (get_d_member ms j [] (omega arith))
+rising_at (m ∷ ms) r zero (suc j) h b = r.0 (get_or ms j []) (entry_in ms j [] (omega arith))
 rising_at (m ∷ ms) r (suc i) zero h b = absurd (omega arith)
 rising_at (m ∷ ms) r (suc i) (suc j) h b = rising_at ms r.1 i j (omega arith) (omega arith)
 
@@ -190,7 +190,7 @@ module _ (c : Call) (k g : ℕ) (w : Told c k g) where
       atoms-facts (record_place P.atoms (stable_models P) (drop (length (listing_of P.atoms (stable_models P))) c.buffer) i (omega (arith, w.count)))
 
   model_size : (i : ℕ) → i < k → length (get_or (stable_models P) i []) ≡ facts c
-  model_size i h = stable_models-length P (get_or (stable_models P) i []) (get_d_member (stable_models P) i [] (omega (arith, w.count))) ∙ atoms-facts
+  model_size i h = stable_models-length P (get_or (stable_models P) i []) (entry_in (stable_models P) i [] (omega (arith, w.count))) ∙ atoms-facts
 
   rises : (i j : ℕ) → i < j → j < k → bytes_before (record_at c i) (record_at c j) ≡ true
   rises i j h b =
@@ -239,7 +239,7 @@ module _ (c : Call) (k g : ℕ) (w : Told c k g) where
   lists = record {
     no_other = λ i h.
         let m : Interpretation = get_or (stable_models P) i [] in
-        (m, model_of m (get_d_member (stable_models P) i [] (omega (arith, w.count))), at i h);
+        (m, model_of m (entry_in (stable_models P) i [] (omega (arith, w.count))), at i h);
     every = λ m x.
         let q = index_of (stable_models P) m (member_of m x) in
         let h : q.0 < k = omega (arith, q.1, w.count) in

@@ -21,48 +21,32 @@ use Rattle.models.proofs.RecordLaws.{listing-length}
 use Rattle.models.specs.Alike.{Alike}
 use Rattle.models.proofs.AlikeLaws.{alike_models, alike-count, alike-listing}
 use Rattle.records.proofs.WrittenLaws.{records_fit, head-written}
-use Rattle.leaf.specs.Searchable.{Searchable}
-use Rattle.plan.specs.Plan.{plan_bans}
-use Rattle.table.specs.declared.Span.{Span}
-use Rattle.search.proofs.AllowedLaws.{barred-formed, barred-listed, barred-size}
-use Rattle.search.specs.Space.{Ready, space_atoms, space_program}
-use Rattle.search.specs.declared.Space.{Space}
+use Rattle.search.specs.Space.{space_atoms, space_program}
+use Rattle.search.specs.declared.space.Space.{Space}
 use Rattle.passes.specs.Tallied.{Bounds}
+use Rattle.passes.proofs.SpaceLaws.{space_formed, space_size, space_count, space_some, plan_few, space_few, branching_few}
 use Rattle.passes.proofs.PassLaws.{models_le}
 use Rattle.list_call.specs.declared.Listed.{Listed}
 use Rattle.std.proofs.Common.{Result, Ok, Err}
 use Rattle.list_call.specs.Reply.{room_tests, reply_of, buffer_of, Answers}
 
 -- ---- counting and writing
-module _ {space : Space} (ready : Ready space) where
+module _ (space : Space) where
   abbrev n : ℕ
   n = space.plan.now.n
 
-  abbrev bans : List Span
-  bans = plan_bans space.plan.now
-
-  abbrev w : Searchable space.table.book.now space.table.rows.now (space_atoms space) n
-  w = ready.table
-
   abbrev P : Program
   P = space_program space
-
-  atoms_few : P.atoms ≤ max_atoms
-  atoms_few = subst (λ (k : ℕ). k ≤ max_atoms) (barred-size w bans) w.few
-
-  g_is : length (space_atoms space) ≡ branching_count P
-  unfolding branching_count
-  g_is = ap length (barred-listed w bans)
 
   abbrev all : ℕ
   all = length (stable_models P)
 
   k_le : all ≤ 2 ^ max_branching
-  k_le = omega (arith, models_le P (barred-formed w bans) atoms_few, pow-le-pow_right {n = 2} (omega arith) (subst (λ (x : ℕ). x ≤ max_branching) g_is w.atoms_few))
+  k_le = omega (arith, models_le P (space_formed space) (space_few space), pow-le-pow_right {n = 2} (omega arith) (subst (λ (x : ℕ). x ≤ max_branching) (space_count space) (branching_few space)))
 
   size_is : 11 + all * record_size n ≡ length (listing P)
   unfolding listing
-  size_is = ap (λ (x : ℕ). 11 + all * record_size x) (barred-size w bans) ∙ sym (listing-length P.atoms (stable_models P))
+  size_is = ap (λ (x : ℕ). 11 + all * record_size x) (space_size space) ∙ sym (listing-length P.atoms (stable_models P))
 
   module _ (old : List ℕ) where
     refused : length old < 11 + all * record_size n → Answers (first_of (room_tests P (length old))) P old (Err BufferTooShort) old
@@ -78,7 +62,7 @@ module _ {space : Space} (ready : Ready space) where
     module _ (head : 11 ≤ length old) (width : ℕ) (e : width ≡ record_size n) where
       pub width_some : 0 < width
       unfolding record_size
-      width_some = omega (arith, e, w.some)
+      width_some = omega (arith, e, space_some space)
 
       abbrev room : ℕ
       room = (length old - 11) / width
@@ -110,7 +94,7 @@ module _ {space : Space} (ready : Ready space) where
 
           module _ {k : ℕ} (k_is : k ≡ all) where
             pub bytes_fit : k * width ≤ 2 ^ max_branching * max_record
-            bytes_fit = records_fit n k width w.few (omega (arith, k_is, k_le)) e
+            bytes_fit = records_fit n k width (plan_few space) (omega (arith, k_is, k_le)) e
 
             bytes_are : k * width ≡ all * record_size n
             bytes_are = ap₂ (λ (x y : ℕ). x * y) k_is e
@@ -122,10 +106,10 @@ module _ {space : Space} (ready : Ready space) where
             room-listed g eg part buf f q =
                 let v : first_of (room_tests P (length old)) ≡ Ok tt = rw (le-ltb (length old) (length (listing P)) (omega (arith, size_is, all_fit, part-fits))) refl in
                 record {
-                  reply_is = rw v (λ i. Ok (record { states = k_is i; branching = (eg ∙ g_is) i }));
+                  reply_is = rw v (λ i. Ok (record { states = k_is i; branching = (eg ∙ space_count space) i }));
                   buffer_is =
                       rw v (head-written n (stable_models P) k (11 + k * width) (11 + most * width) old part buf k_is (ap (λ (x : ℕ). 11 + x) bytes_are) (omega (arith, bytes_are, all_fit)) part-fits f q
-                      ∙ ap₂ (λ (x y : ℕ). listing_of x (stable_models P) ++ drop y old) (barred-size w bans) (ap (λ (x : ℕ). 11 + x) bytes_are ∙ size_is));
+                      ∙ ap₂ (λ (x y : ℕ). listing_of x (stable_models P) ++ drop y old) (space_size space) (ap (λ (x : ℕ). 11 + x) bytes_are ∙ size_is));
                 }
 
 -- ---- the program that the table stands for, and the driven layer's

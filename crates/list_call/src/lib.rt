@@ -3,7 +3,7 @@
 
 ghost use Rattle.std.specs.Prelude.{length};
 ghost use Rattle.book.specs.Causes.{first_of};
-ghost use Rattle.search.specs.Space.{Ready, space_program};
+ghost use Rattle.search.specs.Space.{space_program};
 ghost use Rattle.list_call.specs.Reply.{room_tests, Answers};
 
 use book::Cause;
@@ -21,7 +21,6 @@ pub struct Listed {
 // Writes the records of the stable models where there is room for them, and the head last: one pass where there is room for a record of
 // every setting, else one that counts and one that writes.
 pub fn list_models(space: &Space, buffer: &mut [u8]) -> Result<Listed, Cause>
-    requires { Ready space.now }
     ensures { Answers (first_of (room_tests (space_program space.now) (length buffer.old))) (space_program space.now) buffer.old result buffer.new }
 {
     if buffer.len() < HEAD_SIZE {
@@ -39,6 +38,6 @@ pub fn list_models(space: &Space, buffer: &mut [u8]) -> Result<Listed, Cause>
     put_head(buffer, HEAD_SIZE + k * w, n, k);
     Ok(Listed {
         states: k,
-        branching: space.plan.atoms().len(),
+        branching: space.plan.atoms.as_slice().len(),
     })
 }

@@ -16,7 +16,7 @@ use Rattle.base.proofs.Members.{◌∈◌}
 use Rattle.book.specs.Causes.{Test, tests, verdict_if, first_of, verdict, Verdict}
 use Rattle.book.specs.declared.Cause.{Cause}
 use Rattle.book.specs.declared.Cause.TheVariants.{BadCandidate, TooManyBranching, BufferTooShort, NoStableState}
-use Rattle.insertion.proofs.SortedLaws.{get_d_member}
+use Rattle.base.proofs.EntryLaws.{entry_in}
 use Rattle.format.specs.Book.{atom_count, layer_count, book_of}
 use Rattle.models.specs.Program.{Program, program_at}
 use Rattle.models.specs.StableModels.{Interpretation}
@@ -32,15 +32,12 @@ use Rattle.accepted.proofs.FirstLaws.{accepted-none}
 use Rattle.accepted.proofs.GrantedLaws.{granted}
 use Rattle.candidate.specs.Candidate.{is_bad_candidate}
 use Rattle.candidate.proofs.CandidateLaws.{read_length}
-use Rattle.leaf.specs.Searchable.{Searchable}
-use Rattle.plan.specs.Plan.{plan_bans}
-use Rattle.table.specs.declared.Span.{Span}
-use Rattle.search.proofs.AllowedLaws.{barred-listed, barred-size}
-use Rattle.search.specs.Space.{Ready, space_atoms, space_program}
-use Rattle.search.specs.declared.Space.{Space}
+use Rattle.search.specs.Space.{space_atoms, space_program}
+use Rattle.search.specs.declared.space.Space.{Space}
 use Rattle.first.specs.Nearest.{distance, closest}
 use Rattle.first.specs.InHand.{far, record_held}
 use Rattle.first.proofs.ApartLaws.{distance_le}
+use Rattle.passes.proofs.SpaceLaws.{space_size, space_count}
 use Rattle.passes.specs.Limit.{has_too_many_branching, has_no_stable_state}
 use Rattle.passes.specs.Nearest.{chosen, Nearest}
 use Rattle.passes.proofs.FirstLaws.{chosen-some}
@@ -72,28 +69,18 @@ first_few [] = omega arith
 first_few (x ∷ l) = omega arith
 
 -- ---- room and search
-module _ {space : Space} (ready : Ready space) (candidate : List ℕ) (size : ℕ) (e : size ≡ record_size space.plan.now.n) (old : List ℕ) where
+module _ (space : Space) (candidate : List ℕ) (size : ℕ) (e : size ≡ record_size space.plan.now.n) (old : List ℕ) where
   abbrev n : ℕ
   n = space.plan.now.n
 
-  abbrev bans : List Span
-  bans = plan_bans space.plan.now
-
   abbrev c : Interpretation
   c = interpretation_of n candidate
-
-  abbrev w : Searchable space.table.book.now space.table.rows.now (space_atoms space) n
-  w = ready.table
 
   abbrev P : Program
   P = space_program space
 
   n_is : n ≡ P.atoms
-  n_is = barred-size w bans
-
-  g_is : length (space_atoms space) ≡ branching_count P
-  unfolding branching_count
-  g_is = ap length (barred-listed w bans)
+  n_is = space_size space
 
   size_is : size ≡ record_size P.atoms
   size_is = e ∙ ap record_size n_is
@@ -140,7 +127,7 @@ module _ {space : Space} (ready : Ready space) (candidate : List ℕ) (size : �
         few = first_few (closest (length c) c (stable_models P))
 
         far_told : d ≡ far c (get_or (chosen P c) 0 [])
-        far_told = let t = sym b ∙ near.distance_is (get_or (chosen P c) 0 []) (get_d_member (chosen P c) 0 [] (ltb-true 0 (length (chosen P c)) some)) in cc
+        far_told = let t = sym b ∙ near.distance_is (get_or (chosen P c) 0 []) (entry_in (chosen P c) 0 [] (ltb-true 0 (length (chosen P c)) some)) in cc
 
         distance_told : d ≡ least_distance P c
         unfolding least_distance
@@ -153,7 +140,7 @@ module _ {space : Space} (ready : Ready space) (candidate : List ℕ) (size : �
         unfolding first_of verdict_if room_tests reply_of buffer_of
         state_written_lem eg =
             let q : first_of (room_tests P (length old)) ≡ Ok tt = rw (le-ltb (length old) (record_size P.atoms) (omega (arith, size_is)), some_is) refl in
-            rw q (record { reply_is = λ i. Ok (record { distance = distance_told i; branching = (eg ∙ g_is) i }); buffer_is = back part ∙ ap₂ (λ (x : List ℕ) (k : ℕ). x ++ drop k old) bytes_told size_is })
+            rw q (record { reply_is = λ i. Ok (record { distance = distance_told i; branching = (eg ∙ space_count space) i }); buffer_is = back part ∙ ap₂ (λ (x : List ℕ) (k : ℕ). x ++ drop k old) bytes_told size_is })
 
 -- ---- the program that the table stands for, and the driven layer's
 module _ {P Q : Program} (a : Alike P Q) where

@@ -1,12 +1,12 @@
-// The call for the state closest to a candidate, once its table and plan are made: cause 13 or 14, or that state's record, with the number of
-// facts that differ and g.
+// The call for the state closest to a candidate, once its table and plan are made: cause 13 or 14, or that state's record, with the
+// number of facts that differ and g.
 #![tactic(auto)]
 
 ghost use Rattle.std.specs.Prelude.{◌≡◌, false, length};
 ghost use Rattle.models.specs.Listing.{interpretation_of};
 ghost use Rattle.book.specs.Causes.{first_of};
 ghost use Rattle.candidate.specs.Candidate.{is_bad_candidate};
-ghost use Rattle.search.specs.Space.{Ready, space_program};
+ghost use Rattle.search.specs.Space.{space_program};
 ghost use Rattle.one_call.specs.Reply.{room_tests};
 ghost use Rattle.near_call.specs.Reply.{Answers};
 
@@ -26,8 +26,7 @@ pub struct Nearest {
 // Writes the record of the stable state closest to a candidate. Room for a record comes first: a short buffer is 13 whether or not there is
 // a state.
 pub fn near_found(space: &Space, candidate: &[u8], buffer: &mut [u8]) -> Result<Nearest, Cause>
-    requires ready { Ready space.now }
-    requires candidate_value { is_bad_candidate space.now.plan.now.n candidate.now ≡ false }
+    requires { is_bad_candidate space.now.plan.now.n candidate.now ≡ false }
     ensures { Answers (first_of (room_tests (space_program space.now) (length buffer.old))) (space_program space.now) (interpretation_of space.now.plan.now.n candidate.now) buffer.old result buffer.new }
 {
     let n = space.plan.n;
@@ -39,7 +38,7 @@ pub fn near_found(space: &Space, candidate: &[u8], buffer: &mut [u8]) -> Result<
     match write_nearest(space, &wanted[..n], &mut buffer[0..size]) {
         Some(distance) => Ok(Nearest {
             distance,
-            branching: space.plan.atoms().len(),
+            branching: space.plan.atoms.as_slice().len(),
         }),
         None => Err(Cause::NoStableState),
     }

@@ -27,12 +27,9 @@ use Rattle.accepted.specs.Driven.{layer_tests}
 use Rattle.accepted.proofs.FirstLaws.{accepted-none}
 use Rattle.accepted.proofs.GrantedLaws.{granted}
 use Rattle.base.proofs.Members.{◌∈◌}
-use Rattle.leaf.specs.Searchable.{Searchable}
-use Rattle.plan.specs.Plan.{plan_bans}
-use Rattle.table.specs.declared.Span.{Span}
-use Rattle.search.proofs.AllowedLaws.{barred-listed, barred-size}
-use Rattle.search.specs.Space.{Ready, space_atoms, space_program}
-use Rattle.search.specs.declared.Space.{Space}
+use Rattle.search.specs.Space.{space_atoms, space_program}
+use Rattle.search.specs.declared.space.Space.{Space}
+use Rattle.passes.proofs.SpaceLaws.{space_size, space_count}
 use Rattle.passes.specs.Limit.{has_too_many_branching, has_no_stable_state}
 use Rattle.first.specs.InHand.{record_held}
 use Rattle.std.proofs.Common.{Result, Ok, Err}
@@ -55,25 +52,15 @@ first_record n [] h = absurd (omega arith)
 first_record n (m ∷ ms) h = append-nil (record_of n m)
 
 -- ---- room and search
-module _ {space : Space} (ready : Ready space) (size : ℕ) (e : size ≡ record_size space.plan.now.n) (old : List ℕ) where
+module _ (space : Space) (size : ℕ) (e : size ≡ record_size space.plan.now.n) (old : List ℕ) where
   abbrev n : ℕ
   n = space.plan.now.n
-
-  abbrev bans : List Span
-  bans = plan_bans space.plan.now
-
-  abbrev w : Searchable space.table.book.now space.table.rows.now (space_atoms space) n
-  w = ready.table
 
   abbrev P : Program
   P = space_program space
 
-  g_is : length (space_atoms space) ≡ branching_count P
-  unfolding branching_count
-  g_is = ap length (barred-listed w bans)
-
   size_is : size ≡ record_size P.atoms
-  size_is = e ∙ ap record_size (barred-size w bans)
+  size_is = e ∙ ap record_size (space_size space)
 
   pub room_refused : length old < size → Answers (first_of (room_tests P (length old))) P old (Err BufferTooShort) old
   unfolding first_of verdict_if room_tests reply_of buffer_of
@@ -109,8 +96,8 @@ module _ {space : Space} (ready : Ready space) (size : ℕ) (e : size ≡ record
       state_written_lem b eg =
           let q : first_of (room_tests P (length old)) ≡ Ok tt = rw (le-ltb (length old) (record_size P.atoms) (omega (arith, size_is)), some_is b) refl in
           let r : part ≡ flat (map (record_of P.atoms) (take 1 (stable_models P))) =
-          f.1 ∙ as_listed n (stable_models P) (take (size - 0) old) (some_is b) ∙ ap (λ (k : ℕ). flat (map (record_of k) (take 1 (stable_models P)))) (barred-size w bans) in
-          rw q (record { reply_is = ap Ok (eg ∙ g_is); buffer_is = back part ∙ ap₂ (λ (x : List ℕ) (k : ℕ). x ++ drop k old) r size_is })
+          f.1 ∙ as_listed n (stable_models P) (take (size - 0) old) (some_is b) ∙ ap (λ (k : ℕ). flat (map (record_of k) (take 1 (stable_models P)))) (space_size space) in
+          rw q (record { reply_is = ap Ok (eg ∙ space_count space); buffer_is = back part ∙ ap₂ (λ (x : List ℕ) (k : ℕ). x ++ drop k old) r size_is })
 
 -- ---- the program that the table stands for, and the driven layer's
 module _ {P Q : Program} (a : Alike P Q) where

@@ -3,7 +3,7 @@
 
 ghost use Rattle.std.specs.Prelude.{length};
 ghost use Rattle.book.specs.Causes.{first_of};
-ghost use Rattle.search.specs.Space.{Ready, space_program};
+ghost use Rattle.search.specs.Space.{space_program};
 ghost use Rattle.one_call.specs.Reply.{room_tests, Answers};
 
 use book::Cause;
@@ -14,7 +14,6 @@ use search::Space;
 // Writes the first record and tells g, the number of the branching facts. Room for a record comes first: a short buffer is 13 whether or
 // not there is a state.
 pub fn one_found(space: &Space, buffer: &mut [u8]) -> Result<usize, Cause>
-    requires { Ready space.now }
     ensures { Answers (first_of (room_tests (space_program space.now) (length buffer.old))) (space_program space.now) buffer.old result buffer.new }
 {
     let size = record_size(space.plan.n);
@@ -23,7 +22,7 @@ pub fn one_found(space: &Space, buffer: &mut [u8]) -> Result<usize, Cause>
     }
     let found = write_first(space, &mut buffer[0..size]);
     if found {
-        Ok(space.plan.atoms().len())
+        Ok(space.plan.atoms.as_slice().len())
     } else {
         Err(Cause::NoStableState)
     }

@@ -28,11 +28,12 @@ use Rattle.bans.specs.Bans.{barred}
 use Rattle.setting.specs.Setting.{setting_of}
 use Rattle.leaf.specs.Found.{at_setting, found_by}
 use Rattle.leaf.specs.Searchable.{Searchable}
-use Rattle.search.specs.declared.Space.{Space}
+use Rattle.search.specs.declared.space.Space.{Space}
 use Rattle.search.specs.declared.Turn.{Turn}
 use Rattle.search.specs.Decided.{undecided}
-use Rattle.search.specs.Space.{space_atoms, space_program, Ready, models_left}
-use Rattle.plan.specs.Plan.{plan_bans}
+use Rattle.search.specs.Space.{space_atoms, space_program, models_left}
+use Rattle.search.proofs.ReadyLaws.{space_searchable}
+use Rattle.passes.proofs.SpaceLaws.{space_formed, space_size, space_few}
 use Rattle.search.proofs.AllowedLaws.{barred-formed, barred-size}
 use Rattle.std.specs.Prelude.{Option, Some, None, is_some}
 use Rattle.std.specs.Option.{option_map}
@@ -207,20 +208,23 @@ module _ (atoms : List ℕ) (sure : List Bool) (wanted : Interpretation) (n : �
       go (inr j) = absurd (Memᴰ.not-nil j)
   told_is (x ∷ y ∷ hand) held h m k = absurd h
 
-module _ {book : List ℕ} {rows : List Row} {atoms : List ℕ} {n : ℕ} (w : Searchable book rows atoms n) (bans : List Span) where
+module _ (s : Space) where
   abbrev P : Program
-  P = barred book rows bans n
+  P = space_program s
 
-  few : P.atoms ≤ max_atoms
-  few = subst (λ (k : ℕ). k ≤ max_atoms) (barred-size w bans) w.few
+  abbrev n : ℕ
+  n = s.plan.now.n
+
+  abbrev atoms : List ℕ
+  atoms = space_atoms s
 
   module _ (left : ℕ) (e : left ≡ length atoms) {held' : Option Held} {sure : List Bool} {wanted : Interpretation} {part part' : List ℕ}
       (t : Takes atoms sure wanted n (found_by (at_setting P atoms) (undecided atoms left) (setting_of atoms 0)) None part held' part') where
     all_left : found_by (at_setting P atoms) (undecided atoms left) (setting_of atoms 0) ≡ searched P
-    all_left = ap (λ (k : ℕ). found_by (at_setting P atoms) (drop k atoms) (setting_of atoms 0)) {x = length atoms - left} {y = 0} (omega arith) ∙ found_is w bans
+    all_left = ap (λ (k : ℕ). found_by (at_setting P atoms) (drop k atoms) (setting_of atoms 0)) {x = length atoms - left} {y = 0} (omega arith) ∙ found_is s
 
     met_all : first_among wanted n (searched P) [] ≡ chosen P wanted
-    met_all = ordered P wanted n (barred-size w bans) (searched P) (λ m k. models_into P m (searched-from P (barred-formed w bans) few m k)) (λ m k. searched_into P (barred-formed w bans) few m (models_from P m k))
+    met_all = ordered P wanted n (space_size s) (searched P) (λ m k. models_into P m (searched-from P (space_formed s) (space_few s) m k)) (λ m k. searched_into P (space_formed s) (space_few s) m (models_from P m k))
 
     last : InHand atoms sure wanted n part (chosen P wanted) held' part'
     last = subst (λ (l : List Interpretation). InHand atoms sure wanted n part l held' part') (ap (λ (ms : List Interpretation). first_among wanted n ms []) all_left ∙ met_all) (t part [] (nothing-held atoms sure wanted n part))
@@ -228,14 +232,14 @@ module _ {book : List ℕ} {rows : List Row} {atoms : List ℕ} {n : ℕ} (w : S
     pub nearest_found : Nearest P wanted n part (option_map (λ (h : Held). h.distance) held') part'
     nearest_found = record { found_is = told_if atoms sure wanted n (chosen P wanted) held' last.held_is ∙ chosen-some P wanted; written = last.part_is; distance_is = told_is atoms sure wanted n (chosen P wanted) held' last.held_is }
 
--- from no fact decided
-pub nearest_told : {s : Space} → Ready s → {turn : Turn} → turn ≡ record { left = length (space_atoms s); standing = 0; denied = 0 } → {held : Option Held} {sure : List Bool} {wanted : Interpretation} {part part' : List ℕ}
-    → Takes (space_atoms s) sure wanted s.plan.now.n (models_left s turn) None part held part' → Nearest (space_program s) wanted s.plan.now.n part (option_map (λ (h : Held). h.distance) held) part'
-nearest_told {s} ready e {held} {sure} {wanted} {part} {part'} t =
-    nearest_found ready.table (plan_bans s.plan.now) (length (space_atoms s)) refl
-    (subst (λ (u : Turn). Takes (space_atoms s) sure wanted s.plan.now.n (models_left s u) None part held part') e t)
+  -- from no fact decided
+  module _ {turn : Turn} (e : turn ≡ record { left = length atoms; standing = 0; denied = 0 }) where
+    pub nearest_told : {held : Option Held} {sure : List Bool} {wanted : Interpretation} {part part' : List ℕ}
+        → Takes atoms sure wanted n (models_left s turn) None part held part' → Nearest P wanted n part (option_map (λ (h : Held). h.distance) held) part'
+    nearest_told {held} {sure} {wanted} {part} {part'} t =
+        nearest_found (length atoms) refl
+        (subst (λ (u : Turn). Takes atoms sure wanted n (models_left s u) None part held part') e t)
 
-pub start_apart : {s : Space} → Ready s → {turn : Turn} → turn ≡ record { left = length (space_atoms s); standing = 0; denied = 0 } → (wanted : Interpretation) → length wanted ≤ s.plan.now.n
-    → Apart wanted (undecided (space_atoms s) turn.left) (models_left s turn) turn.left 0
-start_apart {s} ready e wanted low =
-    subst (λ (u : Turn). Apart wanted (undecided (space_atoms s) u.left) (models_left s u) u.left 0) (sym e) (apart-start ready.table (plan_bans s.plan.now) wanted low (length (space_atoms s)) refl _)
+    pub start_apart : (wanted : Interpretation) → length wanted ≤ n → Apart wanted (undecided atoms turn.left) (models_left s turn) turn.left 0
+    start_apart wanted low =
+        subst (λ (u : Turn). Apart wanted (undecided atoms u.left) (models_left s u) u.left 0) (sym e) (apart-start (space_searchable s) s.bans.spans.now wanted low (length atoms) refl _)

@@ -1,3 +1,4 @@
+pub mod SpaceLaws
 pub mod PassLaws
 pub mod StateLaws
 pub mod FirstLaws

@@ -1,26 +1,29 @@
 -- What a call works out before it searches: the layer's table and its branching facts, as the code lends them, cause 12, and the plan.
 -- Assumes nothing.
 use mathlib.Core.Path.{◌≡◌, refl, sym, ap, subst, ◌∙◌}
-use mathlib.Core.Bool.{true, false}
-use mathlib.Core.List.{List}
+use mathlib.Core.Bool.{true, false, false≢true}
+use mathlib.Core.List.{List, []}
 use Prim.Native.Nat.{ℕ, ◌<◌, ◌≤◌}
 use native.Mathlib.Omega.{arith}
 use borrow.Author.Tests.{lt-ltb, le-ltb}
-use lib.ListN.{length, get_or, take}
-use lib.Seq.{length-take-le}
+use lib.ListN.{length, get_or}
+use Rattle.std.proofs.Common.{Result, Ok, Err, MatchResult, is_ok, IfOk, Bor}
+use Rattle.branching.specs.Marks.{Listed}
+use Rattle.book.specs.declared.Cause.{Cause}
 use Rattle.base.specs.Bounds.{max_atoms, max_rules, max_branching}
 use Rattle.base.proofs.Members.{◌∈◌}
 use Rattle.format.specs.Book.{book_of}
-use Rattle.insertion.proofs.SortedLaws.{get_d_member}
+use Rattle.base.proofs.EntryLaws.{entry_in}
 use Rattle.models.specs.Program.{Program, constrained}
 use Rattle.models.specs.Alike.{Alike}
 use Rattle.models.specs.StableModels.{WellFormed}
 use Rattle.models.specs.Branching.{branching_atoms, branching_count}
 use Rattle.models.proofs.AlikeLaws.{alike-count, alike-formed}
 use Rattle.models.proofs.ConstraintLaws.{constrained-atoms}
-use Rattle.bans.specs.Bans.{bodies_of, BansMade}
+use Rattle.bans.specs.Bans.{bodies_of, barred, BansMade}
 use Rattle.table.specs.Rows.{row_count}
-use Rattle.table.specs.Table.{TableMade}
+use Rattle.table.specs.Table.{TableMade, Tabulates}
+use Rattle.table.specs.declared.Table.{Table}
 use Rattle.table.specs.Tabled.{tabled}
 use Rattle.table.specs.declared.Row.{Row}
 use Rattle.table.specs.declared.Span.{Span}
@@ -29,18 +32,33 @@ use Rattle.accepted.specs.Driving.{driven_program}
 use Rattle.accepted.specs.declared.Driving.{Driving}
 use Rattle.accepted.proofs.RecordFacts.{accepted-formed, program_atoms}
 use Rattle.setting.specs.RuleMasks.{Low}
-use Rattle.plan.specs.Plan.{plan_atoms, plan_bans, planned_program, Planned}
-use Rattle.plan.specs.declared.entries.Plan.{Plan}
+use Rattle.plan.specs.Plan.{Planned}
+use Rattle.plan.specs.declared.Plan.{Plan}
 use Rattle.leaf.specs.Searchable.{Searchable}
+use Rattle.search.specs.Ready.{Ready}
 use Rattle.leaf.proofs.FoundLaws.{branching-small}
 use Rattle.passes.specs.Limit.{has_too_many_branching}
 
-module _ (d : Driving) {rows : List Row} {rules : ℕ} (made : TableMade (driven_program d) d.book.now rows rules) (n : ℕ) (e : n ≡ (book_of d.book.now).atoms) where
+-- what is told in place of how many facts branch
+list_in : Result (List ℕ) Cause → List ℕ
+list_in (Ok l) = l
+list_in (Err c) = []
+
+module _ (d : Driving) (t : Table) (m : TableMade (driven_program d) d.book.now t.rows.now) (same : t.book ≡ d.book) (n : ℕ) (e : n ≡ (book_of d.book.now).atoms) where
   abbrev P : Program
   P = driven_program d
 
+  abbrev book : List ℕ
+  book = t.book.now
+
+  abbrev rows : List Row
+  rows = t.rows.now
+
+  made : TableMade P book rows
+  made = subst (λ (b : Bor (List ℕ)). TableMade P b.now rows) (sym same) m
+
   abbrev Q : Program
-  Q = tabled d.book.now (take rules rows) n
+  Q = tabled book rows n
 
   size : n ≡ P.atoms
   size = program_atoms d.book.now d.layer d.off n e
@@ -48,6 +66,9 @@ module _ (d : Driving) {rows : List Row} {rules : ℕ} (made : TableMade (driven
   -- the driven layer's program and the one that its table stands for are alike, given the same constraints
   table-alike : Alike P (constrained Q P.constraints)
   table-alike = lent_alike made size P.constraints refl
+
+  pub tabulates : Tabulates Q book rows
+  tabulates = lent_tabled made size
 
   formed : WellFormed Q
   unfolding constrained
@@ -57,39 +78,56 @@ module _ (d : Driving) {rows : List Row} {rules : ℕ} (made : TableMade (driven
   unfolding branching_count
   same_count = alike-count table-alike ∙ ap length (constrained-atoms Q P.constraints)
 
-  pub lent_few : row_count (take rules rows) ≤ max_rules
-  lent_few = omega (arith, length-take-le rules rows (omega (arith, made.room, made.size)), made.room)
-
-  pub too_many : {count : ℕ} → count ≡ branching_count Q → max_branching < count → has_too_many_branching P ≡ true
+  too_many : {count : ℕ} → count ≡ branching_count Q → max_branching < count → has_too_many_branching P ≡ true
   unfolding has_too_many_branching
   too_many l h = lt-ltb max_branching (branching_count P) (omega (arith, l, same_count))
 
-  module _ (facts : List ℕ) (l : facts ≡ branching_atoms Q) where
+  -- a list that is not too long is handed on, and how many else there would be gives way to a cause
+  pub listed : (counted : Result (List ℕ) ℕ) (facts : List ℕ) (gives : ℕ → Type 0) → Listed Q counted → IfOk counted (λ l. length l ≤ max_branching) → MatchResult counted (λ l. Path (Result (List ℕ) Cause) (Ok facts) (Ok l)) gives
+      → true ≡ is_ok counted → (facts ≡ branching_atoms Q) × (length facts ≤ max_branching)
+  unfolding list_in
+  listed (Ok l) facts gives k few h v = (ap list_in h ∙ k, omega (arith, few, ap (λ (r : Result (List ℕ) Cause). length (list_in r)) h))
+  listed (Err n) facts gives k few h v = absurd (false≢true (sym v))
+
+  pub refused : (counted : Result (List ℕ) ℕ) → Listed Q counted → false ≡ is_ok counted → has_too_many_branching P ≡ true
+  refused (Ok l) k v = absurd (false≢true v)
+  refused (Err n) k v = too_many k.0 k.1
+
+  module _ {facts : List ℕ} (x : (facts ≡ branching_atoms Q) × (length facts ≤ max_branching)) where
+    abbrev l : facts ≡ branching_atoms Q
+    l = x.0
+
+    abbrev h : length facts ≤ max_branching
+    h = x.1
+
     pub listed_low : n ≤ max_atoms → Low facts
     listed_low b i k =
-        let m : get_or facts i 0 ∈ branching_atoms Q = subst (λ (fs : List ℕ). get_or facts i 0 ∈ fs) l (get_d_member facts i 0 k) in
-        omega (arith, tabled-atoms d.book.now (take rules rows) n, branching-small Q formed (get_or facts i 0) m)
+        let m : get_or facts i 0 ∈ branching_atoms Q = subst (λ (fs : List ℕ). get_or facts i 0 ∈ fs) l (entry_in facts i 0 k) in
+        omega (arith, tabled-atoms book rows n, branching-small Q formed (get_or facts i 0) m)
 
-    module _ (h : length facts ≤ max_branching) where
-      pub not_too_many : has_too_many_branching P ≡ false
-      unfolding has_too_many_branching branching_count
-      not_too_many = le-ltb max_branching (branching_count P) (omega (arith, h, ap length l, same_count))
+    pub not_too_many : has_too_many_branching P ≡ false
+    unfolding has_too_many_branching branching_count
+    not_too_many = le-ltb max_branching (branching_count P) (omega (arith, h, ap length l, same_count))
 
-      -- the table and the plan can be searched, and stand for a program that is alike to the driven layer's
-      pub set_up_spans : {bans : List Span} {count : ℕ} → BansMade P.constraints d.book.now bans count → (plan : Plan) → Planned d.book.now (take rules rows) facts plan → plan.n ≡ n → plan_bans plan ≡ take count bans → (0 < n) → n ≤ max_atoms
-          → Searchable d.book.now (take rules rows) (plan_atoms plan) plan.n × Planned d.book.now (take rules rows) (plan_atoms plan) plan × Alike P (planned_program d.book.now (take rules rows) plan)
-      set_up_spans {bans} {count} b plan p en eb some few = (
-        subst (λ (k : ℕ). Searchable d.book.now (take rules rows) (plan_atoms plan) k) (sym en) (record {
+    module _ (plan : Plan) (en : plan.n ≡ n) (bans : List Span) where
+      -- the table and the plan can be searched
+      pub plan_ready : Planned book rows bans facts plan → (0 < n) → n ≤ max_atoms → Ready book rows bans plan
+      plan_ready p some few = record {
+        table = subst (λ (k : ℕ). Searchable book rows plan.atoms k) (sym en) (record {
           formed = formed;
-          table = lent_tabled made size;
+          table = tabulates;
           listed = p.atoms_are ∙ l;
-          rows_few = lent_few;
+          rows_few = made.room;
           atoms_few = omega (arith, ap length p.atoms_are, h);
-          size = sym (tabled-atoms d.book.now (take rules rows) n);
+          size = sym (tabled-atoms book rows n);
           some = some;
           few = few;
-        }),
-        subst (λ (fs : List ℕ). Planned d.book.now (take rules rows) fs plan) (sym p.atoms_are) p,
-        subst (λ (k : ℕ). Alike P (constrained (tabled d.book.now (take rules rows) k) (bodies_of d.book.now (plan_bans plan)))) (sym en)
-            (lent_alike made size (bodies_of d.book.now (plan_bans plan)) (ap (bodies_of d.book.now) eb ∙ b.bodies_are)),
-      )
+        });
+        planned = subst (λ (fs : List ℕ). Planned book rows bans fs plan) (sym p.atoms_are) p;
+      }
+
+      -- and with the constraints they stand for a program that is alike to the driven layer's
+      pub plan_alike : BansMade P.constraints d.book.now bans → Alike P (barred book rows bans plan.n)
+      plan_alike bm =
+          let b : BansMade P.constraints book bans = subst (λ (b : Bor (List ℕ)). BansMade P.constraints b.now bans) (sym same) bm in
+          subst (λ (k : ℕ). Alike P (barred book rows bans k)) (sym en) (lent_alike made size (bodies_of book bans) b.bodies_are)

@@ -5,15 +5,14 @@ use Rattle.models.specs.Program.{Program}
 use Rattle.models.specs.Alike.{Alike}
 use Rattle.book.specs.declared.Cause.{Cause}
 use Rattle.book.specs.declared.Cause.TheVariants.{TooManyBranching}
-use Rattle.search.specs.Space.{Ready, space_program}
-use Rattle.search.specs.declared.Space.{Space}
+use Rattle.search.specs.Space.{space_program}
+use Rattle.search.specs.declared.space.Space.{Space}
 use Rattle.passes.specs.Limit.{has_too_many_branching}
 
--- No more facts branch than a search goes through: the space is of this book, it can be searched, and its program is alike to the driven
--- layer's.
+-- No more facts branch than a search goes through: the space is of this book, and its program is alike to the driven layer's. That it can
+-- be searched each space knows.
 pub record Spans (P : Program) (book : List ℕ) (s : Space) : Type 0 where
   pub of_book : s.table.book.now ≡ book
-  pub ready : Ready s
   pub alike : Alike P (space_program s)
   pub few : has_too_many_branching P ≡ false
 

@@ -5,11 +5,10 @@
 
 ghost use Rattle.std.specs.Prelude.{◌≡◌, not, [], map, ◌++◌, ◌*◌, ◌≤◌, length, take, drop};
 ghost use Rattle.std.specs.Option.{option_map};
-ghost use Rattle.base.specs.Bounds.{max_rules};
 ghost use Rattle.base.specs.Lists.{flat};
 ghost use Rattle.models.specs.Listing.{stable_models, record_size, record_of};
 ghost use Rattle.accepted.specs.Driving.{driven_program};
-ghost use Rattle.search.specs.Space.{space_atoms, space_program, Ready};
+ghost use Rattle.search.specs.Space.{space_atoms, space_program};
 ghost use Rattle.search.specs.Visits.{Asks, RoomFor};
 ghost use Rattle.first.specs.InHand.{record_held};
 ghost use Rattle.passes.specs.Limit.{has_no_stable_state};
@@ -18,37 +17,42 @@ ghost use Rattle.passes.specs.Nearest.{Nearest};
 ghost use Rattle.passes.specs.Tallied.{Passed, Tallied, Bounds};
 
 use accepted::Driving;
-use base::MAX_ATOMS;
+use base::{MAX_ATOMS, MAX_RULES};
 use book::Cause;
 use branching::branching_atoms;
 use first::{Held, Wish, search_first, sure_facts};
 use plan::{Plan, make_plan};
 use search::{Goal, Scratch, Space, Visit, search};
-use table::{Row, Table};
+use table::{NO_ROW, NO_SPAN, Row, Span};
 
-// Makes the table of the rules that count at a driven layer and the plan of a search, in the rows and the plan that are lent: what is
-// searched, unless too many facts branch.
-pub fn set_up<'a, 'b: 'a>(
-    driving: &Driving<'b>,
-    rows: &'a mut [Row],
-    plan: &'a mut Plan,
-) -> Result<Space<'a>, Cause>
-    requires { length rows.old ≡ max_rules }
-    ensures { SetUp (driven_program driving.now) driving.now.book.now result }
-{
-    let n = driving.atom_count();
-    let count = driving.prepare(rows);
-    plan.ban_count = driving.prepare_bans(&mut plan.bans);
-    let table = Table {
-        book: driving.book,
-        rows: &rows[..count],
-    };
-    match branching_atoms(table, n) {
-        Ok(facts) => {
-            make_plan(table, n, facts.as_slice(), plan);
-            Ok(Space { table, plan })
+// What a call works in until it answers: the rows and the constraints that count at its layer, and the plan of its search.
+#[derive(Drop)]
+pub struct Work {
+    rows: [Row; MAX_RULES],
+    bans: [Span; MAX_RULES],
+    plan: Plan,
+}
+
+impl Work {
+    pub fn new() -> Work {
+        Work {
+            rows: [NO_ROW; MAX_RULES],
+            bans: [NO_SPAN; MAX_RULES],
+            plan: Plan::new(),
         }
-        Err(_) => Err(Cause::TooManyBranching),
+    }
+
+    // Makes the table and the constraints of a driven layer, and the plan of a search: what is searched, unless too many facts branch.
+    pub fn set_up<'a, 'b: 'a>(&'a mut self, driving: &Driving<'b>) -> Result<Space<'a>, Cause>
+        ensures { SetUp (driven_program driving.now) driving.now.book.now result }
+    {
+        let Work { rows, bans, plan } = self;
+        let n = driving.atom_count();
+        let table = driving.prepare(rows);
+        let bans = driving.prepare_bans(bans);
+        let facts = branching_atoms(table, n).map_err(|_| Cause::TooManyBranching)?;
+        make_plan(table, bans, n, facts, plan);
+        Ok(Space { table, bans, plan })
     }
 }
 
@@ -56,7 +60,6 @@ pub fn set_up<'a, 'b: 'a>(
 // those lay that the plan was made with.
 #[inline(never)]
 fn pass(space: &Space, goal: &Goal, part: &mut [u8]) -> Visit
-    requires ready { Ready space.now }
     requires asks { Asks goal.now }
     requires room_for { RoomFor goal.now space.now.plan.now.n (length (stable_models (space_program space.now))) part.old }
     ensures { Passed (space_program space.now) (space_atoms space.now) space.now.plan.now.n goal.now part.old result part.new }
@@ -72,20 +75,17 @@ fn pass(space: &Space, goal: &Goal, part: &mut [u8]) -> Visit
 // No fewer than the stable models are, or more than there is room for: as many as there are settings, where there is room for that;
 // else they are counted, no further than one past the room.
 pub fn most_records(space: &Space, room: usize) -> usize
-    requires { Ready space.now }
     ensures { Bounds (length (stable_models (space_program space.now))) room result }
 {
-    let settings: u32 = 1 << (space.plan.atoms().len() as u32);
-    let every = settings as usize;
-    if every <= room {
-        return every;
+    let settings: usize = 1 << space.plan.atoms.as_slice().len();
+    if settings <= room {
+        return settings;
     }
     pass(space, &Goal::Count(room), &mut []).count
 }
 
 // Counts the stable models, and what they weigh for the goal, until it is reached.
 pub fn tally(space: &Space, goal: &Goal) -> Visit
-    requires ready { Ready space.now }
     requires asks { Asks goal.now }
     requires room_for { RoomFor goal.now space.now.plan.now.n (length (stable_models (space_program space.now))) [] }
     ensures { Tallied (space_program space.now) goal.now result.count result.weight }
@@ -96,7 +96,6 @@ pub fn tally(space: &Space, goal: &Goal) -> Visit
 // Writes the records of all stable models, rising, into the front of a part that has the room for them, and says how many there are.
 // Where it has no room at all there are none, and nothing is searched.
 pub fn write_all(space: &Space, part: &mut [u8]) -> usize
-    requires ready { Ready space.now }
     requires n_in_bounds { length (stable_models (space_program space.now)) * record_size space.now.plan.now.n ≤ length part.old }
     ensures { (result ≡ length (stable_models (space_program space.now))) × (part.new ≡ flat (map (record_of space.now.plan.now.n) (stable_models (space_program space.now))) ++ drop (length (stable_models (space_program space.now)) * record_size space.now.plan.now.n) part.old) }
 {
@@ -115,7 +114,6 @@ fn nearest_pass(
     sure: &mut [bool],
     part: &mut [u8],
 ) -> Option<Held>
-    requires ready { Ready space.now }
     requires sure_len { (length sure.old ≡ space.now.plan.now.n) × (length wanted.now ≤ space.now.plan.now.n) }
     requires part_len { length part.old ≡ record_size space.now.plan.now.n }
     ensures { Nearest (space_program space.now) wanted.now space.now.plan.now.n part.old (option_map (λ held. held.distance) result) part.new }
@@ -133,8 +131,8 @@ fn nearest_pass(
 
 // Writes the record of the stable model that is closest to a wanted state, and of equals the first, into a part of a record's size. Says
 // how far it is from what the wanted state has, if there is one.
+#[tactic(auto, using(crate::proofs::SpaceLaws::plan_few))]
 pub fn write_nearest(space: &Space, wanted: &[bool], part: &mut [u8]) -> Option<usize>
-    requires ready { Ready space.now }
     requires wanted_len_bound { length wanted.now ≤ space.now.plan.now.n }
     requires part_len { length part.old ≡ record_size space.now.plan.now.n }
     ensures { Nearest (space_program space.now) wanted.now space.now.plan.now.n part.old result part.new }
@@ -149,7 +147,6 @@ pub fn write_nearest(space: &Space, wanted: &[bool], part: &mut [u8]) -> Option<
 // Writes the first record of all stable models into a part of a record's size, and says whether there is one: where nothing is wanted, all
 // are equally close.
 pub fn write_first(space: &Space, part: &mut [u8]) -> bool
-    requires ready { Ready space.now }
     requires part_len { length part.old ≡ record_size space.now.plan.now.n }
     ensures { (result ≡ not (has_no_stable_state (space_program space.now))) × (part.new ≡ record_held space.now.plan.now.n (take 1 (stable_models (space_program space.now))) part.old) }
 {

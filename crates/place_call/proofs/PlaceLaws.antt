@@ -20,7 +20,7 @@ use Rattle.book.specs.Causes.{Test, verdict_if, first_of, Verdict}
 use Rattle.book.specs.declared.Cause.{Cause}
 use Rattle.book.specs.declared.Cause.TheVariants.{TooManyBranching, NoStableState}
 use Rattle.models.specs.Program.{Program}
-use Rattle.models.specs.StableModels.{Interpretation, atom_holds, StableModel}
+use Rattle.models.specs.StableModels.{Interpretation, atom_holds, StableModel, WellFormed}
 use Rattle.models.specs.Branching.{branching_count}
 use Rattle.models.specs.Listing.{stable_models}
 use Rattle.models.specs.Alike.{Alike}
@@ -30,13 +30,10 @@ use Rattle.accepted.specs.Driven.{layer_tests}
 use Rattle.accepted.proofs.FirstLaws.{accepted-none}
 use Rattle.accepted.proofs.GrantedLaws.{granted}
 use Rattle.search.specs.declared.Goal.TheVariants.{Settle}
-use Rattle.leaf.specs.Searchable.{Searchable}
 use Rattle.search.specs.Visits.{reaches}
-use Rattle.plan.specs.Plan.{plan_bans}
-use Rattle.table.specs.declared.Span.{Span}
-use Rattle.search.proofs.AllowedLaws.{barred-formed, barred-listed, barred-size}
-use Rattle.search.specs.Space.{Ready, space_atoms, space_program}
-use Rattle.search.specs.declared.Space.{Space}
+use Rattle.search.specs.Space.{space_atoms, space_program}
+use Rattle.search.specs.declared.space.Space.{Space}
+use Rattle.passes.proofs.SpaceLaws.{space_formed, space_count, space_few}
 use Rattle.passes.specs.Limit.{has_too_many_branching, has_no_stable_state}
 use Rattle.passes.specs.Tallied.{Tallied}
 use Rattle.passes.proofs.StateLaws.{models_from, models_into, some_state, seen-from, seen_into, tallied_none, tallied_some, settled_weight}
@@ -110,25 +107,15 @@ and_false : (b : Bool) → (b && false) ≡ false
 and_false true = refl
 and_false false = refl
 
-module _ {space : Space} (ready : Ready space) (fact : ℕ) {count standing : ℕ} (t : Tallied (space_program space) (Settle fact) count standing) where
-  abbrev n : ℕ
-  n = space.plan.now.n
-
-  abbrev bans : List Span
-  bans = plan_bans space.plan.now
-
-  abbrev w : Searchable space.table.book.now space.table.rows.now (space_atoms space) n
-  w = ready.table
-
+module _ (space : Space) (fact : ℕ) {count standing : ℕ} (t : Tallied (space_program space) (Settle fact) count standing) where
   abbrev P : Program
   P = space_program space
 
-  few : P.atoms ≤ max_atoms
-  few = subst (λ (k : ℕ). k ≤ max_atoms) (barred-size w bans) w.few
+  formed : WellFormed P
+  formed = space_formed space
 
-  g_is : length (space_atoms space) ≡ branching_count P
-  unfolding branching_count
-  g_is = ap length (barred-listed w bans)
+  few : P.atoms ≤ max_atoms
+  few = space_few space
 
   standing_is : standing ≡ length (filter (λ m. atom_holds m fact) t.seen)
   standing_is = t.weight_is ∙ settled_weight fact t.seen
@@ -143,28 +130,28 @@ module _ {space : Space} (ready : Ready space) (fact : ℕ) {count standing : �
 
   pub refused_state : count ≡ 0 → Err NoStableState ≡ reply_of (first_of (state_tests P)) P fact
   unfolding first_of verdict_if state_tests reply_of
-  refused_state e = rw (tallied_none P (barred-formed w bans) few t e) refl
+  refused_state e = rw (tallied_none P formed few t e) refl
 
   module _ (some : 0 < count) {g : ℕ} (eg : g ≡ length (space_atoms space)) where
     placed : (p : Place) → place_in P fact ≡ p → Ok (record { place = p; branching = g }) ≡ reply_of (first_of (state_tests P)) P fact
     unfolding first_of verdict_if state_tests reply_of
-    placed p e = rw (tallied_some P (barred-formed w bans) few t some) (λ i. Ok (record { place = sym e i; branching = (eg ∙ g_is) i }))
+    placed p e = rw (tallied_some P formed few t some) (λ i. Ok (record { place = sym e i; branching = (eg ∙ space_count space) i }))
 
     pub placed_nowhere : standing ≡ 0 → Ok (record { place = Nowhere; branching = g }) ≡ reply_of (first_of (state_tests P)) P fact
     placed_nowhere e =
-        let s = some_state P (tallied_some P (barred-formed w bans) few t some) in
+        let s = some_state P (tallied_some P formed few t some) in
         placed Nowhere (place_nowhere P fact s.0 s.1
-        (λ m k. fails m (none_pass (λ m. atom_holds m fact) t.seen (sym (standing_is) ∙ e) m (seen_into P (barred-formed w bans) few t (unsettled (inl e)) m k))))
+        (λ m k. fails m (none_pass (λ m. atom_holds m fact) t.seen (sym (standing_is) ∙ e) m (seen_into P formed few t (unsettled (inl e)) m k))))
 
     pub placed_in_some : 0 < standing → standing < count → Ok (record { place = InSome; branching = g }) ≡ reply_of (first_of (state_tests P)) P fact
     placed_in_some a b =
         let y = one_passes (λ m. atom_holds m fact) t.seen (omega (arith, standing_is)) in
         let z = one_fails (λ m. atom_holds m fact) t.seen (omega (arith, standing_is, t.count_is)) in
-        placed InSome (place_in-some P fact y.0 (seen-from P (barred-formed w bans) few t y.0 y.1) y.2 z.0 (seen-from P (barred-formed w bans) few t z.0 z.1) z.2)
+        placed InSome (place_in-some P fact y.0 (seen-from P formed few t y.0 y.1) y.2 z.0 (seen-from P formed few t z.0 z.1) z.2)
 
     pub placed_every : count ≤ standing → Ok (record { place = Every; branching = g }) ≡ reply_of (first_of (state_tests P)) P fact
     placed_every h =
-        placed Every (place-every P fact (λ m k. pass_all (λ m. atom_holds m fact) t.seen (omega (arith, standing_is, t.count_is)) m (seen_into P (barred-formed w bans) few t (unsettled (inr h)) m k)))
+        placed Every (place-every P fact (λ m k. pass_all (λ m. atom_holds m fact) t.seen (omega (arith, standing_is, t.count_is)) m (seen_into P formed few t (unsettled (inr h)) m k)))
 
 -- ---- the program that the table stands for, and the driven layer's
 module _ {P Q : Program} (a : Alike P Q) (fact : ℕ) where

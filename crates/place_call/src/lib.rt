@@ -4,19 +4,19 @@
 
 ghost use Rattle.std.specs.Prelude.{◌≡◌};
 ghost use Rattle.book.specs.Causes.{first_of};
-ghost use Rattle.search.specs.Space.{Ready, space_program};
+ghost use Rattle.search.specs.Space.{space_program};
 ghost use Rattle.place_call.specs.Reply.{state_tests, reply_of};
 
 use book::Cause;
 use passes::tally;
 use search::{Goal, Space};
 
-// In which of the stable states a fact stands.
+// In which of the stable states a fact stands, with the number by which it is told.
 #[derive(Clone, Copy, Debug, PartialEq, Eq)]
 pub enum Place {
-    Every,
-    InSome,
-    Nowhere,
+    Nowhere = 0,
+    InSome = 1,
+    Every = 2,
 }
 
 // What is told of a fact: its place, and g, the number of the branching facts.
@@ -28,12 +28,11 @@ pub struct Placed {
 
 // One pass of the search, which stops once the fact stands in some but not in all of the stable models met.
 pub fn place_found(space: &Space, fact: usize) -> Result<Placed, Cause>
-    requires { Ready space.now }
     ensures { result ≡ reply_of (first_of (state_tests (space_program space.now))) (space_program space.now) fact }
 {
     let counts = tally(space, &Goal::Settle(fact));
     let standing = counts.weight;
-    let branching = space.plan.atoms().len();
+    let branching = space.plan.atoms.as_slice().len();
     if counts.count == 0 {
         return Err(Cause::NoStableState);
     }

@@ -8,8 +8,8 @@ use Rattle.count_call.proofs.count_found.Goals as goal
 
 pub tally-counts-requires : goal.tally-counts-requires
 tally-counts-requires c =
-    record { ready = c.requires.ready; asks = asks_fit c.args.codes c.requires.stack_fits; room_for = fit_room c.args.codes _ _ [] }
+    record { asks = asks_fit c.args.codes c.requires; room_for = fit_room c.args.codes _ _ [] }
 
 pub returns : goal.returns
 returns c =
-    counted c.requires.ready c.tally-counts.ensures (ap length c.atoms.ensures)
+    counted c.args.space.now c.tally-counts.ensures (ap length c.as_slice.ensures.value)

@@ -4,42 +4,41 @@ use Rattle.std.proofs.Common.{rules, Err}
 use Rattle.drive.proofs.DriveLaws.{limit_is, alike_is, bad_is, near_of_layer, near_of_ten, near_of_twelve, neared}
 use Prim.Native.Nat.{ℕ}
 use Rattle.candidate.specs.Candidate.{is_bad_candidate}
-use Rattle.plan.specs.Plan.{plan_bans}
-use Rattle.search.proofs.AllowedLaws.{barred-size}
+use Rattle.passes.proofs.SpaceLaws.{space_size}
 use Rattle.drive.proofs.nearest.Goals as goal
 
 pub returns-in_err-driving-clause-answer : goal.returns-in_err-driving-clause-answer
 returns-in_err-driving-clause-answer c =
-    let refused = (near_of_layer c.args.book.now c.args.layer c.args.off c.args.candidate.now c.args.buffer.now _ c.in_err-driving.ensures.verdict).0 in search (rules, refused)
+    let refused = (near_of_layer _ _ _ c.args.candidate.now c.args.buffer.now c.in_err-driving.ensures.verdict).0 in search (rules, refused)
 
 pub returns-in_err-driving-clause-bytes : goal.returns-in_err-driving-clause-bytes
 returns-in_err-driving-clause-bytes c =
-    (near_of_layer c.args.book.now c.args.layer c.args.off c.args.candidate.now c.args.buffer.now _ c.in_err-driving.ensures.verdict).1
+    (near_of_layer _ _ _ c.args.candidate.now c.args.buffer.now c.in_err-driving.ensures.verdict).1
 
 pub returns-then-bad_candidate-clause-answer : goal.returns-then-bad_candidate-clause-answer
 returns-then-bad_candidate-clause-answer c =
-    (near_of_ten c.args.book.now c.args.layer c.args.off c.args.candidate.now c.args.buffer.now c.in_ok-driving.ensures.verdict (bad_is c.args.book.now c.args.layer c.args.off c.in_ok-driving.driving c.in_ok-driving.ensures.driving c.atom_count.ensures.0 c.args.candidate.now c.bad_candidate.ensures ∙ c.if-bad_candidate.true)).0
+    (near_of_ten _ _ _ c.args.candidate.now c.args.buffer.now c.in_ok-driving.ensures.verdict (bad_is _ _ _ c.in_ok-driving.driving c.in_ok-driving.ensures.driving c.atom_count.ensures.0 c.args.candidate.now c.bad_candidate.ensures ∙ c.if-bad_candidate.true)).0
 
 pub returns-then-bad_candidate-clause-bytes : goal.returns-then-bad_candidate-clause-bytes
 returns-then-bad_candidate-clause-bytes c =
-    (near_of_ten c.args.book.now c.args.layer c.args.off c.args.candidate.now c.args.buffer.now c.in_ok-driving.ensures.verdict (bad_is c.args.book.now c.args.layer c.args.off c.in_ok-driving.driving c.in_ok-driving.ensures.driving c.atom_count.ensures.0 c.args.candidate.now c.bad_candidate.ensures ∙ c.if-bad_candidate.true)).1
+    (near_of_ten _ _ _ c.args.candidate.now c.args.buffer.now c.in_ok-driving.ensures.verdict (bad_is _ _ _ c.in_ok-driving.driving c.in_ok-driving.ensures.driving c.atom_count.ensures.0 c.args.candidate.now c.bad_candidate.ensures ∙ c.if-bad_candidate.true)).1
 
 pub returns-in_err-space-clause-answer : goal.returns-in_err-space-clause-answer
 returns-in_err-space-clause-answer c =
-    let refused = ap Err c.in_err-space.ensures.0 ∙ (near_of_twelve c.args.book.now c.args.layer c.args.off c.args.candidate.now c.args.buffer.now c.in_ok-driving.ensures.verdict (bad_is c.args.book.now c.args.layer c.args.off c.in_ok-driving.driving c.in_ok-driving.ensures.driving c.atom_count.ensures.0 c.args.candidate.now c.bad_candidate.ensures ∙ c.if-bad_candidate.false) (limit_is c.args.book.now c.args.layer c.args.off c.in_ok-driving.driving c.in_ok-driving.ensures.driving c.in_err-space.ensures.1)).0 in search (rules, refused)
+    let refused = ap Err c.in_err-space.ensures.0 ∙ (near_of_twelve _ _ _ c.args.candidate.now c.args.buffer.now c.in_ok-driving.ensures.verdict (bad_is _ _ _ c.in_ok-driving.driving c.in_ok-driving.ensures.driving c.atom_count.ensures.0 c.args.candidate.now c.bad_candidate.ensures ∙ c.if-bad_candidate.false) (limit_is _ _ _ c.in_ok-driving.driving c.in_ok-driving.ensures.driving c.in_err-space.ensures.1)).0 in search (rules, refused)
 
 pub returns-in_err-space-clause-bytes : goal.returns-in_err-space-clause-bytes
 returns-in_err-space-clause-bytes c =
-    (near_of_twelve c.args.book.now c.args.layer c.args.off c.args.candidate.now c.args.buffer.now c.in_ok-driving.ensures.verdict (bad_is c.args.book.now c.args.layer c.args.off c.in_ok-driving.driving c.in_ok-driving.ensures.driving c.atom_count.ensures.0 c.args.candidate.now c.bad_candidate.ensures ∙ c.if-bad_candidate.false) (limit_is c.args.book.now c.args.layer c.args.off c.in_ok-driving.driving c.in_ok-driving.ensures.driving c.in_err-space.ensures.1)).1
+    (near_of_twelve _ _ _ c.args.candidate.now c.args.buffer.now c.in_ok-driving.ensures.verdict (bad_is _ _ _ c.in_ok-driving.driving c.in_ok-driving.ensures.driving c.atom_count.ensures.0 c.args.candidate.now c.bad_candidate.ensures ∙ c.if-bad_candidate.false) (limit_is _ _ _ c.in_ok-driving.driving c.in_ok-driving.ensures.driving c.in_err-space.ensures.1)).1
 
-pub near_found-requires-clause-candidate_value : goal.near_found-requires-clause-candidate_value
-near_found-requires-clause-candidate_value c =
-    ap (λ (k : ℕ). is_bad_candidate k c.args.candidate.now) (barred-size c.in_ok-space.ensures.ready.table (plan_bans c.in_ok-space.space.plan.now) ∙ sym (alike_is c.args.book.now c.args.layer c.args.off c.in_ok-driving.driving c.in_ok-driving.ensures.driving c.in_ok-space.ensures.alike).atoms_same) ∙ (bad_is c.args.book.now c.args.layer c.args.off c.in_ok-driving.driving c.in_ok-driving.ensures.driving c.atom_count.ensures.0 c.args.candidate.now c.bad_candidate.ensures ∙ c.if-bad_candidate.false)
+pub near_found-requires : goal.near_found-requires
+near_found-requires c =
+    ap (λ (k : ℕ). is_bad_candidate k c.args.candidate.now) (space_size c.in_ok-space.space ∙ sym (alike_is _ _ _ c.in_ok-driving.driving c.in_ok-driving.ensures.driving c.in_ok-space.ensures.alike).atoms_same) ∙ (bad_is _ _ _ c.in_ok-driving.driving c.in_ok-driving.ensures.driving c.atom_count.ensures.0 c.args.candidate.now c.bad_candidate.ensures ∙ c.if-bad_candidate.false)
 
 pub returns-clause-answer : goal.returns-clause-answer
 returns-clause-answer c =
-    (neared c.args.book.now c.args.layer c.args.off c.args.candidate.now c.args.buffer.now c.in_ok-driving.ensures.verdict (bad_is c.args.book.now c.args.layer c.args.off c.in_ok-driving.driving c.in_ok-driving.ensures.driving c.atom_count.ensures.0 c.args.candidate.now c.bad_candidate.ensures ∙ c.if-bad_candidate.false) (limit_is c.args.book.now c.args.layer c.args.off c.in_ok-driving.driving c.in_ok-driving.ensures.driving c.in_ok-space.ensures.few) (alike_is c.args.book.now c.args.layer c.args.off c.in_ok-driving.driving c.in_ok-driving.ensures.driving c.in_ok-space.ensures.alike) _ (barred-size c.in_ok-space.ensures.ready.table (plan_bans c.in_ok-space.space.plan.now)) c.near_found.ensures).0
+    (neared _ _ _ c.args.candidate.now c.args.buffer.now c.in_ok-driving.ensures.verdict (bad_is _ _ _ c.in_ok-driving.driving c.in_ok-driving.ensures.driving c.atom_count.ensures.0 c.args.candidate.now c.bad_candidate.ensures ∙ c.if-bad_candidate.false) (limit_is _ _ _ c.in_ok-driving.driving c.in_ok-driving.ensures.driving c.in_ok-space.ensures.few) (alike_is _ _ _ c.in_ok-driving.driving c.in_ok-driving.ensures.driving c.in_ok-space.ensures.alike) _ (space_size c.in_ok-space.space) c.near_found.ensures).0
 
 pub returns-clause-bytes : goal.returns-clause-bytes
 returns-clause-bytes c =
-    (neared c.args.book.now c.args.layer c.args.off c.args.candidate.now c.args.buffer.now c.in_ok-driving.ensures.verdict (bad_is c.args.book.now c.args.layer c.args.off c.in_ok-driving.driving c.in_ok-driving.ensures.driving c.atom_count.ensures.0 c.args.candidate.now c.bad_candidate.ensures ∙ c.if-bad_candidate.false) (limit_is c.args.book.now c.args.layer c.args.off c.in_ok-driving.driving c.in_ok-driving.ensures.driving c.in_ok-space.ensures.few) (alike_is c.args.book.now c.args.layer c.args.off c.in_ok-driving.driving c.in_ok-driving.ensures.driving c.in_ok-space.ensures.alike) _ (barred-size c.in_ok-space.ensures.ready.table (plan_bans c.in_ok-space.space.plan.now)) c.near_found.ensures).1
+    (neared _ _ _ c.args.candidate.now c.args.buffer.now c.in_ok-driving.ensures.verdict (bad_is _ _ _ c.in_ok-driving.driving c.in_ok-driving.ensures.driving c.atom_count.ensures.0 c.args.candidate.now c.bad_candidate.ensures ∙ c.if-bad_candidate.false) (limit_is _ _ _ c.in_ok-driving.driving c.in_ok-driving.ensures.driving c.in_ok-space.ensures.few) (alike_is _ _ _ c.in_ok-driving.driving c.in_ok-driving.ensures.driving c.in_ok-space.ensures.alike) _ (space_size c.in_ok-space.space) c.near_found.ensures).1

@@ -7,16 +7,16 @@ use Rattle.drive.proofs.place.Goals as goal
 
 pub returns-in_err-driving : goal.returns-in_err-driving
 returns-in_err-driving c =
-    let refused = place_of_layer c.args.book.now c.args.layer c.args.off c.args.fact _ c.in_err-driving.ensures.verdict in search (rules, refused)
+    let refused = place_of_layer _ _ _ c.args.fact c.in_err-driving.ensures.verdict in search (rules, refused)
 
 pub returns-then-atom_count-fact : goal.returns-then-atom_count-fact
 returns-then-atom_count-fact c =
-    place_of_eleven c.args.book.now c.args.layer c.args.off c.args.fact c.in_ok-driving.ensures.verdict (omega (arith, atoms_is c.args.book.now c.args.layer c.args.off c.in_ok-driving.driving c.in_ok-driving.ensures.driving c.atom_count.ensures.0, c.if-atom_count-fact.true))
+    place_of_eleven _ _ _ c.args.fact c.in_ok-driving.ensures.verdict (omega (arith, atoms_is _ _ _ c.in_ok-driving.driving c.in_ok-driving.ensures.driving c.atom_count.ensures.0, c.if-atom_count-fact.true))
 
 pub returns-in_err-space : goal.returns-in_err-space
 returns-in_err-space c =
-    let refused = ap Err c.in_err-space.ensures.0 ∙ place_of_twelve c.args.book.now c.args.layer c.args.off c.args.fact c.in_ok-driving.ensures.verdict (omega (arith, atoms_is c.args.book.now c.args.layer c.args.off c.in_ok-driving.driving c.in_ok-driving.ensures.driving c.atom_count.ensures.0, c.if-atom_count-fact.false)) (limit_is c.args.book.now c.args.layer c.args.off c.in_ok-driving.driving c.in_ok-driving.ensures.driving c.in_err-space.ensures.1) in search (rules, refused)
+    let refused = ap Err c.in_err-space.ensures.0 ∙ place_of_twelve _ _ _ c.args.fact c.in_ok-driving.ensures.verdict (omega (arith, atoms_is _ _ _ c.in_ok-driving.driving c.in_ok-driving.ensures.driving c.atom_count.ensures.0, c.if-atom_count-fact.false)) (limit_is _ _ _ c.in_ok-driving.driving c.in_ok-driving.ensures.driving c.in_err-space.ensures.1) in search (rules, refused)
 
 pub returns : goal.returns
 returns c =
-    placed c.args.book.now c.args.layer c.args.off c.args.fact c.in_ok-driving.ensures.verdict (omega (arith, atoms_is c.args.book.now c.args.layer c.args.off c.in_ok-driving.driving c.in_ok-driving.ensures.driving c.atom_count.ensures.0, c.if-atom_count-fact.false)) (limit_is c.args.book.now c.args.layer c.args.off c.in_ok-driving.driving c.in_ok-driving.ensures.driving c.in_ok-space.ensures.few) (alike_is c.args.book.now c.args.layer c.args.off c.in_ok-driving.driving c.in_ok-driving.ensures.driving c.in_ok-space.ensures.alike) _ c.place_found.ensures
+    placed _ _ _ c.args.fact c.in_ok-driving.ensures.verdict (omega (arith, atoms_is _ _ _ c.in_ok-driving.driving c.in_ok-driving.ensures.driving c.atom_count.ensures.0, c.if-atom_count-fact.false)) (limit_is _ _ _ c.in_ok-driving.driving c.in_ok-driving.ensures.driving c.in_ok-space.ensures.few) (alike_is _ _ _ c.in_ok-driving.driving c.in_ok-driving.ensures.driving c.in_ok-space.ensures.alike) _ c.place_found.ensures

@@ -1,13 +1,13 @@
 -- Every stable model is met, and their records stand in front (`all-written`); where there is no room at all there are none
 -- (`none_written`).
 use Rattle.std.proofs.Common.{rules, refl}
-use Rattle.plan.specs.Plan.{plan_bans}
+use Rattle.passes.proofs.SpaceLaws.{space_some}
 use Rattle.passes.proofs.PassLaws.{asks_list, list_room, none_written, all_counted, all-written}
 use Rattle.passes.proofs.write_all.Goals as goal
 
 pub returns-then-is_empty : goal.returns-then-is_empty
 returns-then-is_empty c =
-    none_written c.args.space.now.plan.now.n _ c.args.part.now c.requires.ready.table.some c.requires.n_in_bounds (search rules)
+    none_written c.args.space.now.plan.now.n _ c.args.part.now (space_some c.args.space.now) c.requires.n_in_bounds (search rules)
 
 pub pass-requires-clause-asks : goal.pass-requires-clause-asks
 pass-requires-clause-asks c = asks_list
@@ -17,4 +17,4 @@ pass-requires-clause-room_for c = list_room c.args.space.now.plan.now.n _ c.args
 
 pub returns : goal.returns
 returns c =
-    (all_counted c.requires.ready.table (plan_bans c.args.space.now.plan.now) c.pass.ensures refl, all-written c.requires.ready.table (plan_bans c.args.space.now.plan.now) c.pass.ensures refl)
+    (all_counted c.args.space.now c.pass.ensures refl, all-written c.args.space.now c.pass.ensures refl)

@@ -9,20 +9,20 @@ use Rattle.place_call.proofs.place_found.Goals as goal
 
 pub tally-counts-requires : goal.tally-counts-requires
 tally-counts-requires c =
-    record { ready = c.requires; asks = asks_settle c.args.fact; room_for = settle_room c.args.fact _ _ [] }
+    record { asks = asks_settle c.args.fact; room_for = settle_room c.args.fact _ _ [] }
 
 pub returns-then-counts-eq0 : goal.returns-then-counts-eq0
 returns-then-counts-eq0 c =
-    refused_state c.requires c.args.fact c.tally-counts.ensures c.if-counts-eq0.true
+    refused_state c.args.space.now c.args.fact c.tally-counts.ensures c.if-counts-eq0.true
 
 pub returns-then-standing-eq0 : goal.returns-then-standing-eq0
 returns-then-standing-eq0 c =
-    placed_nowhere c.requires c.args.fact c.tally-counts.ensures (omega (arith, c.if-counts-eq0.false)) (ap length c.atoms-branching.ensures) (omega (arith, c.if-standing-eq0.true))
+    placed_nowhere c.args.space.now c.args.fact c.tally-counts.ensures (omega (arith, c.if-counts-eq0.false)) (ap length c.as_slice-branching.ensures.value) (omega (arith, c.if-standing-eq0.true))
 
 pub returns-then-standing-counts : goal.returns-then-standing-counts
 returns-then-standing-counts c =
-    placed_in_some c.requires c.args.fact c.tally-counts.ensures (omega (arith, c.if-counts-eq0.false)) (ap length c.atoms-branching.ensures) (omega (arith, c.if-standing-eq0.false)) c.if-standing-counts.true
+    placed_in_some c.args.space.now c.args.fact c.tally-counts.ensures (omega (arith, c.if-counts-eq0.false)) (ap length c.as_slice-branching.ensures.value) (omega (arith, c.if-standing-eq0.false)) c.if-standing-counts.true
 
 pub returns-else-standing-counts : goal.returns-else-standing-counts
 returns-else-standing-counts c =
-    placed_every c.requires c.args.fact c.tally-counts.ensures (omega (arith, c.if-counts-eq0.false)) (ap length c.atoms-branching.ensures) c.if-standing-counts.false
+    placed_every c.args.space.now c.args.fact c.tally-counts.ensures (omega (arith, c.if-counts-eq0.false)) (ap length c.as_slice-branching.ensures.value) c.if-standing-counts.false
