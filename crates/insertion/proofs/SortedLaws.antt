@@ -5,17 +5,12 @@ use mathlib.Core.Logic.{◌⊎◌, inl, inr}
 use mathlib.Core.Bool.{Bool, true, false}
 use mathlib.Core.List.Memᴰ
 use mathlib.Core.List.{List, [], ◌∷◌, ◌++◌, map}
-use Prim.Native.Nat.{ℕ, zero, suc, ◌+◌, ◌<◌}
+use Prim.Native.Nat.{ℕ, zero, suc, ◌+◌}
 use native.Mathlib.Omega.{arith}
 use lib.Dec.{T}
-use lib.ListN.{length, get_or, take, drop, take-append-drop}
+use lib.ListN.{length, take, drop, take-append-drop}
 use Rattle.base.proofs.Members.{◌∈◌}
 use Rattle.insertion.specs.Sorted.{insert_past, insert_by, insert_all, Up}
-
-pub get_d_member : {A : Type 0} (xs : List A) (i : ℕ) (d : A) → i < length xs → get_or xs i d ∈ xs
-get_d_member [] i d h = absurd (omega arith)
-get_d_member (x ∷ xs) zero d h = Memᴰ.head refl
-get_d_member (x ∷ xs) (suc i) d h = Memᴰ.tail (get_d_member xs i d (omega arith))
 
 pub take-from : {A : Type 0} (i : ℕ) (xs : List A) (z : A) → z ∈ take i xs → z ∈ xs
 take-from {A} i xs z m = subst (λ (l : List A). z ∈ l) (take-append-drop i xs) (Memᴰ.append_left (drop i xs) m)

@@ -14,7 +14,7 @@ use Rattle.base.specs.Lists.{flat, filter, up_to}
 use Rattle.base.proofs.Members.{◌∈◌, filter_into}
 use Rattle.base.proofs.UpTo.{passed, up_to_has}
 use Rattle.format.specs.Book.{book_of}
-use Rattle.insertion.proofs.SortedLaws.{get_d_member}
+use Rattle.base.proofs.EntryLaws.{entry_in}
 use Rattle.models.specs.Program.{Program, program_at}
 use Rattle.models.specs.StableModels.{Interpretation, atom_holds, StableModel}
 use Rattle.models.specs.Listing.{stable_models, record_size, record_of, interpretation_of}
@@ -97,7 +97,7 @@ module _ (book : List ℕ) (layer off : ℕ) (candidate old : List ℕ) where
 
     member : m ∈ chosen P c
     unfolding m
-    member = subst (λ (l : List Interpretation). get_or (nearest P c) 0 [] ∈ l) same (get_d_member (nearest P c) 0 [] some)
+    member = subst (λ (l : List Interpretation). get_or (nearest P c) 0 [] ∈ l) same (entry_in (nearest P c) 0 [] some)
 
     listed : m ∈ stable_models P
     listed = chosen-listed P c m member
