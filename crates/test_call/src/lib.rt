@@ -19,7 +19,9 @@ use filling::Hints;
 use table::{NO_ROW, NO_SPAN};
 use tester::is_stable;
 
-// Whether the body of a constraint that counts at the layer holds in a state.
+// Whether the body of a constraint that counts at the layer holds in a state. In a frame of its own, so that its array takes the stack where
+// the table's lies afterwards.
+#[inline(never)]
 fn forbids(driving: &Driving, m: &[bool]) -> bool
     ensures { result ≡ any (all (holds m.now)) (driven_program driving.now).constraints }
 {
