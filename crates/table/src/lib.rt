@@ -199,7 +199,7 @@ pub fn opposite(h: usize) -> usize
 
 // The name of a literal.
 #[tactic(auto, using(crate::proofs::NameLaws::named_negated, crate::proofs::NameLaws::named_plain))]
-fn name_of(l: Literal) -> usize
+pub fn name_of(l: Literal) -> usize
     requires { l.atom < max_atoms }
     ensures { (literal_named result ≡ l) × (result < max_names) }
 {
