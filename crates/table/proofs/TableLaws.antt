@@ -6,12 +6,15 @@ use mathlib.Core.Bool.{Bool, not, ◌&&◌, ◌||◌}
 use mathlib.Core.List.Memᴰ
 use mathlib.Core.List.{List, map}
 use Prim.Native.Nat.{ℕ, ◌*◌, ◌-◌, ◌%◌, ◌^◌, ◌<◌}
-use native.Mathlib.Decide.{ℕ_discrete}
+use native.Mathlib.Decide.{dec_lt, ℕ_discrete}
 use native.Mathlib.Omega.{arith}
 use borrow.Author.Tests.{eq-eqb, ne_eqb}
-use lib.Bits.{bit_or, bit_and, bit_xor}
+use lib.Bits.{bit_or, bit_and}
 use lib.Dec.{T, eqb, eqb_refl, eqb→eq}
 use lib.ListN.{get_or, drop}
+use Rattle.std.specs.Int.{w32}
+use Rattle.std.proofs.lemmas.Nat.{or_of_32}
+use Rattle.std.proofs.lemmas.Nat.Bits.{bit_at_and, bit_at_not, bit_at_above}
 use Rattle.base.specs.Bounds.{max_layers}
 use Rattle.base.specs.Lists.{filter}
 use Rattle.layers.specs.Layers.{below}
@@ -58,9 +61,18 @@ module _ (lower : List ℕ) (layer off : ℕ) (h : layer < max_layers) where
       own : i ≡ layer → bit_of (1 * 2 ^ layer % 4294967296) i ≡ 1
       own e = rw (bits.pow-fits layer h, e) (bits.bit-same layer)
 
-  pub mask_counts : RelevantLayers lower layer off (bit_xor layer_mask (bit_and layer_mask off))
+  -- a bit of what is left: those behind the 32nd are clear on both sides
+  without_off : get_or lower layer 0 < 2 ^ 32 → off < 2 ^ 32 → (i : ℕ) → bit_of (bit_and layer_mask (4294967295 - off)) i ≡ bit_of layer_mask i - bit_of off i
+  without_off kl ko i = go (dec_lt i 32)
+    where
+      go : Dec (i < 32) → bit_of (bit_and layer_mask (4294967295 - off)) i ≡ bit_of layer_mask i - bit_of off i
+      go (yes k) = omega (arith, bit_at_and layer_mask (4294967295 - off) i, bit_at_not w32 off i ko k, bits.bit-small layer_mask i)
+      go (no n) =
+          omega (arith, bit_at_and layer_mask (4294967295 - off) i, bit_at_above layer_mask 32 i (or_of_32 (get_or lower layer 0) (1 * 2 ^ layer % 4294967296) kl (omega arith)) (omega arith))
+
+  pub mask_counts : get_or lower layer 0 < 2 ^ 32 → off < 2 ^ 32 → RelevantLayers lower layer off (bit_and layer_mask (4294967295 - off))
   unfolding layer_counts in_set
-  mask_counts i =
+  mask_counts kl ko i =
       split (ℕ_discrete x 1) (ℕ_discrete y 1) ∙ ap (λ (c : Bool). c && not (eqb y 1)) (mask-layers i)
     where
       x : ℕ
@@ -69,10 +81,10 @@ module _ (lower : List ℕ) (layer off : ℕ) (h : layer < max_layers) where
       y : ℕ
       y = bit_of off i
 
-      split : Dec (x ≡ 1) → Dec (y ≡ 1) → eqb (bit_of (bit_xor layer_mask (bit_and layer_mask off)) i) 1 ≡ (eqb x 1 && not (eqb y 1))
-      split (yes e) (yes f) = rw (bits.without layer_mask off i, e, f) refl
-      split (yes e) (no f) = rw (bits.without layer_mask off i, e, ne_eqb y 1 f) (eq-eqb (1 - y) 1 (omega (arith, bits.bit-small off i)))
-      split (no e) d = rw (bits.without layer_mask off i, ne_eqb x 1 e) (ne_eqb (x - y) 1 (λ z. omega (arith, bits.bit-small layer_mask i)))
+      split : Dec (x ≡ 1) → Dec (y ≡ 1) → eqb (bit_of (bit_and layer_mask (4294967295 - off)) i) 1 ≡ (eqb x 1 && not (eqb y 1))
+      split (yes e) (yes f) = rw (without_off kl ko i, e, f) refl
+      split (yes e) (no f) = rw (without_off kl ko i, e, ne_eqb y 1 f) (eq-eqb (1 - y) 1 (omega (arith, bits.bit-small off i)))
+      split (no e) d = rw (without_off kl ko i, ne_eqb x 1 e) (ne_eqb (x - y) 1 (λ z. omega (arith, bits.bit-small layer_mask i)))
 
 module _ (book : List ℕ) (first : ℕ) (lower : List ℕ) (w : Prepared book first lower) (layer off : ℕ) (h : layer < max_layers) (mask : ℕ) (counts : RelevantLayers lower layer off mask) where
   rule_low : (r : Rule) → r ∈ (book_of book).rules → r.layer < max_layers

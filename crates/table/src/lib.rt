@@ -77,17 +77,18 @@ pub fn span_bytes(book: &[u8], span: Span) -> &[u8]
     ensures { result.now ≡ span_bytes book.now span }
 {
     let from = span.start as usize;
-    &book[from..from + span.size as usize]
+    &book[from..from + usize::from(span.size)]
 }
 
 // Whether the mask has the layer.
+// Kept: layers' `bit_of` and leaf's `stands` test a bit too: one function below all three is no plainer than the test that it would have.
 // Kept: the layer's bound in a clause: a type for that one bound would be turned into the number at each use.
 #[tactic(auto, using(layers::proofs::WarshallLaws::test_bit))]
 pub fn has_layer(mask: u32, layer: usize) -> bool
     requires { layer < max_layers }
     ensures { result ≡ eqb (bit_of mask layer) 1 }
 {
-    (mask >> (layer as u32)) & 1 == 1
+    (mask >> layer) & 1 == 1
 }
 
 // The rows of a table, with the book that their bodies lie in.
@@ -106,6 +107,7 @@ impl<'a> Table<'a> {
     }
 
     // Row j, with the table that it stands in.
+    // Kept: an iterator over rows is no plainer: what a loop above has done is said by how many rows are done, the loop's number.
     pub fn row(self, j: usize) -> TableRow<'a>
         requires { j < row_count self.rows.now }
         ensures table_is { result.table ≡ self.entry }
@@ -143,14 +145,14 @@ impl<'a> TableRow<'a> {
     pub fn head(self) -> usize
         ensures { (result ≡ head_name self.entry.table.rows.now self.entry.j) × (result < max_names) }
     {
-        self.row().head as usize
+        usize::from(self.row().head)
     }
 
     // Its layer.
     pub fn layer(self) -> usize
         ensures { (result ≡ row_layer self.entry.table.rows.now self.entry.j) × (result < max_layers) }
     {
-        self.row().layer as usize
+        usize::from(self.row().layer)
     }
 
     // The mask of the layers in which it overrides rules.
@@ -185,7 +187,7 @@ impl<'a> TableRow<'a> {
 }
 
 // The name of the opposite literal.
-// Kept: a literal as a number is no plainer as a struct: rows hold it in 16 bits, and masks are found by it, so it would be turned back.
+// Kept: a literal as a number is no plainer as a struct: rows hold it in 16 bits and masks are found by it, so it would be turned back.
 #[tactic(auto, using(crate::proofs::NameLaws::opposite_low, crate::proofs::NameLaws::opposite_high))]
 pub fn opposite(h: usize) -> usize
     requires { h < max_names }
@@ -241,7 +243,7 @@ fn head_layers(rows: &[Row]) -> [u32; MAX_NAMES]
 {
     let mut masks = [0; MAX_NAMES];
     for row in rows {
-        masks[row.head as usize] |= 1 << row.layer;
+        masks[usize::from(row.head)] |= 1 << row.layer;
     }
     masks
 }
@@ -271,8 +273,8 @@ pub fn overridden_layers(book: &[u8], rows: &mut [Row], lower: &[u32; MAX_LAYERS
 {
     let heads = head_layers(rows);
     for row in rows.iter_mut() {
-        let h = row.head as usize;
-        let mask = heads[opposite(h)] & lower[row.layer as usize];
+        let h = usize::from(row.head);
+        let mask = heads[opposite(h)] & lower[usize::from(row.layer)];
         row.overridden = unless_leaning(literal_named(h), span_bytes(book, row.body), mask);
     }
 }
@@ -284,8 +286,8 @@ pub fn relevant_layers(lower: &[u32; MAX_LAYERS], layer: usize, off: u32) -> u32
     ensures { RelevantLayers lower.now layer off result }
 {
     let under = lower[layer];
-    let all = under | (1 << (layer as u32));
-    all ^ (all & off)
+    let all = under | (1 << layer);
+    all & !off
 }
 
 // What the table of a driven layer is made from: where the rules' records start in the book, the layer, the set of layers that are

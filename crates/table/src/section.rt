@@ -29,7 +29,7 @@ impl<'a> RuleRecord<'a> {
     pub fn layer(self) -> usize
         ensures { (result ≡ (rule_at self.entry.book.now self.entry.at).layer) × (result < max_layers) }
     {
-        self.book[self.at + 1] as usize
+        usize::from(self.book[self.at + 1])
     }
 
     // The head of its rule.
@@ -47,7 +47,7 @@ impl<'a> RuleRecord<'a> {
     {
         Span {
             start: (self.at + 4) as u32,
-            size: self.book[self.at] as u16 - 3,
+            size: u16::from(self.book[self.at]) - 3,
         }
     }
 
@@ -55,7 +55,7 @@ impl<'a> RuleRecord<'a> {
     fn end(self) -> usize
         ensures { result ≡ self.entry.at + 1 + get_or self.entry.book.now self.entry.at 0 }
     {
-        self.at + 1 + self.book[self.at] as usize
+        self.at + 1 + usize::from(self.book[self.at])
     }
 }
 
@@ -152,7 +152,7 @@ impl<'a> Iterator for RuleSection<'a> {
 }
 
 // Writes what the rules give whose layer is in the mask, in their order, and lends the part that is filled: one walk over the records.
-// Kept: no heap, so the array is the caller's, and what is written to it is counted.
+// Kept: no heap: the array is the caller's, written at a count, and its filled part is lent on to be written, which no `ArrayVec` lends.
 pub fn gather<'r, E: FromRecord>(
     rules: RuleSection,
     mask: u32,

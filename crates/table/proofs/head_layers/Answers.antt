@@ -9,4 +9,4 @@ loop-row-init c =
 
 pub loop-row-preserved : goal.loop-row-preserved
 loop-row-preserved c =
-    heads-more c.args.rows.now c.loop-row.masks c.loop-row.row-index _ _ c.loop-row.invariant refl (c.requires.name c.loop-row.row-index c.loop-row-test.true) refl (c.requires.layer_low c.loop-row.row-index c.loop-row-test.true)
+    heads-more c.args.rows.now c.loop-row.masks c.loop-row.row-index _ _ c.loop-row.invariant c.from.ensures (rw c.from.ensures (c.requires.name c.loop-row.row-index c.loop-row-test.true)) refl (c.requires.layer_low c.loop-row.row-index c.loop-row-test.true)
