@@ -6,6 +6,7 @@ ghost use Rattle.base.specs.Bounds.{max_atoms, max_names, max_rules};
 
 use base::{ArrayVec, MAX_ATOMS, MAX_NAMES, MAX_RULES};
 use format::Literal;
+use table::name_of;
 
 // Rows or names, as many as there are rules.
 type Pile = ArrayVec<u16, MAX_RULES>;
@@ -18,14 +19,17 @@ fn push(pile: &mut Pile, number: usize) {
     pile.push((number % 65536) as u16);
 }
 
-// The name under which a row waits for a literal.
+// The name under which a row waits for a literal: that of the literal, cut to the bound on facts.
 fn waiting_name(l: Literal) -> usize
     ensures { result < max_names }
 {
-    let f = l.atom % MAX_ATOMS;
-    if l.negated { f + MAX_ATOMS } else { f }
+    name_of(Literal {
+        atom: l.atom % MAX_ATOMS,
+        negated: l.negated,
+    })
 }
 
+// Kept: links beside each other in arrays of the most rows and names, since there is no heap for lists of their own.
 #[derive(Drop)]
 pub struct Hints {
     // The number of the literal that each row last waited for.
@@ -61,10 +65,7 @@ impl Hints {
 
     // The rows of the trail, in the order in which they added their heads.
     pub(crate) fn trail(&self) -> &[u16] {
-        match &self.trail {
-            Some(trail) => trail.as_slice(),
-            None => &[],
-        }
+        self.trail.as_ref().map_or(&[], |trail| trail.as_slice())
     }
 
     // Puts a row that has added its head on the trail, where one is kept.
@@ -82,7 +83,7 @@ impl Hints {
         if self.trail.is_none() {
             self.trail = Some(Pile::new(0));
         }
-        self.first_waiting[0..n].fill(None);
+        self.first_waiting[..n].fill(None);
         self.first_waiting[MAX_ATOMS..MAX_ATOMS + n].fill(None);
     }
 

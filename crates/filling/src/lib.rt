@@ -33,7 +33,7 @@ struct Marks<'a> {
 
 impl Marks<'_> {
     // The mark of a name.
-    // Kept: by the name, since its literal's fact would be held against the length once more for each row of a pass.
+    // Kept: by the name. By its literal was tried, and slower: the fact is held against the length once more for each row of a pass.
     #[tactic(auto, using(crate::proofs::MarkLaws::marked_low, crate::proofs::MarkLaws::marked_high, crate::proofs::MarkLaws::atom_low, crate::proofs::MarkLaws::atom_high), unfolding(models::specs::StableModels::atom_holds))]
     fn name(&self, h: usize) -> bool
         requires { (literal_named h).atom < length self.now.positive.now }
@@ -75,16 +75,12 @@ impl Marks<'_> {
         requires { to ≤ length body.now / 2 }
         ensures { IfSome result (λ i. i < length body.now / 2) }
     {
-        for i in from..to {
-            if !self.literal(literal_at(body, i)) {
-                return Some(i);
-            }
-        }
-        None
+        (from..to).find(|i| !self.literal(literal_at(body, *i)))
     }
 
     // The number of a literal of a body's bytes that is not marked, looked for from the one numbered `watch` on and then from the first
     // on.
+    // Kept: a match, since by `or_else` the check does not find the bound.
     fn unmarked(&self, body: &[u8], watch: usize) -> Option<usize>
         ensures { IfSome result (λ i. i < length body.now / 2) }
     {
@@ -133,7 +129,7 @@ impl RuleRow<'_> {
     // Marks its head if it adds that, and says whether it did. Where the opposite is marked, it marks nothing. Inlined, since it is what a
     // pass does with each row.
     #[inline(always)]
-    #[tactic(auto, using(crate::proofs::MarkLaws::head_within, crate::proofs::MarkLaws::atom_low, crate::proofs::MarkLaws::atom_high))]
+    #[tactic(auto, using(crate::proofs::MarkLaws::head_within, crate::proofs::MarkLaws::opposite_within, crate::proofs::MarkLaws::atom_low, crate::proofs::MarkLaws::atom_high))]
     fn add_head(
         &self,
         positive: &mut [bool],
@@ -218,7 +214,7 @@ impl<'a> Rules<'a> {
         ensures { Grown self.now.table.book.now self.now.table.rows.now self.now.rejects.now positive.old negative.old positive.new negative.new }
     {
         for row in hints.trail() {
-            let j = *row as usize;
+            let j = usize::from(*row);
             if j < self.table.len() {
                 let _ = self.row(j).add_head(positive, negative, hints);
             }
@@ -227,14 +223,14 @@ impl<'a> Rules<'a> {
 
     // Marks more of what follows, by waiting lists: a row waits for a literal of its body that is not marked, and is tried again when that
     // one is. Only the order of trying is new: what is added is tested on the spot, and the passes of a filling say when nothing is left.
-    // `waiting` is the next row of the list in hand, `fresh` the first row not tried yet. No lawful book takes all the turns.
+    // `waiting` is the next row of the list in hand, `fresh` the rows not tried yet. No lawful book takes all the turns.
     fn propagate(&self, positive: &mut [bool], negative: &mut [bool], hints: &mut Hints)
         requires { Room self.now.table.rows.now positive.old negative.old }
         ensures { Grown self.now.table.book.now self.now.table.rows.now self.now.rejects.now positive.old negative.old positive.new negative.new }
     {
         let count = self.table.len();
         hints.begin(positive.len());
-        let mut fresh = 0;
+        let mut fresh = 0..count;
         let mut waiting: Option<usize> = None;
         for _ in 0..TURNS {
             if let Some(j) = waiting {
@@ -248,10 +244,9 @@ impl<'a> Rules<'a> {
                 }
             } else if let Some(h) = hints.pop_marked() {
                 waiting = hints.first_waiting(h);
-            } else if fresh < count {
-                hints.take_up(fresh);
-                waiting = Some(fresh);
-                fresh += 1;
+            } else if let Some(j) = fresh.next() {
+                hints.take_up(j);
+                waiting = Some(j);
             } else {
                 return;
             }

@@ -1,11 +1,6 @@
 -- The row adds its head and the opposite is marked, or a mark more stands in one of the two arrays.
-use Rattle.filling.proofs.MarkLaws.{opposite_within}
 use Rattle.filling.proofs.TryingLaws.{tried_clash, tried_low, tried_high}
 use Rattle.filling.proofs.RuleRow.add_head.Goals as goal
-
-pub name-requires : goal.name-requires
-name-requires c =
-    opposite_within c.requires _ _ _ c.args.self.now.row.inside c.head-h.ensures.0 c.opposite.ensures.0
 
 pub returns-then-name : goal.returns-then-name
 returns-then-name c =
