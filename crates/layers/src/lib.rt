@@ -16,7 +16,7 @@ pub fn bit_of(m: &[u32], i: usize, j: usize) -> bool
     requires { (i < length m.now) × (j < max_layers) }
     ensures { result ≡ marked m.now i j }
 {
-    (m[i] >> (j as u32)) & 1 == 1
+    (m[i] >> j) & 1 == 1
 }
 
 // Sets bit j of mask i.
@@ -25,7 +25,7 @@ pub fn set_bit(m: &mut [u32], i: usize, j: usize)
     requires { (i < length m.old) × (j < max_layers) }
     ensures { (x y : ℕ) → marked m.new x y ≡ (marked m.old x y || same_arrow (link i j) (link x y)) }
 {
-    m[i] |= 1 << (j as u32);
+    m[i] |= 1 << j;
 }
 
 // The closure, by Warshall: mask i has bit j where there is a way from i to j. No way leads from a layer whose mask is empty, so the
