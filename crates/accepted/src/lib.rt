@@ -33,7 +33,7 @@ pub fn atom_count(book: &[u8]) -> usize
 fn has_absent_layer(layers: usize, off: u32) -> bool
     ensures { result ≡ has_absent_layer layers off }
 {
-    layers < MAX_LAYERS && off >> (layers as u32) != 0
+    layers < MAX_LAYERS && off >> layers != 0
 }
 
 // The first of causes 9 and 19 that applies, or accepted.
