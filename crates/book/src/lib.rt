@@ -16,26 +16,26 @@ ghost use Rattle.std.proofs.Props.{props};
 use base::{MAX_ARROWS, MAX_ATOMS, MAX_BODY, MAX_LAYERS, MAX_RULES};
 use format::{Literal, Literals, Records, be16, be32, broken_section};
 
-// The causes of documents 01 and 02, in the order of test; specs/Numbers.antt has their numbers.
+// The causes of documents 01 and 02, in the order of test, with their numbers, which specs/Numbers.antt has too.
 #[derive(Clone, Copy, Debug, PartialEq, Eq)]
 pub enum Cause {
-    TooShort,
-    WrongVersion,
-    WrongLength,
-    BrokenSection,
-    OutOfRange,
-    BadRecord,
-    RepeatedArrow,
-    Cycle,
-    NoSuchLayer,
-    NoSuchLayerOff,
-    BadCandidate,
-    BadCondition,
-    TooDeep,
-    NoSuchFact,
-    TooManyBranching,
-    BufferTooShort,
-    NoStableState,
+    TooShort = 1,
+    WrongVersion = 2,
+    WrongLength = 3,
+    BrokenSection = 4,
+    OutOfRange = 5,
+    BadRecord = 6,
+    RepeatedArrow = 7,
+    Cycle = 8,
+    NoSuchLayer = 9,
+    NoSuchLayerOff = 19,
+    BadCandidate = 10,
+    BadCondition = 16,
+    TooDeep = 17,
+    NoSuchFact = 11,
+    TooManyBranching = 12,
+    BufferTooShort = 13,
+    NoStableState = 14,
 }
 
 // The number of a cause.
@@ -43,25 +43,7 @@ impl From<Cause> for u64 {
     ghost from_gives = { λ c n. n ≡ number_of c };
 
     fn from(c: Cause) -> u64 {
-        match c {
-            Cause::TooShort => 1,
-            Cause::WrongVersion => 2,
-            Cause::WrongLength => 3,
-            Cause::BrokenSection => 4,
-            Cause::OutOfRange => 5,
-            Cause::BadRecord => 6,
-            Cause::RepeatedArrow => 7,
-            Cause::Cycle => 8,
-            Cause::NoSuchLayer => 9,
-            Cause::NoSuchLayerOff => 19,
-            Cause::BadCandidate => 10,
-            Cause::BadCondition => 16,
-            Cause::TooDeep => 17,
-            Cause::NoSuchFact => 11,
-            Cause::TooManyBranching => 12,
-            Cause::BufferTooShort => 13,
-            Cause::NoStableState => 14,
-        }
+        c as u64
     }
 }
 
