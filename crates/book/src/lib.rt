@@ -200,9 +200,7 @@ impl<'a> Header<'a> {
         ensures verdict { verdict_of result ≡ first_of (drop 6 (tests self.now.book.now)) }
         ensures masks { IfOk result (LowerMasks (arrows_of self.now.book.now)) }
     {
-        let Some(masks) = arrow_masks(self.arrow_part()) else {
-            return Err(Cause::RepeatedArrow);
-        };
+        let masks = arrow_masks(self.arrow_part()).ok_or(Cause::RepeatedArrow)?;
         let lower = layers::transitive_closure(masks, self.layers);
         if layers::has_cycle(&lower, self.layers) {
             return Err(Cause::Cycle);
