@@ -21,7 +21,7 @@ pub fn record_size(n: usize) -> usize
     requires { n ≤ max_atoms }
     ensures { (result ≡ record_size n) × (result ≤ max_record) }
 {
-    (n + 7) / 8
+    n.div_ceil(8)
 }
 
 // The bit of fact f; 0 where the state has no such fact.
@@ -77,6 +77,7 @@ pub fn put_be32(part: &mut [u8], at: usize, v: usize)
 }
 
 // Adds a state to the sums by fact: to each fact's four bytes 1 where it stands.
+// Kept: the C interface has the sums as the caller's bytes, with no heap for a list of numbers, so a sum is found by its fact's offset.
 #[tactic(auto, using(crate::proofs::SumLaws::sum_steps), unfolding(models::specs::Listing::bit_value, models::specs::StableModels::atom_holds))]
 pub fn add_state(m: &[bool], sums: &mut [u8])
     requires { (length m.now ≤ max_atoms) × (4 * length m.now ≤ length sums.old) }
@@ -94,8 +95,8 @@ pub fn put_head(buf: &mut [u8], size: usize, n: usize, k: usize)
     requires { 11 ≤ length buf.old }
     ensures { buf.new ≡ 1 ∷ (be32 size ++ (be16 n ++ (be32 k ++ drop 11 buf.old))) }
 {
-    let [.., s0, s1, s2, s3] = size.to_be_bytes();
-    let [.., n0, n1] = n.to_be_bytes();
-    let [.., k0, k1, k2, k3] = k.to_be_bytes();
-    put_record(buf, 0, &[1, s0, s1, s2, s3, n0, n1, k0, k1, k2, k3]);
+    put_record(buf, 0, &[1]);
+    put_be32(buf, 1, size);
+    put_record(buf, 5, &n.to_be_bytes()[6..]);
+    put_be32(buf, 7, k);
 }
