@@ -12,6 +12,7 @@ use lib.Dec.{eqb}
 use Rattle.std.specs.List.{fold}
 use Rattle.models.specs.StableModels.{Interpretation, atom_holds}
 use Rattle.models.specs.Listing.{bit_value}
+use Rattle.models.proofs.RecordLaws.{bit_le}
 use Rattle.grammar.specs.Conditions.{Condition, Atom, Not, And, Or, Bracket, fits}
 use Rattle.condition.specs.declared.Code.{Code}
 use Rattle.condition.specs.declared.Code.TheVariants as code
@@ -25,11 +26,6 @@ odd_one st e = ap (λ (x : ℕ). eqb x 1) e
 odd-zero : (st : ℕ) → st % 2 ≡ 0 → odd st ≡ false
 odd-zero st e = ap (λ (x : ℕ). eqb x 1) e
 
-bit-most : (b : Bool) → bit_value b 1 ≤ 1
-unfolding bit_value
-bit-most true = omega arith
-bit-most false = omega arith
-
 pub pushed : (st : ℕ) (b : Bool) → 2 * st % 2 ^ 64 + bool_byte b ≡ push st b % 2 ^ 64
 unfolding push bit_value
 pushed st true = omega arith
@@ -38,7 +34,7 @@ pushed st false = omega arith
 -- ---- how large a stack gets
 push-small : (st h : ℕ) (b : Bool) → st < 2 ^ h → push st b < 2 ^ suc h
 unfolding push
-push-small st h b k = omega (arith, pow-suc 2 h, bit-most b)
+push-small st h b k = omega (arith, pow-suc 2 h, bit_le b)
 
 -- an operator leaves at least one bit
 operator_small : (st h : ℕ) (b : Bool) → 1 ≤ h → st < 2 ^ h → push (st / 4) b < 2 ^ max 1 (h - 1)
@@ -87,11 +83,11 @@ push-odd st false = odd-zero (2 * st + 0) (omega arith)
 
 push_half : (st : ℕ) (b : Bool) → push st b / 2 ≡ st
 unfolding push
-push_half st b = omega (arith, bit-most b)
+push_half st b = omega (arith, bit_le b)
 
 push_quarter : (st : ℕ) (a b : Bool) → push (push st a) b / 4 ≡ st
 unfolding push
-push_quarter st a b = omega (arith, bit-most a, bit-most b)
+push_quarter st a b = omega (arith, bit_le a, bit_le b)
 
 -- the two operands on top
 second_odd : (st : ℕ) (a b : Bool) → odd (push (push st a) b / 2) ≡ a

@@ -10,6 +10,7 @@ use native.Mathlib.Omega.{arith}
 use lib.Dec.{T, T_not, eqb, eqb→eq, leb}
 use lib.ListN.{length}
 use borrow.Author.Tests.{le-leb}
+use Rattle.std.proofs.Math.Bool.{and-true}
 use Rattle.base.specs.Lists.{all, any, filter}
 use Rattle.base.proofs.Members.{◌∈◌, and_left, and_right, and_both, filter-from, filter_into}
 use Rattle.base.proofs.UpTo.{failed}
@@ -22,10 +23,6 @@ use Rattle.models.specs.Listing.{interpretations, stable_models}
 use Rattle.models.specs.Constraints.{rules_at, WithoutConstraints, Constraints}
 use Rattle.models.proofs.LeastLaws.{stable_sound, stable_complete, forbidden_complete}
 use Rattle.models.proofs.AlikeLaws.{filter_same, filter-within, filter_none}
-
-and_true : (a : Bool) → (a && true) ≡ a
-and_true true = refl
-and_true false = refl
 
 -- ---- whatever the constraints
 module _ (P : Program) (bodies : List (List Literal)) where
@@ -73,7 +70,7 @@ module _ (P : Program) (bodies : List (List Literal)) where
   module _ (free : P.constraints ≡ []) where
     pub free-stable : (m : Interpretation) → stable P m ≡ settled P m
     unfolding stable forbidden any
-    free-stable m = ap (λ (bs : List (List Literal)). settled P m && not (any (all (holds m)) bs)) free ∙ and_true (settled P m)
+    free-stable m = ap (λ (bs : List (List Literal)). settled P m && not (any (all (holds m)) bs)) free ∙ and-true (settled P m)
 
     pub constrained-filter : (m : Interpretation) → stable (constrained P bodies) m ≡ (stable P m && not (any (all (holds m)) bodies))
     constrained-filter m = constrained-stable m ∙ ap (λ (c : Bool). c && not (any (all (holds m)) bodies)) (sym (free-stable m))
@@ -132,7 +129,7 @@ module _ (b : Book) (layer off : ℕ) where
     unfolding program_at rules_at
     same_program =
         ap₂ (λ (rs cs : List Rule). record { atoms = b.atoms; rules = rs; constraints = map (λ r. r.body) cs; below = below b.arrows })
-        (filter-within (λ r. relevant b layer off r && not (is_constraint r)) (relevant b layer off) b.rules (λ r k. rw (none r k) (and_true (relevant b layer off r))))
+        (filter-within (λ r. relevant b layer off r && not (is_constraint r)) (relevant b layer off) b.rules (λ r k. rw (none r k) (and-true (relevant b layer off r))))
         (filter_none (λ r. relevant b layer off r && is_constraint r) b.rules (λ r k t. subst T (none r k) (and_right (relevant b layer off r) (is_constraint r) t)))
 
     same_models : stable_models (program_at b layer off) ≡ filter (settled (rules_at b layer off)) (interpretations b.atoms)

@@ -1,7 +1,7 @@
 -- A record settles its state, and the bytes of a listing settle n and the list of states; how long they are. Used for condition 3 and
 -- wherever records are cut. Assumes nothing.
 use mathlib.Core.Path.{◌≡◌, refl, sym, ap, ap₂, ◌∙◌}
-use mathlib.Core.Bool.{true, false}
+use mathlib.Core.Bool.{Bool, true, false}
 use mathlib.Core.List.Memᴰ
 use mathlib.Core.List.{List, [], ◌∷◌, ◌++◌, map, head-eq_of_cons-eq, tail-eq_of_cons-eq}
 use Prim.Native.Nat.{ℕ, zero, suc, ◌+◌, ◌*◌, ◌/◌, ◌^◌, ◌<◌, ◌≤◌}
@@ -13,6 +13,12 @@ use Rattle.base.specs.Lists.{flat}
 use Rattle.models.specs.StableModels.{Interpretation}
 use Rattle.models.specs.Listing.{bit_value, bits_value, packed, be16, be32, record_size, record_of, listing_of}
 use Rattle.base.proofs.Members.{◌∈◌}
+
+-- a bit
+pub bit_le : (b : Bool) → bit_value b 1 ≤ 1
+unfolding bit_value
+bit_le true = omega arith
+bit_le false = omega arith
 
 pub high_lt : (k : ℕ) (m : Interpretation) → bits_value k m < 2 ^ k
 unfolding bits_value bit_value

@@ -10,6 +10,7 @@ use native.Mathlib.Nat.{zero-div}
 use lib.Dec.{T, T_not, not_T, eqb}
 use lib.ListN.{length, get_or, replicate, length-replicate}
 use lib.Seq.{ext_get_or}
+use Rattle.std.proofs.Math.Bool.{and-true}
 use Rattle.base.specs.Lists.{cons_if, any, filter, up_to}
 use Rattle.base.proofs.Members.{◌∈◌, and_left, and_right, any_at, filter-from}
 use Rattle.base.proofs.MapLaws.{constant_at}
@@ -43,13 +44,9 @@ pub paths_kept : PathsKept
 paths_kept = record { same_order_lem = same_order_lem; counts_beyond = counts_beyond }
 
 -- ---- nothing off
-and_true : (a : Bool) → (a && true) ≡ a
-and_true true = refl
-and_true false = refl
-
 relevant-none : (b : Book) (layer : ℕ) (r : Rule) → relevant b layer 0 r ≡ (eqb r.layer layer || below b.arrows r.layer layer)
 unfolding relevant
-relevant-none b layer r = rw (none_in r.layer) (and_true (eqb r.layer layer || below b.arrows r.layer layer))
+relevant-none b layer r = rw (none_in r.layer) (and-true (eqb r.layer layer || below b.arrows r.layer layer))
 
 program_none : (b : Book) (layer : ℕ) → program_at b layer 0 ≡ whole_program b layer
 unfolding program_at whole_program

@@ -11,13 +11,7 @@ use lib.ListN.{length, take, drop, set}
 use lib.Seq.{take-suc-set, drop-drop, get_or-drop}
 use Rattle.models.specs.StableModels.{Interpretation, atom_holds}
 use Rattle.models.specs.Listing.{bit_value, bits_value, packed}
-use Rattle.models.proofs.RecordLaws.{high_lt}
-
--- a bit
-pub bit_le : (b : Bool) → bit_value b 1 ≤ 1
-unfolding bit_value
-bit_le true = omega arith
-bit_le false = omega arith
+use Rattle.models.proofs.RecordLaws.{bit_le, high_lt}
 
 -- a byte
 double : (a : Bool) (k : ℕ) → bit_value a (2 ^ suc k) ≡ bit_value a (2 ^ k) + bit_value a (2 ^ k)

@@ -16,7 +16,7 @@ use Rattle.format.specs.Book.{u32_at}
 use Rattle.insertion.proofs.RunLaws.{flat_append}
 use Rattle.models.specs.StableModels.{Interpretation, atom_holds}
 use Rattle.models.specs.Listing.{bit_value, be32}
-use Rattle.records.proofs.PackLaws.{bit_le}
+use Rattle.models.proofs.RecordLaws.{bit_le}
 use Rattle.records.specs.Written.{added_to, summed}
 
 -- a number below 2^32 is read back from its four bytes
