@@ -1,16 +1,16 @@
 -- What the loops keep: the masks of what can be rejected, the nogood of a row, and the entries made. Assumes nothing.
-use mathlib.Core.Path.{◌≡◌, refl, sym, ap, subst, ◌∙◌}
-use mathlib.Core.Bool.{Bool, true, false, cond, false≢true}
+use mathlib.Core.Path.{◌≡◌, sym, ap, subst, ◌∙◌}
+use mathlib.Core.Bool.{Bool, true, false, not, cond, false≢true}
 use mathlib.Core.Logic.{⊎_elim}
 use mathlib.Core.List.Memᴰ
 use mathlib.Core.List.{List, ◌++◌}
-use Prim.Native.Nat.{ℕ, suc, ◌+◌, ◌-◌, ◌<◌, ◌≤◌}
+use Prim.Native.Nat.{ℕ, suc, ◌+◌, ◌<◌}
 use native.Mathlib.Decide.{dec_lt}
 use native.Mathlib.Omega.{arith}
 use lib.Bits.{bit_or}
 use lib.Dec.{T}
 use lib.ListN.{length, get_or, set, length-set}
-use Rattle.base.specs.Bounds.{max_atoms, max_names}
+use Rattle.base.specs.Bounds.{max_names}
 use Rattle.layers.specs.Masks.{bit_of}
 use Rattle.layers.proofs.BitLaws.{or_left, or_right, some-bit}
 use Rattle.format.specs.Book.{Literal, literals_of}
@@ -19,10 +19,10 @@ use Rattle.base.proofs.EntryLaws.{entry_in}
 use Rattle.table.specs.declared.Row.{Row}
 use Rattle.table.specs.declared.Span.{Span}
 use Rattle.bans.specs.Bans.{body_of}
-use Rattle.models.specs.StableModels.{positive, negative, complement}
+use Rattle.models.specs.StableModels.{complement}
 use Rattle.table.specs.Names.{literal_named}
 use Rattle.table.specs.Rows.{span_bytes, row_count, head_name, row_at, overridden, alive}
-use Rattle.table.proofs.NameLaws.{name_low, name-high, one_name}
+use Rattle.table.proofs.NameLaws.{one_name}
 use Rattle.std.specs.Bool.{MatchBool}
 use Rattle.std.specs.List.{HoldsAt, AllWithin as EachWithin}
 use Rattle.setting.specs.RuleMasks.{BodyMasked}
@@ -70,26 +70,32 @@ body_within w t l k = let b = w.all_have t l k in record { place = b.0; atom_bit
 
 -- ---- a row
 module _ (book : List ℕ) (rows : List Row) (rejectable bits : List ℕ) (j : ℕ) (bj : j < row_count rows) {m : BodyMasks} (w : BodyMasked bits (row_at book rows j).body m) (t : m.whole ≡ true)
-    (a : Bool) (ea : a ≡ alive rejectable (row_at book rows j)) (ta : a ≡ true) (h : ℕ) (eh : h ≡ head_name rows j) where
+    (a : Bool) (ea : a ≡ alive rejectable (row_at book rows j)) (ta : a ≡ true) (h : ℕ) (eh : h ≡ head_name rows j)
+    (l : Literal) (el : l ≡ literal_named h) (x : ℕ) (e : (x ≡ get_or bits l.atom 0) × (x ≡ 0 → ⊥)) where
   lives : T (alive rejectable (row_at book rows j))
   lives = subst T (sym (sym ea ∙ ta)) tt
 
-  pub nogood_plain : h < max_atoms → (x : ℕ) → (x ≡ get_or bits h 0) × (x ≡ 0 → ⊥) → NogoodOf book rows rejectable bits j (record { standing = m.plain; denied = bit_or m.negated x })
-  unfolding row_at complement
-  nogood_plain b x e = record {
+  -- the head is the local's literal
+  head_within : (n : Nogood) → Within bits n (complement l) → Within bits n (complement (row_at book rows j).head)
+  unfolding row_at
+  head_within n v = subst (λ (y : Literal). Within bits n (complement y)) (el ∙ ap literal_named eh) v
+
+  pub nogood_plain : l.negated ≡ false → NogoodOf book rows rejectable bits j (record { standing = m.plain; denied = bit_or m.negated x })
+  unfolding complement
+  nogood_plain c = record {
     before = bj;
     lives = lives;
     body_in = λ l k. within_wider bits _ _ (λ i z. z) (λ i z. or_left m.negated x i z) l (body_within w t l k);
-    head_in = subst (Within bits _) (ap complement (sym (name_low h b) ∙ ap literal_named eh)) (within-bit bits _ (negative h) true refl x e.0 e.1 (λ i z. or_right m.negated x i z));
+    head_in = head_within _ (within-bit bits _ (complement l) true (ap not c) x e.0 e.1 (λ i z. or_right m.negated x i z));
   }
 
-  pub nogood_negated : max_atoms ≤ h → (x : ℕ) → (x ≡ get_or bits (h - max_atoms) 0) × (x ≡ 0 → ⊥) → NogoodOf book rows rejectable bits j (record { standing = bit_or m.plain x; denied = m.negated })
-  unfolding row_at complement
-  nogood_negated b x e = record {
+  pub nogood_negated : l.negated ≡ true → NogoodOf book rows rejectable bits j (record { standing = bit_or m.plain x; denied = m.negated })
+  unfolding complement
+  nogood_negated c = record {
     before = bj;
     lives = lives;
     body_in = λ l k. within_wider bits _ _ (λ i z. or_left m.plain x i z) (λ i z. z) l (body_within w t l k);
-    head_in = subst (Within bits _) (ap complement (sym (name-high h b) ∙ ap literal_named eh)) (within-bit bits _ (positive (h - max_atoms)) false refl x e.0 e.1 (λ i z. or_right m.plain x i z));
+    head_in = head_within _ (within-bit bits _ (complement l) false (ap not c) x e.0 e.1 (λ i z. or_right m.plain x i z));
   }
 
 -- ---- a constraint

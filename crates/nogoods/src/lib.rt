@@ -3,15 +3,15 @@
 // decided so.
 #![tactic(auto)]
 
-ghost use Rattle.std.specs.Prelude.{◌≡◌, ◌↔◌, true, ◌<◌, length, IfSome, IsTrue};
+ghost use Rattle.std.specs.Prelude.{◌≡◌, ◌↔◌, true, ◌<◌, IfSome, IsTrue};
 ghost use Rattle.table.specs.Rows.{SpanFits, row_count, row_at, RowsBounded};
 ghost use Rattle.bans.specs.Bans.{body_of};
 ghost use Rattle.setting.specs.RuleMasks.{BodyMasked};
 ghost use Rattle.nogoods.specs.Nogoods.{Rejectable, AllWithin, NogoodOf, IsDecided, Violated};
 
-use base::{MAX_ATOMS, MAX_NAMES};
+use base::MAX_NAMES;
 use setting::{BodyMasks, body_masks, branching_bit};
-use table::{Row, Span, TableRow, opposite, span_bytes};
+use table::{Row, Span, TableRow, literal_named, opposite, span_bytes};
 
 // Nogoods that a plan has room for: one that is left out costs time and nothing else.
 pub const MAX_NOGOODS: usize = 512;
@@ -57,18 +57,17 @@ pub fn row_nogood(
     if !body.whole || !row.alive(rejectable) {
         return None;
     }
-    let h = row.head();
-    if h < MAX_ATOMS {
-        let bit = branching_bit(bits, h)?;
+    let head = literal_named(row.head());
+    let bit = branching_bit(bits, head.atom)?;
+    if head.negated {
         return Some(Nogood {
-            standing: body.plain,
-            denied: body.negated | bit,
+            standing: body.plain | bit,
+            denied: body.negated,
         });
     }
-    let bit = branching_bit(bits, h - MAX_ATOMS)?;
     Some(Nogood {
-        standing: body.plain | bit,
-        denied: body.negated,
+        standing: body.plain,
+        denied: body.negated | bit,
     })
 }
 
