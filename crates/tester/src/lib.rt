@@ -4,6 +4,7 @@
 #![tactic(auto)]
 
 ghost use Rattle.std.specs.Prelude.{◌≡◌, cond, ◌≤◌, length, replicate};
+ghost use Rattle.std.specs.Result.{is_err};
 ghost use Rattle.base.specs.Bounds.{max_atoms, max_names};
 ghost use Rattle.base.specs.Lists.{all, up_to};
 ghost use Rattle.models.specs.StableModels.{body_holds, stable, WellFormed};
@@ -40,12 +41,16 @@ fn reject(table: Table, m: &[bool], rejects: &mut [u32; MAX_NAMES])
     }
 }
 
+// A row is violated: it is alive, its body holds and its head does not.
+#[derive(Clone, Copy)]
+struct Violated;
+
+// Marks the plain heads of the rows whose bodies hold, rejected or not. A row that is violated ends it, as no stable model violates such
+// a row, and nothing need be filled.
 // Kept: the bound on a number of facts is a clause here and below, since a type for it would be turned into the number at each use.
-// Marks the plain heads of the rows whose bodies hold, rejected or not, and says whether a row is violated: one that is alive and whose
-// head does not hold ends it, as no stable model violates such a row, and nothing need be filled.
-fn supported(rules: &Rules, m: &[bool], atoms: &mut [bool]) -> bool
+fn supported(rules: &Rules, m: &[bool], atoms: &mut [bool]) -> Result<(), Violated>
     requires { length atoms.old ≤ max_atoms }
-    ensures { Supports rules.now.table.book.now rules.now.table.rows.now rules.now.rejects.now m.now atoms.new result (row_count rules.now.table.rows.now) }
+    ensures { Supports rules.now.table.book.now rules.now.table.rows.now rules.now.rejects.now m.now atoms.new (is_err result) (row_count rules.now.table.rows.now) }
 {
     clear_marks(atoms);
     for j in 0..rules.table.len() {
@@ -54,14 +59,14 @@ fn supported(rules: &Rules, m: &[bool], atoms: &mut [bool]) -> bool
             let h = row.head();
             let lives = row.alive(rules.rejects);
             if lives && !literal_holds(m, literal_named(h)) {
-                return true;
+                return Err(Violated);
             }
             if h < atoms.len() {
                 atoms[h] = true;
             }
         }
     }
-    false
+    Ok(())
 }
 
 // Marks the defaults: the atoms that are not supported.
@@ -108,7 +113,7 @@ pub fn settles(
     requires marks_len { (length positive.old ≡ length m.now) × (length negative.old ≡ length m.now) }
     ensures { result ≡ stable (tabled rules.now.table.book.now rules.now.table.rows.now (length m.now)) m.now }
 {
-    if supported(rules, m, positive) {
+    if supported(rules, m, positive).is_err() {
         return false;
     }
     mark_defaults(positive, negative);
@@ -128,6 +133,7 @@ pub fn is_stable(table: Table, m: &[bool], hints: &mut Hints) -> bool
     ensures { result ≡ stable (tabled table.entry.book.now table.entry.rows.now (length m.now)) m.now }
 {
     let n = m.len();
+    // Kept: arrays with room for the most names and facts, cut to the length of the candidate, since there is no heap.
     let mut rejects: [u32; MAX_NAMES] = [0; MAX_NAMES];
     reject(table, m, &mut rejects);
     let mut positive = [false; MAX_ATOMS];
