@@ -32,6 +32,7 @@ fn mark_body(body: &[u8], rejecting: bool, marks: &mut [bool; MAX_ATOMS])
 
 // Marks the branching facts, where nothing is marked yet: a rule can displace exactly where its mask of overridden layers is not
 // empty. How many facts there are plays no part.
+// Kept: `Tabulates` in clauses here and of the test: a table that knew its program would ask more of those who make one.
 fn mark_branching(table: Table, marks: &mut [bool; MAX_ATOMS])
     requires tabulates { Tabulates (tabled table.book.now table.rows.now 0) table.book.now table.rows.now }
     requires marks_value { marks.old ≡ replicate max_atoms false }

@@ -66,6 +66,7 @@ fn plan_row(row: TableRow, bits: &[u32], rejectable: &[u32; MAX_NAMES], plan: &m
 {
     let body = row_masks(row, bits);
     let h = row.head();
+    // A name past the facts, that of a negated head, has no bit: no such rule shows that a fact stands.
     plan.heads.put(head_masks(body, branching_bit(bits, h)));
     plan.nogoods.put(row_nogood(row, rejectable, bits, body));
     plan.rejecting
