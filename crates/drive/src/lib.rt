@@ -1,5 +1,5 @@
 // The calls that search, one function each. Each names its causes in the order of test, those of the book and of the layer, its own and
-// 12; then it lends the table and the plan, which are made once, to the pass and the reply of its own crate.
+// 12; then it lends the space that is searched, which is set up once, to the pass and the reply of its own crate.
 #![tactic(auto)]
 
 ghost use Rattle.std.specs.Prelude.{◌≡◌};
@@ -20,6 +20,7 @@ use one_call::one_found;
 use passes::Work;
 use place_call::{Placed, place_found};
 
+// Kept: each call sets up its own space: one function with a closure was tried, and what that writes to a captured buffer was not proved.
 // Writes the listing of a book at a driven layer, with the layers of a set switched off. Here and below a refusal leaves every byte of the
 // buffer.
 pub fn list(book: &[u8], layer: u32, off: u32, buffer: &mut [u8]) -> Result<Listed, Cause>

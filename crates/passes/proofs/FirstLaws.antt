@@ -10,7 +10,6 @@ use native.Mathlib.Omega.{arith}
 use borrow.Author.Tests.{ne_eqb}
 use lib.Dec.{T, eqb, ltb, leb, leb→le, le→leb}
 use lib.ListN.{length, take, drop}
-use Rattle.base.specs.Bounds.{max_atoms}
 use Rattle.base.specs.Lists.{cons_if, all, filter, up_to}
 use Rattle.base.proofs.Members.{◌∈◌, filter-from, filter_into, all_at, all_of}
 use Rattle.base.proofs.Rising.{Rising, filter-rising}
@@ -24,17 +23,14 @@ use Rattle.models.specs.Listing.{interpretations, stable_models, record_of}
 use Rattle.models.proofs.InterpretationLaws.{◌⊏◌, interpretations-rising}
 use Rattle.models.proofs.ListingLaws.{stable_models-length}
 use Rattle.records.proofs.OrderLaws.{record_rises}
-use Rattle.bans.specs.Bans.{barred}
 use Rattle.setting.specs.Setting.{setting_of}
 use Rattle.leaf.specs.Found.{at_setting, found_by}
-use Rattle.leaf.specs.Searchable.{Searchable}
 use Rattle.search.specs.declared.space.Space.{Space}
 use Rattle.search.specs.declared.Turn.{Turn}
 use Rattle.search.specs.Decided.{undecided}
 use Rattle.search.specs.Space.{space_atoms, space_program, models_left}
 use Rattle.search.proofs.ReadyLaws.{space_searchable}
 use Rattle.passes.proofs.SpaceLaws.{space_formed, space_size, space_few}
-use Rattle.search.proofs.AllowedLaws.{barred-formed, barred-size}
 use Rattle.std.specs.Prelude.{Option, Some, None, is_some}
 use Rattle.std.specs.Option.{option_map}
 use Rattle.first.specs.declared.Held.{Held}
@@ -46,8 +42,6 @@ use Rattle.passes.specs.Tallied.{searched}
 use Rattle.passes.specs.Nearest.{chosen, Nearest}
 use Rattle.passes.proofs.PassLaws.{found_is}
 use Rattle.passes.proofs.StateLaws.{models_from, models_into, searched-from, searched_into}
-use Rattle.table.specs.declared.Row.{Row}
-use Rattle.table.specs.declared.Span.{Span}
 
 -- ---- the first in the order of distances and records is the first of those whose distance is least
 module _ (wanted : Interpretation) (n : ℕ) where

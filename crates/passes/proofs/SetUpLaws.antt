@@ -10,7 +10,7 @@ use lib.ListN.{length, get_or}
 use Rattle.std.proofs.Common.{Result, Ok, Err, MatchResult, is_ok, IfOk, Bor}
 use Rattle.branching.specs.Marks.{Listed}
 use Rattle.book.specs.declared.Cause.{Cause}
-use Rattle.base.specs.Bounds.{max_atoms, max_rules, max_branching}
+use Rattle.base.specs.Bounds.{max_atoms, max_branching}
 use Rattle.base.proofs.Members.{◌∈◌}
 use Rattle.format.specs.Book.{book_of}
 use Rattle.base.proofs.EntryLaws.{entry_in}
@@ -21,7 +21,6 @@ use Rattle.models.specs.Branching.{branching_atoms, branching_count}
 use Rattle.models.proofs.AlikeLaws.{alike-count, alike-formed}
 use Rattle.models.proofs.ConstraintLaws.{constrained-atoms}
 use Rattle.bans.specs.Bans.{bodies_of, barred, BansMade}
-use Rattle.table.specs.Rows.{row_count}
 use Rattle.table.specs.Table.{TableMade, Tabulates}
 use Rattle.table.specs.declared.Table.{Table}
 use Rattle.table.specs.Tabled.{tabled}

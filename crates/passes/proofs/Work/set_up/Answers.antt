@@ -1,8 +1,8 @@
 -- The table of the layer, its constraints and the branching facts, and the plan of them (SetUpLaws).
-use mathlib.Core.Path.{ap, ◌∙◌}
+use mathlib.Core.Path.{ap}
 use mathlib.Core.List.{List}
 use Prim.Native.Nat.{ℕ}
-use Rattle.std.proofs.Common.{rules, sym, Bor}
+use Rattle.std.proofs.Common.{rules, Bor}
 use Rattle.std.proofs.lemmas.Grind.{merely}
 use Rattle.passes.proofs.SetUpLaws.{tabulates, listed, refused, listed_low, not_too_many, plan_ready, plan_alike}
 use Rattle.passes.proofs.Work.set_up.Goals as goal
