@@ -16,6 +16,7 @@ use Rattle.base.specs.Lists.{any, up_to}
 use Rattle.base.proofs.Members.{◌∈◌, and_left, any_at}
 use Rattle.base.proofs.MapLaws.{map_snoc}
 use Rattle.base.proofs.UpTo.{failed, up_to_lt}
+use Rattle.layers.proofs.UpToLaws.{range_more}
 use Rattle.models.specs.Listing.{record_size, bit_at, interpretation_of}
 use Rattle.candidate.specs.Candidate.{has_spare_bit, is_bad_candidate}
 
@@ -38,12 +39,6 @@ module _ (n : ℕ) (s : List ℕ) where
   spare_is f h = rw (le-leb n f h) refl
 
 -- the spare bits, as the code goes through them
-range_more : (a n : ℕ) → range_with_len a (suc n) ≡ range_with_len a n ++ ((a + n) ∷ [])
-range_more a zero = ap (λ (k : ℕ). k ∷ []) {x = a} {y = a + 0} (omega arith)
-range_more a (suc n) =
-    ap (λ (t : List ℕ). a ∷ t) (range_more (a + 1) n)
-    ∙ ap (λ (k : ℕ). a ∷ (range_with_len (a + 1) n ++ (k ∷ []))) {x = a + 1 + n} {y = a + suc n} (omega arith)
-
 spares : (n k : ℕ) (s : List ℕ) → list_any (bit_at s) (range_with_len n k) ≡ any (spare n s) (up_to (n + k))
 unfolding any up_to
 spares n zero s = let e : n + 0 ≡ n = omega arith in rw e (sym (spare_start n s))

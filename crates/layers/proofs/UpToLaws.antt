@@ -10,7 +10,7 @@ use Rattle.base.specs.Lists.{any, up_to}
 abbrev one : ℕ → List ℕ
 one k = k ∷ []
 
-range_more : (a n : ℕ) → range_with_len a (suc n) ≡ range_with_len a n ++ one (a + n)
+pub range_more : (a n : ℕ) → range_with_len a (suc n) ≡ range_with_len a n ++ one (a + n)
 range_more a zero = ap one {x = a} {y = a + 0} (omega arith)
 range_more a (suc n) =
     ap (λ (t : List ℕ). a ∷ t) (range_more (a + 1) n)
