@@ -53,6 +53,7 @@ fn digit_of(c: u8) -> Option<u16>
 }
 
 // A name of one to four digits: how many, and the fact.
+// Kept: `take_while` would count the digits in one walk and read their number in a second, so it is no plainer than the one walk here.
 #[tactic(auto, using(crate::proofs::NameLaws::no_digits, crate::proofs::NameLaws::small_so_far, crate::proofs::NameLaws::next_digit, crate::proofs::NameLaws::fifth_digit))]
 fn read_name(text: &[u8]) -> Option<(usize, u16)>
     ensures { NameRead text.now result }
@@ -201,9 +202,7 @@ fn names_below(codes: &[Code], n: usize) -> bool
 pub fn read_condition(text: &[u8], n: usize) -> Result<Postfix, Cause>
     ensures { Prepares text.now n result }
 {
-    let Some(code) = compile(text) else {
-        return Err(Cause::BadCondition);
-    };
+    let code = compile(text).ok_or(Cause::BadCondition)?;
     if MAX_DEPTH < bracket_depth(text) {
         return Err(Cause::TooDeep);
     }
