@@ -38,8 +38,8 @@ module _ (s : List ℕ) (e : IsAccepted s) where
   unfolding book_of rules_of rule_records
   rules_are = ap (λ (t : List ℕ). map rule_of (records t)) (rest_is s whole_sections)
 
-  -- the rule section starts at k, and its records after its two fields
-  pub prepared : (k : ℕ) → k ≡ rule_section s → (lower : List ℕ) → LowerMasks (arrows_of s) lower → Prepared s (k + 6) lower
+  -- the rule section's records start at k
+  pub prepared : (k : ℕ) → k ≡ rule_section s + 6 → (lower : List ℕ) → LowerMasks (arrows_of s) lower → Prepared s k lower
   unfolding book_of
   prepared k ek lower w = rw ek (record {
     rule_records_lem = subst RuleRecords (rest_is s whole_sections) section-rules;

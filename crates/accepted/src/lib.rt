@@ -74,13 +74,14 @@ impl<'a> Driving<'a> {
     }
 
     // What the layer's table is made from.
+    // Kept: field by field: a `Source` within would be no plainer, since what speaks of the book or the layer would go through it.
     #[tactic(auto, using(crate::proofs::RangeFacts::whole_book, book::proofs::RangeLaws::header_in))]
     fn source(&self) -> Source<'a>
         ensures { (result.book ≡ self.now.book) × (result.layer ≡ self.now.layer) × (result.off ≡ self.now.off) }
     {
         Source {
             book: self.book,
-            first: Header::read(self.book).rules + 6,
+            first: Header::read(self.book).rules_from(),
             layer: self.layer,
             off: self.off,
             lower: self.lower,

@@ -1,12 +1,12 @@
 // The check of a book: the first of causes 1 to 8 that applies, or accepted, with each layer's mask of the layers below it.
 #![tactic(auto)]
 
-ghost use Rattle.std.specs.Prelude.{◌≡◌, true, false, map, ℕ, drop, IfOk, IfSome, is_none};
+ghost use Rattle.std.specs.Prelude.{◌≡◌, ◌+◌, true, false, map, ℕ, drop, IfOk, IfSome, is_none};
 ghost use Rattle.base.specs.Bounds.{max_layers};
 ghost use Rattle.base.specs.Lists.{all, any};
 ghost use Rattle.layers.specs.Layers.{link, repeats, same_arrow};
 ghost use Rattle.layers.specs.Masks.{marked, LowerMasks};
-ghost use Rattle.format.specs.Book.{records, literals_of, arrow_of, arrow_records, rule_records, arrows_of};
+ghost use Rattle.format.specs.Book.{records, literals_of, arrow_of, arrow_records, rule_records, rule_section, arrows_of};
 ghost use Rattle.format.specs.Sections.{has_broken_section};
 ghost use Rattle.book.specs.Causes.{arrow_ok, atom_below, head_ok, rule_ok, is_out_of_range, has_bad_record, tests, first_of, verdict, verdict_of};
 ghost use Rattle.book.specs.Header.{HeaderOf};
@@ -164,12 +164,20 @@ impl<'a> Header<'a> {
         &self.book[14..self.rules]
     }
 
+    // Where the rule section's records start, after its length and its count.
+    #[tactic(auto, using(crate::proofs::RangeLaws::header_in))]
+    pub fn rules_from(&self) -> usize
+        ensures { result ≡ rule_section self.now.book.now + 6 }
+    {
+        self.rules + 6
+    }
+
     // The bytes of the rule section's records.
     #[tactic(auto, using(crate::proofs::RangeLaws::header_in, format::proofs::SectionLaws::laid, format::proofs::SectionLaws::rule_part))]
     fn rule_part(&self) -> &'a [u8]
         ensures { records result.now ≡ rule_records self.now.book.now }
     {
-        &self.book[self.rules + 6..]
+        &self.book[self.rules_from()..]
     }
 
     // Cause 5.
