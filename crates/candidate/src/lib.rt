@@ -11,7 +11,7 @@ use records::record_size;
 
 // The bit of fact f; 0 where the bytes have none.
 #[tactic(auto, unfolding(models::specs::Listing::bit_at))]
-fn bit_at(s: &[u8], f: usize) -> bool
+pub fn bit_at(s: &[u8], f: usize) -> bool
     ensures { result ≡ bit_at s.now f }
 {
     let byte = s.get(f / 8).copied().unwrap_or(0);
@@ -29,6 +29,7 @@ pub fn bad_candidate(candidate: &[u8], n: usize) -> bool
 }
 
 // The state of n facts that a candidate gives, in the first places.
+// Kept: apart from the test: the drive asks cause 10 before it makes the table, and reads the state after: an Option is no plainer.
 #[tactic(auto, using(crate::proofs::ReadLaws::read_start, crate::proofs::ReadLaws::read_more))]
 pub fn read_candidate(candidate: &[u8], n: usize) -> [bool; MAX_ATOMS]
     requires n_le_max_atoms { n ≤ max_atoms }

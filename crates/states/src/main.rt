@@ -6,6 +6,7 @@ ghost use Rattle.std.specs.Prelude.{◌≤◌, IfOk, length};
 
 use base::MAX_ATOMS;
 use book::Cause;
+use candidate::bit_at;
 use drive::list;
 use list_call::Listed;
 use records::HEAD_SIZE;
@@ -34,10 +35,9 @@ fn print_refused<W: Write>(out: &mut W, cause: Cause) -> io::Result<()> {
     writeln!(out, "refused {number}")
 }
 
-// A fact's digit in a record: bit 7 - f % 8 of byte f / 8.
+// A fact's digit in a record.
 fn digit(record: &[u8], fact: usize) -> u8 {
-    let byte = record.get(fact / 8).copied().unwrap_or(0);
-    b'0' + (byte >> (7 - fact % 8) & 1)
+    b'0' + u8::from(bit_at(record, fact))
 }
 
 // One line, written at once: a digit for each fact from fact 0. No book has more than MAX_ATOMS.
@@ -94,5 +94,5 @@ fn main(rt: HostRuntime) -> io::Result<()> {
     if MOST_INPUT < len {
         return print_refused(&mut out, Cause::WrongLength);
     }
-    show(&mut out, &input[0..len])
+    show(&mut out, &input[..len])
 }
