@@ -8,7 +8,7 @@ use mir.Val.{bool_byte}
 use lib.ListN.{length, length-append}
 use Rattle.models.specs.StableModels.{Interpretation, atom_holds}
 use Rattle.models.specs.Listing.{bit_value}
-use Rattle.records.proofs.PackLaws.{bit_le}
+use Rattle.models.proofs.RecordLaws.{bit_le}
 use Rattle.condition.specs.Code.{code_holds}
 use Rattle.search.specs.declared.Goal.{Goal}
 use Rattle.search.specs.declared.Goal.TheVariants as goals
