@@ -43,12 +43,12 @@ fn reject(table: Table, m: &[bool], rejects: &mut [u32; MAX_NAMES])
 
 // A row is violated: it is alive, its body holds and its head does not.
 #[derive(Clone, Copy)]
-struct Violated;
+struct RowViolated;
 
 // Marks the plain heads of the rows whose bodies hold, rejected or not. A row that is violated ends it, as no stable model violates such
 // a row, and nothing need be filled.
 // Kept: the bound on a number of facts is a clause here and below, since a type for it would be turned into the number at each use.
-fn supported(rules: &Rules, m: &[bool], atoms: &mut [bool]) -> Result<(), Violated>
+fn supported(rules: &Rules, m: &[bool], atoms: &mut [bool]) -> Result<(), RowViolated>
     requires { length atoms.old ≤ max_atoms }
     ensures { Supports rules.now.table.book.now rules.now.table.rows.now rules.now.rejects.now m.now atoms.new (is_err result) (row_count rules.now.table.rows.now) }
 {
@@ -59,7 +59,7 @@ fn supported(rules: &Rules, m: &[bool], atoms: &mut [bool]) -> Result<(), Violat
             let h = row.head();
             let lives = row.alive(rules.rejects);
             if lives && !literal_holds(m, literal_named(h)) {
-                return Err(Violated);
+                return Err(RowViolated);
             }
             if h < atoms.len() {
                 atoms[h] = true;
