@@ -39,6 +39,7 @@ pub fn transitive_closure(start: [u32; MAX_LAYERS], count: usize) -> [u32; MAX_L
     let mut m = start;
     for k in 0..count {
         let row = m[k];
+        // Kept: by an index, since `bit_of` tests a bit of one of a list's masks: over `iter_mut` that test would stand a second time.
         for i in 0..count {
             if bit_of(&m, i, k) {
                 m[i] |= row;
