@@ -2,10 +2,10 @@
 -- Assumes nothing.
 use mathlib.Core.Path.{◌≡◌, refl, sym, ap, ap₂, subst, ◌∙◌}
 use mathlib.Core.Bool.{Bool, true, false}
-use mathlib.Core.List.{List, [], ◌∷◌, ◌++◌}
-use Prim.Native.Nat.{ℕ, ◌≤◌}
+use mathlib.Core.List.{List, [], ◌∷◌, ◌++◌, append-nil}
+use Prim.Native.Nat.{ℕ, ◌+◌, ◌≤◌}
 use native.Mathlib.Omega.{arith}
-use lib.ListN.{length, take}
+use lib.ListN.{length, take, drop, drop_of_length-le}
 use lib.Seq.{take_all}
 use Rattle.insertion.specs.Sorted.{insert_past, insert_by, insert_all}
 use Rattle.insertion.specs.Runs.{bytes_before}
@@ -40,7 +40,7 @@ module _ {A : Type 0} (less : A → A → Bool) where
   insert_all_first [] l k e = e
   insert_all_first (x ∷ xs) l k e = insert_all_first xs (insert_by less x l) (insert_by less x k) (insert_first x l k e)
 
-first_few : {A : Type 0} (l : List A) → length (take 1 l) ≤ 1
+pub first_few : {A : Type 0} (l : List A) → length (take 1 l) ≤ 1
 first_few [] = omega arith
 first_few (x ∷ l) = omega arith
 
@@ -73,9 +73,9 @@ module _ (atoms : List ℕ) (sure : List Bool) (wanted : Interpretation) (n : �
   takes_same ms ns e {held} {held'} {part} {part'} a = subst (λ (l : List Interpretation). Takes atoms sure wanted n l held part held' part') (sym e) a
 
 -- ---- one model
--- its record, as the code takes it
-pub record_taken : (n w : ℕ) (m : Interpretation) (r : List ℕ) → w ≡ record_size n → take (record_size n) r ≡ record_of n m → (new : List ℕ) → new ≡ take w r → new ≡ record_of n m
-record_taken n w m r e f new is = is ∙ ap (λ (k : ℕ). take k r) e ∙ f
+-- its record, written over the whole part
+pub record_put : (n : ℕ) (m : Interpretation) (old new : List ℕ) → length old ≡ record_size n → new ≡ take 0 old ++ (record_of n m ++ drop (0 + record_size n) old) → new ≡ record_of n m
+record_put n m old new size is = is ∙ ap (λ (l : List ℕ). record_of n m ++ l) (drop_of_length-le old {i = 0 + record_size n} (omega (arith, size))) ∙ append-nil (record_of n m)
 
 module _ (atoms : List ℕ) (sure : List Bool) (wanted : Interpretation) (n : ℕ) (m : Interpretation) (part : List ℕ) (d : ℕ) (far_is : d ≡ far wanted m) where
   -- the order as the code reads it from what is in hand

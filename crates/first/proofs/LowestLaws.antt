@@ -1,18 +1,12 @@
 -- The lowest bit of a mask, as the code takes it: d without d - 1. Used for the test of a group. Assumes nothing.
 use mathlib.Core.Path.{◌≡◌, sym, ap, ◌∙◌}
 use Prim.Native.Nat.{ℕ, zero, suc, ◌-◌, ◌/◌, ◌%◌, ◌^◌, ◌<◌}
-use native.Mathlib.Nat.{div-one, div-div-eq-div-mul, pow-suc, mul_comm}
 use native.Mathlib.Decide.{ℕ_discrete}
 use native.Mathlib.Omega.{arith}
 use lib.Bits.{differ, bit_xor, xor_step, xor_shr}
 use Rattle.layers.specs.Masks.{bit_of}
 use Rattle.layers.proofs.BitLaws.{bit-small}
-
-bit-zero : (a : ℕ) → bit_of a 0 ≡ a % 2
-bit-zero a = ap (λ (x : ℕ). x % 2) (div-one a)
-
-bit_half : (a k : ℕ) → bit_of a (suc k) ≡ bit_of (a / 2) k
-bit_half a k = ap (λ (x : ℕ). a / x % 2) (pow-suc 2 k ∙ mul_comm (2 ^ k) 2) ∙ ap (λ (x : ℕ). x % 2) (sym (div-div-eq-div-mul a 2 (2 ^ k)))
+use Rattle.setting.proofs.BitMaskLaws.{low_bit, half_bit}
 
 -- its place: the bits under it are 0, and no other bit of d is one that d - 1 lacks
 pub record Lowest (d : ℕ) : Type 0 where
@@ -22,30 +16,30 @@ pub record Lowest (d : ℕ) : Type 0 where
   pub only : (k : ℕ) → bit_of d k - bit_of (d - 1) k ≡ 1 → k ≡ place
 
 lowest_odd : (d : ℕ) → d % 2 ≡ 1 → Lowest d
-lowest_odd d e = record { place = 0; is_set = bit-zero d ∙ e; under = λ j h. absurd (omega arith); only = only }
+lowest_odd d e = record { place = 0; is_set = low_bit d ∙ e; under = λ j h. absurd (omega arith); only = only }
   where
     half : (d - 1) / 2 ≡ d / 2
     half = omega arith
 
     only : (k : ℕ) → bit_of d k - bit_of (d - 1) k ≡ 1 → k ≡ 0
     only zero h = omega arith
-    only (suc k) h = absurd (omega (arith, bit_half d k, bit_half (d - 1) k ∙ ap (λ (x : ℕ). bit_of x k) half))
+    only (suc k) h = absurd (omega (arith, half_bit d k, sym (half_bit (d - 1) k) ∙ ap (λ (x : ℕ). bit_of x k) half))
 
 lowest_even : (d : ℕ) → d % 2 ≡ 0 → 0 < d → Lowest (d / 2) → Lowest d
-lowest_even d e p l = record { place = suc l.place; is_set = bit_half d l.place ∙ l.is_set; under = under; only = only }
+lowest_even d e p l = record { place = suc l.place; is_set = sym (half_bit d l.place) ∙ l.is_set; under = under; only = only }
   where
     half : (d - 1) / 2 ≡ d / 2 - 1
     half = omega arith
 
     under : (j : ℕ) → j < suc l.place → bit_of d j ≡ 0
-    under zero h = bit-zero d ∙ e
-    under (suc j) h = bit_half d j ∙ l.under j (omega arith)
+    under zero h = low_bit d ∙ e
+    under (suc j) h = sym (half_bit d j) ∙ l.under j (omega arith)
 
     only : (k : ℕ) → bit_of d k - bit_of (d - 1) k ≡ 1 → k ≡ suc l.place
-    only zero h = absurd (omega (arith, bit-zero d, bit-small (d - 1) 0))
+    only zero h = absurd (omega (arith, low_bit d, bit-small (d - 1) 0))
     only (suc k) h =
-        let a : bit_of d (suc k) ≡ bit_of (d / 2) k = bit_half d k in
-        let b : bit_of (d - 1) (suc k) ≡ bit_of (d / 2 - 1) k = bit_half (d - 1) k ∙ ap (λ (x : ℕ). bit_of x k) half in
+        let a : bit_of d (suc k) ≡ bit_of (d / 2) k = sym (half_bit d k) in
+        let b : bit_of (d - 1) (suc k) ≡ bit_of (d / 2 - 1) k = sym (half_bit (d - 1) k) ∙ ap (λ (x : ℕ). bit_of x k) half in
         ap suc (l.only k (omega (arith, a, b, h)))
 
 lowest_to : (k d : ℕ) → d < k → 0 < d → Lowest d

@@ -5,7 +5,7 @@ use mathlib.Core.Logic.{◌⊎◌, inl, inr}
 use mathlib.Core.Bool.{Bool, true, false, not, false≢true}
 use mathlib.Core.List.Memᴰ
 use mathlib.Core.List.{List, [], ◌∷◌}
-use Prim.Native.Nat.{ℕ, zero, suc, ◌+◌, ◌<◌, ◌≤◌}
+use Prim.Native.Nat.{ℕ, ◌+◌, ◌<◌, ◌≤◌}
 use native.Mathlib.Decide.{dec_lt}
 use native.Mathlib.Omega.{arith}
 use lib.Bits.{bit_or}
@@ -19,7 +19,6 @@ use Rattle.models.specs.Program.{Program}
 use Rattle.models.specs.StableModels.{Interpretation, atom_holds}
 use Rattle.models.specs.Branching.{branching_atoms}
 use Rattle.bans.specs.Bans.{barred}
-use Rattle.insertion.proofs.Once.{Once}
 use Rattle.base.proofs.EntryLaws.{entry_in}
 use Rattle.setting.specs.Setting.{setting_of}
 use Rattle.setting.proofs.SettingLaws.{SetAt, stands_at}
@@ -27,6 +26,7 @@ use Rattle.setting.proofs.BitMaskLaws.{single, single_only, single_has}
 use Rattle.leaf.specs.Found.{at_setting}
 use Rattle.leaf.specs.Searchable.{Searchable}
 use Rattle.leaf.proofs.FoundLaws.{branching-small, setting_from}
+use Rattle.leaf.proofs.ModelLaws.{once-place}
 use Rattle.search.proofs.AllowedLaws.{barred-formed, barred-listed, barred-size}
 use Rattle.search.proofs.QuickLaws.{listed-once}
 use Rattle.first.specs.declared.Held.{Held}
@@ -106,13 +106,6 @@ module _ (atoms : List ℕ) (sure : List Bool) (m : Interpretation) where
           inside g t (no h) = absurd (subst T (get_or-eq_default m false {n = g} (omega arith)) t)
 
 -- ---- the branching facts that stand in the model of a setting are those of its mask
-once_at : (xs : List ℕ) → Once xs → (i j : ℕ) → i < length xs → j < length xs → get_or xs i 0 ≡ get_or xs j 0 → i ≡ j
-once_at [] o i j h k e = absurd (omega arith)
-once_at (x ∷ xs) o zero zero h k e = refl
-once_at (x ∷ xs) o zero (suc j) h k e = absurd (o.0 (subst (λ (y : ℕ). y ∈ xs) (sym e) (entry_in xs j 0 (omega arith))))
-once_at (x ∷ xs) o (suc i) zero h k e = absurd (o.0 (subst (λ (y : ℕ). y ∈ xs) e (entry_in xs i 0 (omega arith))))
-once_at (x ∷ xs) o (suc i) (suc j) h k e = ap suc (once_at xs o.1 i j (omega arith) (omega arith) e)
-
 module _ {book : List ℕ} {rows : List Row} {atoms : List ℕ} {n : ℕ} (w : Searchable book rows atoms n) (bans : List Span) (standing : ℕ) where
   abbrev B : Program
   B = barred book rows bans n
@@ -124,7 +117,7 @@ module _ {book : List ℕ} {rows : List Row} {atoms : List ℕ} {n : ℕ} (w : S
       let v = setting_from B (barred-formed w bans) (setting_of atoms standing) m (subst (λ (l : List ℕ). m ∈ at_setting B l (setting_of atoms standing)) (barred-listed w bans) k) in
       let low : get_or atoms i 0 < max_atoms = omega (arith, branching-small B (barred-formed w bans) (get_or atoms i 0) inside, barred-size w bans, w.few) in
       let s : SetAt atoms standing (length atoms) (get_or atoms i 0) = stands_at atoms standing (get_or atoms i 0) low (subst T (v.2 (get_or atoms i 0) inside) t) in
-      subst (λ (x : ℕ). bit_of standing x ≡ 1) (once_at atoms (listed-once w) s.place i s.before h s.atom_is) s.bit
+      subst (λ (x : ℕ). bit_of standing x ≡ 1) (once-place atoms (listed-once w) s.place i s.before h s.atom_is) s.bit
 
   module _ (m : Interpretation) (e : at_setting B atoms (setting_of atoms standing) ≡ m ∷ []) where
     found_in : m ∈ at_setting B atoms (setting_of atoms standing)

@@ -15,7 +15,7 @@ ghost use Rattle.first.specs.InHand.{far, Sure, SureOf, StandingHas, Outlined, T
 
 use filling::{Hints, Rules, clear_marks};
 use nogoods::rejectable_masks;
-use records::{record_byte, record_of, record_size};
+use records::{put_state, record_byte};
 use search::{Scratch, Space, Turn, promising};
 use table::Table;
 
@@ -55,7 +55,7 @@ impl Held {
     }
 
     // Whether it comes before another state of this distance: it is closer, or it is as close and its record comes first.
-    // Kept: the size of the part in each clause: a struct of a lent part and its size would be made and taken apart at each call.
+    // Kept: `length part ≡ record_size n` in five contracts, up to `search_first`: a struct of part and n would be made at each call.
     fn stays(self, distance: usize, part: &[u8], m: &[bool]) -> bool
         requires { (length m.now ≤ max_atoms) × (length part.now ≡ record_size (length m.now)) }
         ensures { result ≡ bytes_before (self.distance ∷ part.now) (distance ∷ record_of (length m.now) m.now) }
@@ -69,6 +69,7 @@ impl Held {
 }
 
 // What a search for the closest state goes by: facts that stand in every stable model, and the wanted state.
+// Kept: `length wanted ≤ n` in four contracts: as a ghost field it would need n as a field, and that it is the space's in each contract.
 #[derive(Clone, Copy)]
 pub struct Wish<'a> {
     pub sure: &'a [bool],
@@ -152,7 +153,7 @@ fn outline(met: Met, sure: &[bool], distance: usize) -> Held
     let mut i: usize = 0;
     for f in 0..met.state.len() {
         if branches_next(met.atoms, i, f) {
-            held.ahead |= 1 << (i as u32);
+            held.ahead |= 1 << i;
             i += 1;
         } else if unsure(met.state, sure, f) {
             return held;
@@ -163,7 +164,7 @@ fn outline(met: Met, sure: &[bool], distance: usize) -> Held
 }
 
 // Whether a record comes before a state's.
-// Kept: compared by hand, since the bytes of the second record are made only as far as they are compared.
+// Kept: compared by hand: to compare slices, the second record, of which there are no bytes yet, would have to be made whole first.
 fn precedes(part: &[u8], m: &[bool]) -> bool
     requires { (length m.now ≤ max_atoms) × (length part.now ≡ record_size (length m.now)) }
     ensures { result ≡ bytes_before part.now (record_of (length m.now) m.now) }
@@ -185,19 +186,18 @@ impl Wish<'_> {
         ensures { Takes met.entry.atoms.now self.now.sure.now self.now.wanted.now (length met.entry.state.now) (met.entry.state.now ∷ []) held part.old (Some result) part.new }
     {
         let d = distance(self.wanted, met.state);
-        if let Some(kept) = held {
-            if kept.stays(d, part, met.state) {
-                return kept;
-            }
+        if let Some(kept) = held
+            && kept.stays(d, part, met.state)
+        {
+            return kept;
         }
-        let rec = record_of(met.state);
-        let w = record_size(met.state.len());
-        part.copy_from_slice(&rec[..w]);
+        put_state(met.state, part, 0);
         outline(met, self.sure, d)
     }
 }
 
 // Meets the stable model of one setting, if there is one. It is a function of its own so that the recursion's frames stay small.
+// Kept: six parameters, as in `search_first`, which calls it.
 fn visit_first(
     space: &Space,
     wish: &Wish,
@@ -227,15 +227,13 @@ fn visit_first(
 fn left_out(held: Option<Held>, standing: u32, apart: usize) -> bool
     ensures { MatchOption held (result ≡ false) (λ kept. result ≡ true → Behind kept standing apart) }
 {
-    match held {
-        Some(kept) => kept.leaves_out(standing, apart),
-        None => false,
-    }
+    held.is_some_and(|kept| kept.leaves_out(standing, apart))
 }
 
 // Goes through the settings of the branching facts that are left, as `search` does, and takes the first state of all in hand. `apart` of
 // the facts decided so far differ in the wanted state. A group of settings in which no state comes before the one in hand is left out.
 // Kept: beside `search`: one recursion over a trait of both needs two types, four methods and six laws, for two bodies of a dozen lines.
+// Kept: seven parameters: turn, distance and state in hand are others at each call: no one value has what a call needs.
 pub fn search_first(
     space: &Space,
     wish: &Wish,

@@ -14,6 +14,7 @@ use lib.Dec.{T}
 use lib.ListN.{length, get_or, set, drop, drop_of_length-le}
 use lib.Seq.{drop-cons, get_or-set_same, get_or-set_other}
 use Rattle.base.specs.Lists.{any}
+use Rattle.std.proofs.lemmas.Bool as bools
 use Rattle.base.proofs.Members.{and_left, and_right, and_both, any_at, any_of}
 use Rattle.models.specs.StableModels.{Interpretation, atom_holds, positive, negative, complement}
 use Rattle.filling.specs.Marks.{literal_marked, FollowsFrom, from_start, Apart, Conflict, FilledOn, Fills}
@@ -26,10 +27,6 @@ use Rattle.leaf.proofs.ModelLaws.{setting_start, covered_start, covered_more}
 use Rattle.table.specs.declared.Row.{Row}
 
 -- ---- whether a denied fact passes a test
-and-off : (a b : Bool) → b ≡ false → (a && b) ≡ false
-and-off true b e = e
-and-off false b e = refl
-
 module _ (atoms : List ℕ) (start : List Bool) (p : ℕ → Bool) where
   -- the atoms from i on decide
   abbrev pub DenyFrom : ℕ → Type 0
@@ -53,7 +50,7 @@ module _ (atoms : List ℕ) (start : List Bool) (p : ℕ → Bool) where
     deny_other w a ea n = deny_more w (ap (λ (c : Bool). c && p f) (sym ea ∙ n))
 
     pub deny_not : DenyFrom i → (b : Bool) → b ≡ p f → b ≡ false → DenyFrom (i + 1)
-    deny_not w b eb n = deny_more w (and-off (atom_holds start f) (p f) (sym eb ∙ n))
+    deny_not w b eb n = deny_more w (bools.and_right (atom_holds start f) (p f) (sym eb ∙ n))
 
   pub deny_end : (i : ℕ) → length atoms ≤ i → DenyFrom i → false ≡ denies_any atoms start p
   unfolding denies_any any

@@ -56,7 +56,7 @@ index_of (x ∷ l) f m = go (λ k. index_of l f k) (Memᴰ.cases_cons m)
     go r (inl e) = (0, omega arith, sym e)
     go r (inr k) = let q = r k in (suc q.0, omega (arith, q.1), q.2)
 
-once-place : (xs : List ℕ) → Once xs → (i j : ℕ) → i < length xs → j < length xs → get_or xs i 0 ≡ get_or xs j 0 → i ≡ j
+pub once-place : (xs : List ℕ) → Once xs → (i j : ℕ) → i < length xs → j < length xs → get_or xs i 0 ≡ get_or xs j 0 → i ≡ j
 once-place [] w i j h k e = absurd (omega arith)
 once-place (x ∷ xs) w zero zero h k e = refl
 once-place (x ∷ xs) w zero (suc j) h k e = absurd (w.0 (subst (λ (y : ℕ). y ∈ xs) (sym e) (entry_in xs j 0 (omega arith))))

@@ -32,7 +32,7 @@ impl Setting<'_> {
         requires { i < max_branching }
         ensures { result ≡ eqb (bit_of self.entry.standing i) 1 }
     {
-        (self.standing >> (i as u32)) & 1 == 1
+        (self.standing >> i) & 1 == 1
     }
 
     // Whether a test says yes of a fact that the setting denies.

@@ -21,6 +21,8 @@ use Rattle.table.specs.Rows.{row_count}
 use Rattle.table.specs.Tabled.{tabled}
 use Rattle.table.proofs.TabledLaws.{tabled-free}
 use Rattle.bans.specs.Bans.{bodies_of, barred}
+use Rattle.std.specs.Prelude.{MatchOption}
+use Rattle.std.specs.Bool.{then_some}
 use Rattle.search.specs.declared.space.Space.{Space}
 use Rattle.search.specs.Space.{space_atoms, models_at}
 use Rattle.tester.specs.Masks.{RejectedMasks}
@@ -96,6 +98,11 @@ module _ (s : Space) (standing : ℕ) {atoms : List ℕ} (ea : atoms ≡ space_a
       pub found_forbidden : r ≡ true → models_at s standing ≡ []
       unfolding cons_if
       found_forbidden y = allowed ∙ ap (λ (c : Bool). cons_if (not c) state []) y
+
+-- a test decides whether there is a value
+pub then_some_cases : {A : Type 0} (b : Bool) (x : A) (N : Type 0) (Y : A → Type 0) → (b ≡ false → N) → (b ≡ true → Y x) → MatchOption (then_some b x) N Y
+then_some_cases true x N Y n y = y refl
+then_some_cases false x N Y n y = n refl
 
 -- nothing is to be found
 pub none-searched : (goal : Goal) (n : ℕ) (ms : List Interpretation) → ms ≡ [] → (v : Visit) (p : List ℕ) → Searched goal n ms v p v p

@@ -92,6 +92,7 @@ impl Goal<'_> {
 
     // Makes of two runs of models, met one after the other, one: a listing's records of the second run, which rise, are inserted among
     // those of the first.
+    // Kept: three counts beside each other, in one clause: they are of three visits, which no one value has, and are bounded together.
     fn combine(&self, n: usize, from: usize, mid: usize, end: usize, part: &mut [u8])
         requires n_nonzero { (0 < n) × (n ≤ max_atoms) × (from ≤ mid) × (mid ≤ end) × (end ≤ 4294967296) }
         requires room_for { RoomFor self.now n end part.old }
@@ -119,7 +120,7 @@ impl Turn {
         requires { (0 < self.left) × (i < max_branching) }
         ensures { result ≡ decided_turn self i stands }
     {
-        let bit = 1 << (i as u32);
+        let bit = 1 << i;
         let mut next = Turn {
             left: self.left - 1,
             ..self
@@ -143,6 +144,7 @@ pub fn promising(plan: &Plan, turn: Turn) -> bool
 }
 
 // Visits the stable model of one setting, if there is one. It is a function of its own so that the recursion's frames stay small.
+// Kept: six parameters, as in `search`, which calls it.
 pub fn visit_setting(
     space: &Space,
     goal: &Goal,
@@ -163,6 +165,7 @@ pub fn visit_setting(
 
 // Goes through the settings of the branching facts that are left, each at most once, and visits the stable model of each setting, if
 // there is one. Where the quick tests say that no setting of the facts that are left has a stable model, none is gone through.
+// Kept: six parameters: turn and visit are others at each call, and the lent arrays are lent anew: no one value has what a call needs.
 pub fn search(
     space: &Space,
     goal: &Goal,

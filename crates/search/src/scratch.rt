@@ -5,9 +5,9 @@ ghost use Rattle.base.specs.Bounds.{max_names};
 use base::{MAX_ATOMS, MAX_NAMES};
 use filling::Hints;
 
-// Kept: no heap and fixed memory, so each array has room for the most facts, and the plan says how many there are.
 // What a search works in at every setting, made once a pass: the masks of the rules that a setting rejects, of which there are none between
 // settings; three arrays of marks; and what one filling leaves for the next.
+// Kept: no heap and fixed memory, so each array has room for the most facts, and the plan says how many there are.
 #[derive(Drop)]
 pub struct Scratch {
     pub rejects: [u32; MAX_NAMES],

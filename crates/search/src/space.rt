@@ -60,11 +60,7 @@ impl Space<'_> {
         );
         clear_at(rejecting, &mut scratch.rejects);
         let scratch = &*scratch;
-        let state = &scratch.positive[0..n];
-        if found && !self.bans.banned(state) {
-            Some(state)
-        } else {
-            None
-        }
+        let state = &scratch.positive[..n];
+        (found && !self.bans.banned(state)).then_some(state)
     }
 }

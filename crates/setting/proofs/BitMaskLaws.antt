@@ -57,10 +57,10 @@ module _ (bits : List ℕ) (f x : ℕ) (h : f < length bits) where
   joined_has g i e z = subst (λ (k : ℕ). bit_of k i ≡ 1) (sym (at_f g e)) (or_right (get_or bits f 0) x i z)
 
 -- ---- all bits of a mask are among another's
-low_bit : (a : ℕ) → bit_of a 0 ≡ a % 2
+pub low_bit : (a : ℕ) → bit_of a 0 ≡ a % 2
 low_bit a = ap (λ (x : ℕ). x % 2) (div-one a)
 
-half_bit : (a i : ℕ) → bit_of (a / 2) i ≡ bit_of a (suc i)
+pub half_bit : (a i : ℕ) → bit_of (a / 2) i ≡ bit_of a (suc i)
 half_bit a i = sym (ap (λ (x : ℕ). a / x % 2) (pow-suc 2 i ∙ mul_comm (2 ^ i) 2) ∙ ap (λ (x : ℕ). x % 2) (sym (div-div-eq-div-mul a 2 (2 ^ i))))
 
 pub or_absorbs : (k a b : ℕ) → a < k → ((i : ℕ) → bit_of a i ≡ 1 → bit_of b i ≡ 1) → bit_or a b ≡ b
