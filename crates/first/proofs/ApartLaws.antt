@@ -21,6 +21,7 @@ use Rattle.layers.proofs.BitLaws.{bit-same, or_right}
 use Rattle.models.specs.StableModels.{Interpretation, atom_holds}
 use Rattle.models.specs.Branching.{branching, branching_atoms}
 use Rattle.models.specs.Listing.{bit_value}
+use Rattle.models.proofs.RecordLaws.{bit_le}
 use Rattle.bans.specs.Bans.{barred}
 use Rattle.setting.specs.Setting.{setting_of}
 use Rattle.leaf.specs.Searchable.{Searchable}
@@ -54,11 +55,6 @@ count-append p (x ∷ xs) ys = omega (arith, count_cons p x (xs ++ ys), count_co
 count_next : (p : ℕ → Bool) (n : ℕ) → length (filter p (up_to (suc n))) ≡ length (filter p (up_to n)) + bit_value (p n) 1
 unfolding up_to filter
 count_next p n = omega (arith, count-append p (up_to n) (n ∷ []), count_cons p n [])
-
-bit_le : (b : Bool) → bit_value b 1 ≤ 1
-unfolding bit_value
-bit_le true = omega arith
-bit_le false = omega arith
 
 and_le : (a b : Bool) → bit_value (a && b) 1 ≤ bit_value b 1
 unfolding bit_value
