@@ -56,6 +56,7 @@ impl Held {
 
     // Whether it comes before another state of this distance: it is closer, or it is as close and its record comes first.
     // Kept: `length part ≡ record_size n` in five contracts, up to `search_first`: a struct of part and n would be made at each call.
+    #[tactic(auto, using(crate::proofs::PrecedesLaws::stays_as_far, crate::proofs::PrecedesLaws::stays_by_distance))]
     fn stays(self, distance: usize, part: &[u8], m: &[bool]) -> bool
         requires { (length m.now ≤ max_atoms) × (length part.now ≡ record_size (length m.now)) }
         ensures { result ≡ bytes_before (self.distance ∷ part.now) (distance ∷ record_of (length m.now) m.now) }
@@ -89,6 +90,7 @@ struct Met<'a> {
 
 // Facts that stand in every stable model: those that follow from nothing by rules that nothing can displace.
 // The second array is lent for the negations, of which none is marked at first.
+#[tactic(auto, using(crate::proofs::SureLaws::sure_of))]
 pub fn sure_facts(table: Table, sure: &mut [bool], negative: &mut [bool], hints: &mut Hints)
     requires { Room table.rows.now sure.old negative.old }
     ensures { SureOf table.entry.book.now table.entry.rows.now sure.new }

@@ -36,6 +36,7 @@ impl Setting<'_> {
     }
 
     // Whether a test says yes of a fact that the setting denies.
+    // Kept: a loop: `stands` asks that i is a bit of the mask, which a chain over `enumerate` would need a lemma on its places for.
     fn denies_any<F: Fn(usize) -> bool>(self, test: F) -> bool
         requires { F.IsAlwaysCallable test }
         ensures { (p : ℕ → Bool) → Computes (F.post test) p → result ≡ denies_any self.entry.atoms.now (denied_of self.entry.atoms.now self.entry.standing) p }
@@ -89,6 +90,7 @@ impl Setting<'_> {
     }
 
     // Whether a state gives the branching facts as the setting does.
+    // Kept: a loop, as in `denies_any`: `stands` is asked for each place.
     fn agrees(self, state: &[bool]) -> bool
         ensures { result ≡ agree_on self.entry.atoms.now state.now (setting_of self.entry.atoms.now self.entry.standing) }
     {
@@ -110,6 +112,7 @@ fn undecided(m: &[bool], negative: &[bool], h: usize) -> bool
 
 // Whether a rejected row's body holds, but not its plain head, whose negation is not marked either. Where none is so, marks that were
 // filled from a setting need no second filling from the defaults.
+// Kept: a loop: `undecided` says what its no means, not its yes, so that a chain's laws, which name the test, have none to name.
 pub fn contested(rules: &Rules, m: &[bool], negative: &[bool]) -> bool
     ensures { result ≡ false → Uncontested rules.now.table.book.now rules.now.table.rows.now rules.now.rejects.now m.now negative.now (row_count rules.now.table.rows.now) }
 {
