@@ -67,6 +67,7 @@ impl Goal<'_> {
     }
 
     // Writes what the goal keeps of one more model: a listing's record goes behind those that are there.
+    #[tactic(auto, using(crate::proofs::KeptLaws::sums_fit, crate::proofs::KeptLaws::keep_listed, crate::proofs::KeptLaws::keep_sums, crate::proofs::KeptLaws::keep_others))]
     fn keep(&self, state: &[bool], count: usize, part: &mut [u8])
         requires { (length state.now ≤ max_atoms) × (count < 4294967296) × RoomFor self.now (length state.now) (count + 1) part.old }
         ensures { part.new ≡ kept_by self.now (length state.now) count (state.now ∷ []) part.old }
