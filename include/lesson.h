@@ -100,12 +100,12 @@ enum lesson_bound {
  * linker that binds memcpy or memset at its first call. */
 enum lesson_stack_bytes {
     LESSON_CHECK_STACK = 1024,
-    LESSON_TEST_STACK = 57344,
-    LESSON_LIST_STACK = 94208,
-    LESSON_ONE_STACK = 110592,
-    LESSON_PLACE_STACK = 91136,
-    LESSON_NEAREST_STACK = 112640,
-    LESSON_COUNT_STACK = 93184
+    LESSON_TEST_STACK = 53248,
+    LESSON_LIST_STACK = 93184,
+    LESSON_ONE_STACK = 112640,
+    LESSON_PLACE_STACK = 93184,
+    LESSON_NEAREST_STACK = 114688,
+    LESSON_COUNT_STACK = 96256
 };
 
 /* The cause that an answer names; LESSON_GRANTED where there is none. */
