@@ -1,5 +1,5 @@
 -- The branching facts, as the code marks them row by row and then lists them. Assumes nothing.
-use Rattle.std.specs.Prelude.{◌≡◌, Bool, ◌&&◌, ◌||◌, List, ℕ, ◌<◌, eqb, length, Result, Ok, Err}
+use Rattle.std.specs.Prelude.{◌≡◌, Bool, ◌&&◌, ◌||◌, List, ℕ, ◌<◌, ◌≤◌, eqb, length}
 use Rattle.base.specs.Bounds.{max_atoms, max_branching}
 use Rattle.base.specs.Lists.{any}
 use Rattle.format.specs.Book.{Literal, literals_of}
@@ -21,7 +21,7 @@ pub record BranchingMarks (P : Program) (marks : List Bool) : Type 0 where
   pub size : length marks ≡ max_atoms
   pub marked : (f : ℕ) → f < max_atoms → atom_holds marks f ≡ branching P f
 
--- the branching facts, rising, where a search goes through them; else how many they are
-abbrev pub Listed : Program → Result (List ℕ) ℕ → Type 0
-Listed P (Ok facts) = facts ≡ branching_atoms P
-Listed P (Err count) = (count ≡ branching_count P) × (max_branching < count)
+-- How many the branching facts are; where a search goes through them, they are the list, rising.
+pub record Listed (P : Program) (atoms : List ℕ) (g : ℕ) : Type 0 where
+  pub count_is : g ≡ branching_count P
+  pub atoms_are : g ≤ max_branching → atoms ≡ branching_atoms P

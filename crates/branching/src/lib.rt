@@ -1,7 +1,7 @@
 // The branching facts of a program, from its table: by both grounds, each once, rising.
 #![tactic(auto)]
 
-ghost use Rattle.std.specs.Prelude.{◌≡◌, false, ◌&&◌, ◌||◌, ◌≤◌, ltb, length, replicate, IfOk};
+ghost use Rattle.std.specs.Prelude.{◌≡◌, false, ◌&&◌, ◌||◌, ◌≤◌, ltb, length, replicate};
 ghost use Rattle.base.specs.Bounds.{max_atoms, max_branching};
 ghost use Rattle.models.specs.Branching.{branching_count};
 ghost use Rattle.table.specs.Table.{Tabulates};
@@ -43,16 +43,16 @@ fn mark_branching(table: Table, marks: &mut [bool; MAX_ATOMS])
     }
 }
 
-// The branching facts, rising; where they are more than a search goes through, how many they are.
-pub fn branching_atoms(table: Table, n: usize) -> Result<ArrayVec<u32, MAX_BRANCHING>, usize>
+// Lists the branching facts, rising, as far as there is room for them, and says how many they are: no more than a search goes through are
+// all listed.
+pub fn branching_atoms(table: Table, n: usize, atoms: &mut ArrayVec<u32, MAX_BRANCHING>) -> usize
     requires tabulates { Tabulates (tabled table.book.now table.rows.now n) table.book.now table.rows.now }
     requires n_le_max_atoms { n ≤ max_atoms }
-    ensures listed { Listed (tabled table.entry.book.now table.entry.rows.now n) result }
-    ensures few { IfOk result (λ facts. length facts ≤ max_branching) }
+    ensures { Listed (tabled table.entry.book.now table.entry.rows.now n) atoms.new result }
 {
     let mut marks = [false; MAX_ATOMS];
     mark_branching(table, &mut marks);
-    let mut atoms = ArrayVec::new(0);
+    atoms.clear();
     let mut count = 0;
     for (f, branches) in marks[..n].iter().enumerate() {
         if *branches {
@@ -60,21 +60,15 @@ pub fn branching_atoms(table: Table, n: usize) -> Result<ArrayVec<u32, MAX_BRANC
             count += 1;
         }
     }
-    if MAX_BRANCHING < count {
-        return Err(count);
-    }
-    Ok(atoms)
+    count
 }
 
 // How many facts branch, whether or not a search goes through them.
-#[tactic(auto, unfolding(models::specs::Branching::branching_count, models::specs::Branching::branching_atoms))]
 pub fn branching_count(table: Table, n: usize) -> usize
     requires tabulates { Tabulates (tabled table.book.now table.rows.now n) table.book.now table.rows.now }
     requires n_le_max_atoms { n ≤ max_atoms }
     ensures { result ≡ branching_count (tabled table.entry.book.now table.entry.rows.now n) }
 {
-    match branching_atoms(table, n) {
-        Ok(facts) => facts.as_slice().len(),
-        Err(count) => count,
-    }
+    let mut atoms = ArrayVec::new(0);
+    branching_atoms(table, n, &mut atoms)
 }

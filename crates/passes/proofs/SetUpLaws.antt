@@ -1,15 +1,14 @@
 -- What a call works out before it searches: the layer's table and its branching facts, as the code lends them, cause 12, and the plan.
 -- Assumes nothing.
 use mathlib.Core.Path.{◌≡◌, refl, sym, ap, subst, ◌∙◌}
-use mathlib.Core.Bool.{true, false, false≢true}
-use mathlib.Core.List.{List, []}
+use mathlib.Core.Bool.{true, false}
+use mathlib.Core.List.{List}
 use Prim.Native.Nat.{ℕ, ◌<◌, ◌≤◌}
 use native.Mathlib.Omega.{arith}
 use borrow.Author.Tests.{lt-ltb, le-ltb}
 use lib.ListN.{length, get_or}
-use Rattle.std.proofs.Common.{Result, Ok, Err, MatchResult, is_ok, IfOk, Bor}
+use Rattle.std.proofs.Common.{Bor}
 use Rattle.branching.specs.Marks.{Listed}
-use Rattle.book.specs.declared.Cause.{Cause}
 use Rattle.base.specs.Bounds.{max_atoms, max_branching}
 use Rattle.base.proofs.Members.{◌∈◌}
 use Rattle.format.specs.Book.{book_of}
@@ -37,11 +36,6 @@ use Rattle.leaf.specs.Searchable.{Searchable}
 use Rattle.search.specs.Ready.{Ready}
 use Rattle.leaf.proofs.FoundLaws.{branching-small}
 use Rattle.passes.specs.Limit.{has_too_many_branching}
-
--- what is told in place of how many facts branch
-list_in : Result (List ℕ) Cause → List ℕ
-list_in (Ok l) = l
-list_in (Err c) = []
 
 module _ (d : Driving) (t : Table) (m : TableMade (driven_program d) d.book.now t.rows.now) (same : t.book ≡ d.book) (n : ℕ) (e : n ≡ (book_of d.book.now).atoms) where
   abbrev P : Program
@@ -81,16 +75,13 @@ module _ (d : Driving) (t : Table) (m : TableMade (driven_program d) d.book.now 
   unfolding has_too_many_branching
   too_many l h = lt-ltb max_branching (branching_count P) (omega (arith, l, same_count))
 
-  -- a list that is not too long is handed on, and how many else there would be gives way to a cause
-  pub listed : (counted : Result (List ℕ) ℕ) (facts : List ℕ) (gives : ℕ → Type 0) → Listed Q counted → IfOk counted (λ l. length l ≤ max_branching) → MatchResult counted (λ l. Path (Result (List ℕ) Cause) (Ok facts) (Ok l)) gives
-      → true ≡ is_ok counted → (facts ≡ branching_atoms Q) × (length facts ≤ max_branching)
-  unfolding list_in
-  listed (Ok l) facts gives k few h v = (ap list_in h ∙ k, omega (arith, few, ap (λ (r : Result (List ℕ) Cause). length (list_in r)) h))
-  listed (Err n) facts gives k few h v = absurd (false≢true (sym v))
+  -- as many as a search goes through are all listed, and more give way to a cause
+  pub listed : {facts : List ℕ} {count : ℕ} → Listed Q facts count → count ≤ max_branching → (facts ≡ branching_atoms Q) × (length facts ≤ max_branching)
+  unfolding branching_count
+  listed k h = let l : _ = k.atoms_are h in (l, omega (arith, ap length l, k.count_is, h))
 
-  pub refused : (counted : Result (List ℕ) ℕ) → Listed Q counted → false ≡ is_ok counted → has_too_many_branching P ≡ true
-  refused (Ok l) k v = absurd (false≢true v)
-  refused (Err n) k v = too_many k.0 k.1
+  pub refused : {facts : List ℕ} {count : ℕ} → Listed Q facts count → max_branching < count → has_too_many_branching P ≡ true
+  refused k h = too_many k.count_is h
 
   module _ {facts : List ℕ} (x : (facts ≡ branching_atoms Q) × (length facts ≤ max_branching)) where
     abbrev l : facts ≡ branching_atoms Q

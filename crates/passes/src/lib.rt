@@ -17,7 +17,7 @@ ghost use Rattle.passes.specs.Nearest.{Nearest};
 ghost use Rattle.passes.specs.Tallied.{Passed, Tallied, Bounds};
 
 use accepted::Driving;
-use base::{MAX_ATOMS, MAX_RULES};
+use base::{ArrayVec, MAX_ATOMS, MAX_BRANCHING, MAX_RULES};
 use book::Cause;
 use branching::branching_atoms;
 use first::{Held, Wish, search_first, sure_facts};
@@ -50,7 +50,11 @@ impl Work {
         let n = driving.atom_count();
         let table = driving.prepare(rows);
         let bans = driving.prepare_bans(bans);
-        let facts = branching_atoms(table, n).map_err(|_| Cause::TooManyBranching)?;
+        let mut facts = ArrayVec::new(0);
+        let g = branching_atoms(table, n, &mut facts);
+        if MAX_BRANCHING < g {
+            return Err(Cause::TooManyBranching);
+        }
         make_plan(table, bans, n, facts, plan);
         Ok(Space { table, bans, plan })
     }

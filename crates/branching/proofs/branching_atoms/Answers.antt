@@ -20,7 +20,7 @@ pub mark_branching-requires-clause-tabulates : goal.mark_branching-requires-clau
 mark_branching-requires-clause-tabulates c = table_alone c.args.table.book.now c.args.table.rows.now c.args.n c.requires.tabulates
 
 pub loop-f-init : goal.loop-f-init
-loop-f-init c = rw c.new-atoms.ensures (listed_start (tabled c.args.table.book.now c.args.table.rows.now c.args.n))
+loop-f-init c = rw c.clear.ensures (listed_start (tabled c.args.table.book.now c.args.table.rows.now c.args.n))
 
 pub loop-f-preserved : goal.loop-f-preserved
 loop-f-preserved c =
@@ -32,14 +32,10 @@ loop-f-preserved c =
       | else-branches w ↦ rw (w.atoms-is, w.count-is) (listed_no (tabled c.args.table.book.now c.args.table.rows.now c.args.n) c.loop-f.f c.loop-f.atoms c.loop-f.count c.loop-f.invariant (b _ (sym at ∙ w.if-branches.false)))
     ]
 
-pub returns-then-count-gt-MAX_BRANCHING-clause-listed : goal.returns-then-count-gt-MAX_BRANCHING-clause-listed
-returns-then-count-gt-MAX_BRANCHING-clause-listed c = (
-  listed_many (tabled c.args.table.book.now c.args.table.rows.now c.args.n) c.loop-f.f c.loop-f.atoms c.loop-f.count
-      (all_passed c.mark_branching.new.marks c.args.n c.mark_branching.array_long c.requires.n_le_max_atoms c.loop-f-test.false c.loop-f.auto.f-end ∙ sym (tabled-atoms c.args.table.book.now c.args.table.rows.now c.args.n)) c.loop-f.invariant,
-  c.if-count-gt-MAX_BRANCHING.true,
-)
-
-pub returns-clause-listed : goal.returns-clause-listed
-returns-clause-listed c =
-    listed_all (tabled c.args.table.book.now c.args.table.rows.now c.args.n) c.loop-f.f c.loop-f.atoms c.loop-f.count
-    (all_passed c.mark_branching.new.marks c.args.n c.mark_branching.array_long c.requires.n_le_max_atoms c.loop-f-test.false c.loop-f.auto.f-end ∙ sym (tabled-atoms c.args.table.book.now c.args.table.rows.now c.args.n)) c.loop-f.invariant c.if-count-gt-MAX_BRANCHING.false
+pub returns : goal.returns
+returns c =
+    let passed = all_passed c.mark_branching.new.marks c.args.n c.mark_branching.array_long c.requires.n_le_max_atoms c.loop-f-test.false c.loop-f.auto.f-end ∙ sym (tabled-atoms c.args.table.book.now c.args.table.rows.now c.args.n) in
+    record {
+      count_is = listed_many (tabled c.args.table.book.now c.args.table.rows.now c.args.n) c.loop-f.f c.loop-f.atoms c.loop-f.count passed c.loop-f.invariant;
+      atoms_are = listed_all (tabled c.args.table.book.now c.args.table.rows.now c.args.n) c.loop-f.f c.loop-f.atoms c.loop-f.count passed c.loop-f.invariant;
+    }
