@@ -15,6 +15,16 @@ ghost use Rattle.bans.specs.Bans.{bodies_of, BansFit, BansMade};
 use base::MAX_RULES;
 use table::{RuleSection, Source, Span, body_holds, gather, span_bytes};
 
+// Whether the body of some constraint holds in a state, however many there are.
+pub fn banned(book: &[u8], spans: &[Span], m: &[bool]) -> bool
+    requires { BansFit book.now spans.now }
+    ensures { result ≡ any (all (holds m.now)) (bodies_of book.now spans.now) }
+{
+    spans
+        .iter()
+        .any(|ban| body_holds(m, span_bytes(book, *ban)))
+}
+
 // Where the bodies of the constraints stand, with the book that they lie in.
 #[derive(Clone, Copy)]
 pub struct Bans<'a> {
@@ -29,9 +39,7 @@ impl<'a> Bans<'a> {
     pub fn banned(self, m: &[bool]) -> bool
         ensures { result ≡ any (all (holds m.now)) (bodies_of self.entry.book.now self.entry.spans.now) }
     {
-        self.spans
-            .iter()
-            .any(|ban| body_holds(m, span_bytes(self.book, *ban)))
+        banned(self.book, self.spans, m)
     }
 }
 
