@@ -4,7 +4,8 @@ use mathlib.Core.Path.{◌≡◌, refl, sym, ap, subst, ◌∙◌}
 use mathlib.Core.Bool.{Bool, true, false, cond}
 use mathlib.Core.List.Memᴰ
 use mathlib.Core.List.{List, [], ◌++◌}
-use Prim.Native.Nat.{ℕ, ◌<◌}
+use Prim.Native.Nat.{ℕ, ◌<◌, ◌≤◌}
+use native.Mathlib.Omega.{arith}
 use borrow.Author.Tests.{lt-ltb}
 use lib.ListN.{length}
 use Rattle.std.specs.Prelude.{Option, Some, None, IfSome, nat_lt}
@@ -18,7 +19,7 @@ use Rattle.table.specs.Rows.{row_count}
 use Rattle.bans.specs.Bans.{body_of, BansFit}
 use Rattle.setting.specs.RuleMasks.{AtomBits, MasksMade}
 use Rattle.setting.proofs.RuleMaskLaws.{masks_start}
-use Rattle.nogoods.specs.Nogoods.{Rejectable, AllWithin, NogoodAt, of_row, of_ban, NogoodsTo}
+use Rattle.nogoods.specs.Nogoods.{max_nogoods, Rejectable, AllWithin, NogoodAt, of_row, of_ban, NogoodsTo}
 use Rattle.nogoods.specs.declared.Nogood.{Nogood}
 use Rattle.nogoods.proofs.NogoodLaws.{nogoods_more}
 use Rattle.rejecting.specs.Rejecting.{RejectingMade}
@@ -53,6 +54,7 @@ pub plan_start : (book : List ℕ) (rows : List Row) (bits rejectable : List ℕ
 plan_start book rows bits rejectable p a b c = record {
   masks_made = rw a (masks_start book rows p.atoms);
   nogoods_made = λ n k. absurd (Memᴰ.not-nil (subst (λ (l : List Nogood). n ∈ l) b k));
+  nogoods_few = omega (arith, ap length b);
   rejecting_made = rw c made-start;
 }
 
@@ -72,11 +74,12 @@ bans_more w ban b entry f room later e rows rejectable v = rw e (nogood_put (w r
 -- ---- the whole plan: that of the rows, with the constraints' nogoods, which stand behind theirs
 pub plan_end : {book : List ℕ} {rows : List Row} {bits rejectable : List ℕ} {p : Plan} {j : ℕ} → PlanTo book rows bits rejectable p j → j ≡ row_count rows → {atoms : List ℕ} → p.atoms ≡ atoms
     → AtomBits atoms bits (length atoms) → Rejectable rows rejectable (row_count rows) → {bans : List Span} → BansFit book bans → (q : Plan) → q.atoms ≡ p.atoms → q.heads ≡ p.heads
-    → q.rejecting ≡ p.rejecting → NogoodsPut book bans bits p.nogoods q.nogoods → Planned book rows bans atoms q
-plan_end {book} {rows} {bits} {rejectable} {p} {j} w ej {atoms} ea ab r bf q s eh er put = record {
+    → q.rejecting ≡ p.rejecting → NogoodsPut book bans bits p.nogoods q.nogoods → length q.nogoods ≤ max_nogoods → Planned book rows bans atoms q
+plan_end {book} {rows} {bits} {rejectable} {p} {j} w ej {atoms} ea ab r bf q s eh er put few = record {
   atoms_are = s ∙ ea;
   rule_masks = rw eh (record { each = (subst (λ (fs : List ℕ). MasksMade book rows fs p.heads (row_count rows)) ea (subst (MasksMade book rows p.atoms p.heads) ej w.masks_made)).each });
   nogood_masks = record { rejectable = rejectable; rejects_all = r; bits = bits; bits_of = ab; each = put rows rejectable w.nogoods_made };
+  nogoods_few = few;
   rejecting_masks = rw er (subst (λ (fs : List ℕ). RejectingMade book rows fs p.rejecting (row_count rows)) ea (subst (RejectingMade book rows p.atoms p.rejecting) ej w.rejecting_made)).entries;
   bans_fit = bf;
 }

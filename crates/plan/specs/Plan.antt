@@ -1,10 +1,10 @@
 -- The plan of a search: the branching facts, and three kinds of entries. It is made once a call; the search is lent it. Assumes nothing.
-use Rattle.std.specs.Prelude.{◌≡◌, List, [], ℕ, ◌+◌}
+use Rattle.std.specs.Prelude.{◌≡◌, List, [], ℕ, ◌+◌, ◌≤◌, length}
 use Rattle.table.specs.declared.Row.{Row}
 use Rattle.table.specs.declared.Span.{Span}
 use Rattle.bans.specs.Bans.{BansFit}
 use Rattle.setting.specs.RuleMasks.{MasksMade, RuleMasks}
-use Rattle.nogoods.specs.Nogoods.{NogoodsTo, Nogoods}
+use Rattle.nogoods.specs.Nogoods.{max_nogoods, NogoodsTo, Nogoods}
 use Rattle.nogoods.specs.declared.Nogood.{Nogood}
 use Rattle.rejecting.specs.Rejecting.{Rejecting, RejectingMade}
 use Rattle.plan.specs.declared.Plan.{Plan}
@@ -26,6 +26,7 @@ pub record SameFacts (p q : Plan) : Type 0 where
 pub record PlanTo (book : List ℕ) (rows : List Row) (bits rejectable : List ℕ) (p : Plan) (j : ℕ) : Type 0 where
   pub masks_made : MasksMade book rows p.atoms p.heads j
   pub nogoods_made : NogoodsTo book rows [] rejectable bits p.nogoods
+  pub nogoods_few : length p.nogoods ≤ max_nogoods
   pub rejecting_made : RejectingMade book rows p.atoms p.rejecting j
 
 -- one row on; the facts are as they were
@@ -42,5 +43,6 @@ pub record Planned (book : List ℕ) (rows : List Row) (bans : List Span) (atoms
   pub atoms_are : p.atoms ≡ atoms
   pub rule_masks : RuleMasks book rows atoms p.heads
   pub nogood_masks : Nogoods book rows bans atoms p.nogoods
+  pub nogoods_few : length p.nogoods ≤ max_nogoods
   pub rejecting_masks : Rejecting book rows atoms p.rejecting
   pub bans_fit : BansFit book bans

@@ -6,6 +6,7 @@ ghost use Rattle.std.specs.Prelude.{◌≡◌, ◌≤◌, length};
 ghost use Rattle.base.specs.Bounds.{max_rules};
 ghost use Rattle.table.specs.Rows.{row_count};
 ghost use Rattle.setting.specs.RuleMasks.{Low, AtomBits};
+ghost use Rattle.nogoods.specs.Nogoods.{max_nogoods};
 ghost use Rattle.plan.specs.Plan.{IsEmptyPlan, PlanTo, PlanStep, NogoodsPut, Planned};
 
 use bans::Bans;
@@ -75,7 +76,9 @@ fn plan_row(row: TableRow, bits: &[u32], rejectable: &[u32; MAX_NAMES], plan: &m
 
 // Writes the nogoods of constraints behind the others.
 fn put_bans(bans: Bans, bits: &[u32], nogoods: &mut ArrayVec<Nogood, MAX_NOGOODS>)
-    ensures { NogoodsPut bans.entry.book.now bans.entry.spans.now bits.now nogoods.old nogoods.new }
+    requires { length nogoods.old ≤ max_nogoods }
+    ensures put { NogoodsPut bans.entry.book.now bans.entry.spans.now bits.now nogoods.old nogoods.new }
+    ensures few { length nogoods.new ≤ max_nogoods }
 {
     for ban in bans.spans {
         nogoods.put(ban_nogood(bans.book, *ban, bits));

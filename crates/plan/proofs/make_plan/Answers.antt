@@ -17,4 +17,4 @@ returns-clause-planned c =
     let same = c.requires.same_book in
     plan_end c.loop-j.invariant.0 (omega (arith, c.loop-j-test.false, c.loop-j.auto.j-end, c.len-j-end.ensures)) c.loop-j.invariant.1.atoms_same
     (rw c.as_slice.ensures.value at c.atom_bits-bits.ensures) c.rejectable_masks-rejectable.ensures (subst (λ (b : List ℕ). BansFit b c.args.bans.spans.now) same c.args.bans.fit) _ refl refl refl
-    (subst (λ (b : List ℕ). NogoodsPut b c.args.bans.spans.now c.atom_bits-bits.result c.loop-j.plan.nogoods c.put_bans.new.nogoods) same c.put_bans.ensures)
+    (subst (λ (b : List ℕ). NogoodsPut b c.args.bans.spans.now c.atom_bits-bits.result c.loop-j.plan.nogoods c.put_bans.new.nogoods) same c.put_bans.ensures.put) c.put_bans.ensures.few
