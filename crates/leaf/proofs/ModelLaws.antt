@@ -1,5 +1,5 @@
 -- The stable model of a setting, as the code finds it: the start that the setting gives, agreement with it, and that what is
--- filled is the only state that can be stable there. Used by assume, covers, agrees, decide, model_from and model_at.
+-- filled is the only state that can be stable there. Used by assume, covers, agrees, copy_marks, decide, model_from and model_at.
 -- Assumes nothing.
 use mathlib.Core.Path.{◌≡◌, refl, sym, ap, subst, ◌∙◌}
 use mathlib.Core.Logic.{◌⊎◌, inl, inr}
@@ -146,6 +146,17 @@ undisputed-more {rejects} {start} {assumed} w f b z v e = record {
     clear_at : (g : ℕ) → Dec (g ≡ f) → T (get_or (set assumed f v) g false) → get_or rejects g 0 ≡ 0
     clear_at g (no n) t = w.clear g (other g n t)
     clear_at g (yes q) t = ap (λ (x : ℕ). get_or rejects x 0) q ∙ z
+
+-- ---- the marks that are kept
+pub copied_more : (marks kept : List Bool) (f : ℕ) → f < length kept → ((g : ℕ) → g < f → get_or kept g false ≡ get_or marks g false) → (g : ℕ) → g < f + 1 → get_or (set kept f (get_or marks f false)) g false ≡ get_or marks g false
+copied_more marks kept f h w g b = go (ℕ_discrete g f)
+  where
+    go : Dec (g ≡ f) → get_or (set kept f (get_or marks f false)) g false ≡ get_or marks g false
+    go (yes q) = ap (λ (x : ℕ). get_or (set kept f (get_or marks f false)) x false) q ∙ get_or-set_same kept f (get_or marks f false) false h ∙ ap (λ (x : ℕ). get_or marks x false) (sym q)
+    go (no n) = get_or-set_other kept f g (get_or marks f false) false n ∙ w g (omega arith)
+
+pub copied_all : (marks kept : List Bool) (f : ℕ) → length kept ≡ length marks → length kept ≤ f → ((g : ℕ) → g < f → get_or kept g false ≡ get_or marks g false) → kept ≡ marks
+copied_all marks kept f e h w = ext_get_or false kept marks e (λ g b. w g (omega arith))
 
 -- ---- what covers the rest
 module _ (atoms : List ℕ) (start q : List Bool) where

@@ -126,6 +126,17 @@ pub fn contested(rules: &Rules, m: &[bool], negative: &[bool]) -> bool
     false
 }
 
+// Keeps marks as they are now.
+// Kept: a loop: std's `copy_from_slice` would ask memmove of a host, which lends memcpy and memset.
+fn copy_marks(marks: &[bool], kept: &mut [bool])
+    requires { length kept.old ≡ length marks.now }
+    ensures { kept.new ≡ marks.now }
+{
+    for f in 0..kept.len() {
+        kept[f] = marks[f];
+    }
+}
+
 // What the stable model of a setting is worked out from: the rules of the table with the masks of those that the setting rejects, and the
 // setting.
 #[derive(Clone, Copy)]
@@ -178,7 +189,7 @@ impl Leaf<'_, '_> {
         if self.setting.reaches_denied(positive) {
             return false;
         }
-        early.copy_from_slice(negative);
+        copy_marks(negative, early);
         self.setting.join(negative);
         if self.rules.fill_on(positive, negative, hints).is_err() {
             return false;

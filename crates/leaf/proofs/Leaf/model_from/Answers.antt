@@ -30,5 +30,5 @@ pub decide-requires-clause-only_state : goal.decide-requires-clause-only_state
 decide-requires-clause-only_state c =
     let d = denied_of_lem (choices c.requires.ready.table _ refl) c.args.self.now.setting.standing in
     let filled = going_on c.requires.begun d c.reaches_denied.result c.reaches_denied.ensures c.if-reaches_denied.false c.join.ensures c.fill_on.ensures in
-    let before = subst (Early _ _ _ _) (sym c.copy_from_slice.ensures.after) c.requires.early in
+    let before = subst (Early _ _ _ _) (sym c.copy_marks.ensures) c.requires.early in
     filled-candidate c.requires.ready.masks d before filled (sym c.if-is_err.ensures.value)
