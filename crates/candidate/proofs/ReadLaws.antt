@@ -3,7 +3,7 @@
 use mathlib.Core.Path.{◌≡◌, refl, sym, ap, ap₂, subst, ◌∙◌}
 use mathlib.Core.Bool.{Bool, true, false, ◌&&◌, ◌||◌}
 use mathlib.Core.List.{List, [], ◌∷◌}
-use Prim.Native.Nat.{ℕ, zero, suc, ◌+◌, ◌*◌, ◌-◌, ◌<◌, ◌≤◌}
+use Prim.Native.Nat.{ℕ, zero, suc, ◌+◌, ◌*◌, ◌-◌, ◌/◌, ◌<◌, ◌≤◌}
 use native.Mathlib.Numerals.{add-one}
 use native.Mathlib.Omega.{arith}
 use borrow.Author.Tests.{eq-eqb, le-leb, lt-leb}
@@ -11,6 +11,7 @@ use lib.Dec.{T, eqb, leb}
 use lib.ListN.{length, set, take}
 use lib.Seq.{take-suc-set}
 use Rattle.std.specs.List.{list_any, range_with_len}
+use Rattle.std.proofs.lemmas.List.{length-take}
 use Rattle.std.proofs.lemmas.List.Folds.{list_any-append}
 use Rattle.base.specs.Lists.{any, up_to}
 use Rattle.base.proofs.Members.{◌∈◌, and_left, any_at}
@@ -56,6 +57,15 @@ spares_decide n w s e l =
     let t : n + (8 * w - n) ≡ 8 * record_size n = omega (arith, e) in
     let h : eqb (length s) (record_size n) ≡ true = eq-eqb (length s) (record_size n) (l ∙ e) in
     rw (h, ← t) (spares n (8 * w - n) s)
+
+-- each fact has its byte
+pub fact_in : (n : ℕ) (s : List ℕ) → length s ≡ record_size n → (f : ℕ) → f < n → f / 8 < length s
+unfolding record_size
+fact_in n s e f h = omega arith
+
+-- what is before the end of a front is before the front's size
+pub in_front : {A : Type 0} (n : ℕ) (xs : List A) {f : ℕ} → f < length (take n xs) → f < n
+in_front n xs h = omega (arith, length-take n xs, h)
 
 -- the state, one fact more
 pub read_start : (s : List ℕ) → [] ≡ interpretation_of 0 s

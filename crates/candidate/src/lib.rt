@@ -1,7 +1,7 @@
 // A candidate's bytes: whether they have the form of one record (cause 10), and the state that they give.
 #![tactic(auto)]
 
-ghost use Rattle.std.specs.Prelude.{◌≡◌, ◌≤◌, length, take};
+ghost use Rattle.std.specs.Prelude.{◌≡◌, ◌≤◌, ◌/◌, List, ℕ, get_or, length, take};
 ghost use Rattle.base.specs.Bounds.{max_atoms};
 ghost use Rattle.models.specs.Listing.{record_size, bit_at, interpretation_of};
 ghost use Rattle.candidate.specs.Candidate.{is_bad_candidate};
@@ -9,13 +9,19 @@ ghost use Rattle.candidate.specs.Candidate.{is_bad_candidate};
 use base::MAX_ATOMS;
 use records::record_size;
 
-// The bit of fact f; 0 where the bytes have none.
+// The bit of fact f in its byte.
 #[tactic(auto, unfolding(models::specs::Listing::bit_at))]
+fn bit_in(byte: u8, f: usize) -> bool
+    ensures { (s : List ℕ) → byte ≡ get_or s (f / 8) 0 → result ≡ bit_at s f }
+{
+    (byte >> (7 - f % 8)) & 1 == 1
+}
+
+// The bit of fact f; 0 where the bytes have none.
 pub fn bit_at(s: &[u8], f: usize) -> bool
     ensures { result ≡ bit_at s.now f }
 {
-    let byte = s.get(f / 8).copied().unwrap_or(0);
-    (byte >> (7 - f % 8)) & 1 == 1
+    bit_in(s.get(f / 8).copied().unwrap_or(0), f)
 }
 
 // Cause 10: a candidate of another length, or a spare bit set.
@@ -38,7 +44,7 @@ pub fn read_candidate(candidate: &[u8], n: usize) -> [bool; MAX_ATOMS]
 {
     let mut m = [false; MAX_ATOMS];
     for (f, holds) in m[..n].iter_mut().enumerate() {
-        *holds = bit_at(candidate, f);
+        *holds = bit_in(candidate[f / 8], f);
     }
     m
 }
