@@ -28,9 +28,7 @@ pub fn list(book: &[u8], layer: u32, off: u32, buffer: &mut [u8]) -> Result<List
     ensures bytes { buffer.new ≡ list_buffer book.now layer off buffer.old }
 {
     let driving = check_layer(book, layer, off)?;
-    let mut work = Work::new();
-    let space = work.set_up(&driving)?;
-    list_models(&space, buffer)
+    list_models(&Work::new().set_up(&driving)?, buffer)
 }
 
 // Writes the first record of the listing, and answers how many facts branch.
@@ -39,9 +37,7 @@ pub fn one(book: &[u8], layer: u32, off: u32, buffer: &mut [u8]) -> Result<usize
     ensures bytes { buffer.new ≡ one_buffer book.now layer off buffer.old }
 {
     let driving = check_layer(book, layer, off)?;
-    let mut work = Work::new();
-    let space = work.set_up(&driving)?;
-    one_found(&space, buffer)
+    one_found(&Work::new().set_up(&driving)?, buffer)
 }
 
 // Whether a fact stands in every stable state, in some or in none. That the book has the fact is tested before the branching facts are
@@ -53,9 +49,7 @@ pub fn place(book: &[u8], layer: u32, off: u32, fact: usize) -> Result<Placed, C
     if driving.atom_count() <= fact {
         return Err(Cause::NoSuchFact);
     }
-    let mut work = Work::new();
-    let space = work.set_up(&driving)?;
-    place_found(&space, fact)
+    place_found(&Work::new().set_up(&driving)?, fact)
 }
 
 // Writes the record of the stable state that is closest to a candidate.
@@ -73,9 +67,7 @@ pub fn nearest(
     if bad_candidate(candidate, driving.atom_count()) {
         return Err(Cause::BadCandidate);
     }
-    let mut work = Work::new();
-    let space = work.set_up(&driving)?;
-    near_found(&space, candidate, buffer)
+    near_found(&Work::new().set_up(&driving)?, candidate, buffer)
 }
 
 // In how many stable states a condition holds. It is read before anything is set up: its causes come before 12.
@@ -84,7 +76,5 @@ pub fn count(book: &[u8], layer: u32, off: u32, condition: &[u8]) -> Result<Coun
 {
     let driving = check_layer(book, layer, off)?;
     let codes = read_condition(condition, driving.atom_count())?;
-    let mut work = Work::new();
-    let space = work.set_up(&driving)?;
-    Ok(count_found(&space, codes.as_slice()))
+    Ok(count_found(&Work::new().set_up(&driving)?, codes.as_slice()))
 }

@@ -16,10 +16,10 @@ pub returns-in_err-codes : goal.returns-in_err-codes
 returns-in_err-codes c =
     let refused = count_of_condition _ _ _ c.args.condition.now c.in_ok-driving.ensures.verdict (ap (λ (k : ℕ). first_of (condition_tests k c.args.condition.now)) (sym (atoms_is _ _ _ c.in_ok-driving.driving c.in_ok-driving.ensures.driving c.atom_count.ensures.0)) ∙ c.in_err-codes.ensures) in search (rules, refused)
 
-pub returns-in_err-space : goal.returns-in_err-space
-returns-in_err-space c =
-    let refused = ap Err c.in_err-space.ensures.0 ∙ count_of_twelve _ _ _ c.args.condition.now c.in_ok-driving.ensures.verdict (ap (λ (k : ℕ). first_of (condition_tests k c.args.condition.now)) (sym (atoms_is _ _ _ c.in_ok-driving.driving c.in_ok-driving.ensures.driving c.atom_count.ensures.0)) ∙ c.in_ok-codes.ensures.none) (limit_is _ _ _ c.in_ok-driving.driving c.in_ok-driving.ensures.driving c.in_err-space.ensures.1) in search (rules, refused)
+pub returns-in_err-set_up : goal.returns-in_err-set_up
+returns-in_err-set_up c =
+    let refused = ap Err c.in_err-set_up.ensures.0 ∙ count_of_twelve _ _ _ c.args.condition.now c.in_ok-driving.ensures.verdict (ap (λ (k : ℕ). first_of (condition_tests k c.args.condition.now)) (sym (atoms_is _ _ _ c.in_ok-driving.driving c.in_ok-driving.ensures.driving c.atom_count.ensures.0)) ∙ c.in_ok-codes.ensures.none) (limit_is _ _ _ c.in_ok-driving.driving c.in_ok-driving.ensures.driving c.in_err-set_up.ensures.1) in search (rules, refused)
 
 pub returns : goal.returns
 returns c =
-    counted _ _ _ c.args.condition.now c.in_ok-driving.ensures.verdict (ap (λ (k : ℕ). first_of (condition_tests k c.args.condition.now)) (sym (atoms_is _ _ _ c.in_ok-driving.driving c.in_ok-driving.ensures.driving c.atom_count.ensures.0)) ∙ c.in_ok-codes.ensures.none) (limit_is _ _ _ c.in_ok-driving.driving c.in_ok-driving.ensures.driving c.in_ok-space.ensures.few) (alike_is _ _ _ c.in_ok-driving.driving c.in_ok-driving.ensures.driving c.in_ok-space.ensures.alike) (code_holds c.as_slice.result.now) (λ m. ap (λ codes. code_holds codes m) c.as_slice.ensures.value ∙ c.in_ok-codes.ensures.value m) _ c.count_found.ensures
+    counted _ _ _ c.args.condition.now c.in_ok-driving.ensures.verdict (ap (λ (k : ℕ). first_of (condition_tests k c.args.condition.now)) (sym (atoms_is _ _ _ c.in_ok-driving.driving c.in_ok-driving.ensures.driving c.atom_count.ensures.0)) ∙ c.in_ok-codes.ensures.none) (limit_is _ _ _ c.in_ok-driving.driving c.in_ok-driving.ensures.driving c.in_ok-set_up.ensures.few) (alike_is _ _ _ c.in_ok-driving.driving c.in_ok-driving.ensures.driving c.in_ok-set_up.ensures.alike) (code_holds c.as_slice.result.now) (λ m. ap (λ codes. code_holds codes m) c.as_slice.ensures.value ∙ c.in_ok-codes.ensures.value m) _ c.count_found.ensures

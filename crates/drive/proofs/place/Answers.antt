@@ -13,10 +13,10 @@ pub returns-then-atom_count-fact : goal.returns-then-atom_count-fact
 returns-then-atom_count-fact c =
     place_of_eleven _ _ _ c.args.fact c.in_ok-driving.ensures.verdict (omega (arith, atoms_is _ _ _ c.in_ok-driving.driving c.in_ok-driving.ensures.driving c.atom_count.ensures.0, c.if-atom_count-fact.true))
 
-pub returns-in_err-space : goal.returns-in_err-space
-returns-in_err-space c =
-    let refused = ap Err c.in_err-space.ensures.0 ∙ place_of_twelve _ _ _ c.args.fact c.in_ok-driving.ensures.verdict (omega (arith, atoms_is _ _ _ c.in_ok-driving.driving c.in_ok-driving.ensures.driving c.atom_count.ensures.0, c.if-atom_count-fact.false)) (limit_is _ _ _ c.in_ok-driving.driving c.in_ok-driving.ensures.driving c.in_err-space.ensures.1) in search (rules, refused)
+pub returns-in_err-set_up : goal.returns-in_err-set_up
+returns-in_err-set_up c =
+    let refused = ap Err c.in_err-set_up.ensures.0 ∙ place_of_twelve _ _ _ c.args.fact c.in_ok-driving.ensures.verdict (omega (arith, atoms_is _ _ _ c.in_ok-driving.driving c.in_ok-driving.ensures.driving c.atom_count.ensures.0, c.if-atom_count-fact.false)) (limit_is _ _ _ c.in_ok-driving.driving c.in_ok-driving.ensures.driving c.in_err-set_up.ensures.1) in search (rules, refused)
 
 pub returns : goal.returns
 returns c =
-    placed _ _ _ c.args.fact c.in_ok-driving.ensures.verdict (omega (arith, atoms_is _ _ _ c.in_ok-driving.driving c.in_ok-driving.ensures.driving c.atom_count.ensures.0, c.if-atom_count-fact.false)) (limit_is _ _ _ c.in_ok-driving.driving c.in_ok-driving.ensures.driving c.in_ok-space.ensures.few) (alike_is _ _ _ c.in_ok-driving.driving c.in_ok-driving.ensures.driving c.in_ok-space.ensures.alike) _ c.place_found.ensures
+    placed _ _ _ c.args.fact c.in_ok-driving.ensures.verdict (omega (arith, atoms_is _ _ _ c.in_ok-driving.driving c.in_ok-driving.ensures.driving c.atom_count.ensures.0, c.if-atom_count-fact.false)) (limit_is _ _ _ c.in_ok-driving.driving c.in_ok-driving.ensures.driving c.in_ok-set_up.ensures.few) (alike_is _ _ _ c.in_ok-driving.driving c.in_ok-driving.ensures.driving c.in_ok-set_up.ensures.alike) _ c.place_found.ensures
