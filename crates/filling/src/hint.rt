@@ -29,6 +29,11 @@ fn waiting_name(l: Literal) -> usize
     })
 }
 
+// The row that a link leads to, if it leads to one.
+fn linked(link: u16) -> Option<usize> {
+    usize::from(link).checked_sub(1)
+}
+
 // Kept: links beside each other in arrays of the most rows and names, since there is no heap for lists of their own.
 #[derive(Drop)]
 pub struct Hints {
@@ -36,9 +41,10 @@ pub struct Hints {
     watched: [u16; MAX_RULES],
     // The rows in the order in which they added their heads, once a filling has needed the waiting lists.
     trail: Option<Pile>,
-    // The first row that waits for each name, and the next that waits for the same as a row.
-    first_waiting: [Option<u16>; MAX_NAMES],
-    next_waiting: [Option<u16>; MAX_RULES],
+    // The first row that waits for each name, and the next that waits for the same as a row: row j as j + 1, and 0 where there is none.
+    // Kept: an Option takes twice the bytes, and all that a call blanks then outgrows a processor's first cache.
+    first_waiting: [u16; MAX_NAMES],
+    next_waiting: [u16; MAX_RULES],
     // The names just marked: a row marks its head once.
     marked: Pile,
 }
@@ -52,8 +58,8 @@ impl Hints {
         Hints {
             watched: [0; MAX_RULES],
             trail: None,
-            first_waiting: [None; MAX_NAMES],
-            next_waiting: [None; MAX_RULES],
+            first_waiting: [0; MAX_NAMES],
+            next_waiting: [0; MAX_RULES],
             marked: Pile::new(0),
         }
     }
@@ -83,8 +89,8 @@ impl Hints {
         if self.trail.is_none() {
             self.trail = Some(Pile::new(0));
         }
-        self.first_waiting[..n].fill(None);
-        self.first_waiting[MAX_ATOMS..MAX_ATOMS + n].fill(None);
+        self.first_waiting[..n].fill(0);
+        self.first_waiting[MAX_ATOMS..MAX_ATOMS + n].fill(0);
     }
 
     // Lets a row wait for the literal i of its body.
@@ -93,27 +99,25 @@ impl Hints {
             let h = waiting_name(l);
             self.watched[j] = (i % 65536) as u16;
             self.next_waiting[j] = self.first_waiting[h];
-            self.first_waiting[h] = Some(j as u16);
+            self.first_waiting[h] = (j + 1) as u16;
         }
     }
 
     // Takes a row up for the first time: it is the last of its list.
     pub(crate) fn take_up(&mut self, j: usize) {
         if j < MAX_RULES {
-            self.next_waiting[j] = None;
+            self.next_waiting[j] = 0;
         }
     }
 
     // The first row that waits for a name.
     pub(crate) fn first_waiting(&self, h: usize) -> Option<usize> {
-        let first = self.first_waiting.get(h).copied().flatten()?;
-        Some(usize::from(first))
+        linked(*self.first_waiting.get(h)?)
     }
 
     // The row that waits behind another for the same name.
     pub(crate) fn next_waiting(&self, j: usize) -> Option<usize> {
-        let next = self.next_waiting.get(j).copied().flatten()?;
-        Some(usize::from(next))
+        linked(*self.next_waiting.get(j)?)
     }
 
     // Puts a name that was marked on those just marked.
