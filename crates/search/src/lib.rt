@@ -48,6 +48,7 @@ impl Goal<'_> {
         ensures { result ≡ stopped self.now v }
     {
         match self {
+            Goal::List => false,
             Goal::Count(most) => *most < v.count,
             Goal::Settle(_) => 0 < v.weight && v.weight < v.count,
             _ => false,

@@ -5,6 +5,10 @@ use Rattle.search.specs.Visits.{reaches}
 use Rattle.search.proofs.VisitLaws.{goes_on}
 use Rattle.search.proofs.Goal.stops.Goals as goal
 
+pub returns-in-List : goal.returns-in-List
+unfolding reaches
+returns-in-List c = rw c.in-List.is refl
+
 pub returns-in-Count : goal.returns-in-Count
 unfolding reaches
 returns-in-Count c = rw c.in-Count.is refl
