@@ -100,11 +100,11 @@ enum lesson_bound {
  * linker that binds memcpy or memset at its first call. */
 enum lesson_stack_bytes {
     LESSON_CHECK_STACK = 1024,
-    LESSON_TEST_STACK = 53248,
+    LESSON_TEST_STACK = 47104,
     LESSON_LIST_STACK = 93184,
-    LESSON_ONE_STACK = 112640,
+    LESSON_ONE_STACK = 106496,
     LESSON_PLACE_STACK = 93184,
-    LESSON_NEAREST_STACK = 114688,
+    LESSON_NEAREST_STACK = 108544,
     LESSON_COUNT_STACK = 96256
 };
 
