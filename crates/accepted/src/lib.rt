@@ -6,6 +6,7 @@ ghost use Rattle.std.specs.Prelude.{◌≡◌, ◌<◌, ◌≤◌, IfOk};
 ghost use Rattle.base.specs.Bounds.{max_atoms};
 ghost use Rattle.layers.specs.Masks.{LowerMasks};
 ghost use Rattle.format.specs.Book.{arrows_of, book_of};
+ghost use Rattle.table.specs.Filled.{Filled};
 ghost use Rattle.table.specs.Table.{TableMade};
 ghost use Rattle.bans.specs.Bans.{BansMade};
 ghost use Rattle.book.specs.Causes.{first_of, verdict_of};
@@ -88,24 +89,47 @@ impl<'a> Driving<'a> {
         }
     }
 
+    // Writes the table of the rules that count at the layer, and says how many rows it has.
+    pub fn prepare(&self, rows: &mut [Row; MAX_RULES]) -> usize
+        ensures { Filled (TableMade (driven_program self.now) self.now.book.now) rows.new result }
+    {
+        self.source().rule_table(rows)
+    }
+
+    // Writes where the bodies of the constraints that count at the layer stand, and says how many there are.
+    pub fn prepare_bans(&self, bans: &mut [Span; MAX_RULES]) -> usize
+        ensures { Filled (BansMade (driven_program self.now).constraints self.now.book.now) bans.new result }
+    {
+        ban_table(&self.source(), bans)
+    }
+
     // Writes the table of the rules that count at the layer, and lends it.
-    pub fn prepare<'r>(&self, rows: &'r mut [Row; MAX_RULES]) -> Table<'r>
+    pub fn table<'r>(&self, rows: &'r mut [Row; MAX_RULES]) -> Table<'r>
     where
         'a: 'r,
         ensures made { TableMade (driven_program self.now) self.now.book.now result.rows.now }
         ensures book_is { result.book ≡ self.now.book }
     {
-        self.source().rule_table(rows)
+        let count = self.prepare(rows);
+        Table {
+            book: self.book,
+            rows: &rows[..count],
+        }
     }
 
     // Writes where the bodies of the constraints that count at the layer stand, and lends them.
-    pub fn prepare_bans<'r>(&self, bans: &'r mut [Span; MAX_RULES]) -> Bans<'r>
+    // Kept: beside `table`, and of its shape: what is lent is another type, with another fact of its own.
+    pub fn bans<'r>(&self, bans: &'r mut [Span; MAX_RULES]) -> Bans<'r>
     where
         'a: 'r,
         ensures made { BansMade (driven_program self.now).constraints self.now.book.now result.spans.now }
         ensures book_is { result.book ≡ self.now.book }
     {
-        ban_table(&self.source(), bans)
+        let count = self.prepare_bans(bans);
+        Bans {
+            book: self.book,
+            spans: &bans[..count],
+        }
     }
 }
 

@@ -7,6 +7,7 @@ ghost use Rattle.std.proofs.Props.{props};
 ghost use Rattle.base.specs.Bounds.{max_rules};
 ghost use Rattle.base.specs.Lists.{all, any, filter};
 ghost use Rattle.models.specs.StableModels.{holds};
+ghost use Rattle.table.specs.Filled.{Filled};
 ghost use Rattle.table.specs.Records.{rules_from};
 ghost use Rattle.table.specs.Rows.{takes_constraint};
 ghost use Rattle.table.specs.Table.{program_of};
@@ -43,26 +44,17 @@ impl<'a> Bans<'a> {
     }
 }
 
-// Writes where the bodies of the constraints stand whose layer is in the mask, in their order.
-#[tactic(auto, using(crate::proofs::BanLaws::bans_made))]
-pub fn make_bans<'r, 'a: 'r>(
-    rules: RuleSection<'a>,
-    mask: u32,
-    bans: &'r mut [Span; MAX_RULES],
-) -> Bans<'r>
-    ensures made { BansMade (map (λ x. x.body) (filter (takes_constraint mask) (rules_from rules.entry.book.now rules.entry.first))) rules.entry.book.now result.spans.now }
-    ensures book_is { result.book ≡ rules.entry.book }
+// Writes where the bodies of the constraints stand whose layer is in the mask, in their order, and says how many there are.
+pub fn make_bans(rules: RuleSection, mask: u32, bans: &mut [Span; MAX_RULES]) -> usize
+    ensures { Filled (BansMade (map (λ x. x.body) (filter (takes_constraint mask) (rules_from rules.entry.book.now rules.entry.first))) rules.entry.book.now) bans.new result }
 {
-    Bans {
-        book: rules.book,
-        spans: gather(rules, mask, bans),
-    }
+    gather(rules, mask, bans)
 }
 
-// Writes where the bodies of the constraints stand that count at a layer, of that layer and of those below it that are not switched off.
-pub fn ban_table<'r, 'a: 'r>(source: &Source<'a>, bans: &'r mut [Span; MAX_RULES]) -> Bans<'r>
-    ensures made { BansMade (program_of source.now.book.now source.now.layer source.now.off).constraints source.now.book.now result.spans.now }
-    ensures book_is { result.book ≡ source.now.book }
+// Writes where the bodies of the constraints stand that count at a layer, of that layer and of those below it that are not switched off,
+// and says how many there are.
+pub fn ban_table(source: &Source, bans: &mut [Span; MAX_RULES]) -> usize
+    ensures { Filled (BansMade (program_of source.now.book.now source.now.layer source.now.off).constraints source.now.book.now) bans.new result }
 {
     make_bans(source.rules(), source.relevant(), bans)
 }

@@ -7,7 +7,6 @@ use Prim.Native.Nat.{ℕ, ◌<◌, ◌≤◌}
 use native.Mathlib.Omega.{arith}
 use borrow.Author.Tests.{lt-ltb, le-ltb}
 use lib.ListN.{length, get_or}
-use Rattle.std.proofs.Common.{Bor}
 use Rattle.branching.specs.Marks.{Listed}
 use Rattle.base.specs.Bounds.{max_atoms, max_branching}
 use Rattle.base.proofs.Members.{◌∈◌}
@@ -21,7 +20,6 @@ use Rattle.models.proofs.AlikeLaws.{alike-count, alike-formed}
 use Rattle.models.proofs.ConstraintLaws.{constrained-atoms}
 use Rattle.bans.specs.Bans.{bodies_of, barred, BansMade}
 use Rattle.table.specs.Table.{TableMade, Tabulates}
-use Rattle.table.specs.declared.Table.{Table}
 use Rattle.table.specs.Tabled.{tabled}
 use Rattle.table.specs.declared.Row.{Row}
 use Rattle.table.specs.declared.Span.{Span}
@@ -37,18 +35,12 @@ use Rattle.search.specs.Ready.{Ready}
 use Rattle.leaf.proofs.FoundLaws.{branching-small}
 use Rattle.passes.specs.Limit.{has_too_many_branching}
 
-module _ (d : Driving) (t : Table) (m : TableMade (driven_program d) d.book.now t.rows.now) (same : t.book ≡ d.book) (n : ℕ) (e : n ≡ (book_of d.book.now).atoms) where
+module _ (d : Driving) (rows : List Row) (made : TableMade (driven_program d) d.book.now rows) (n : ℕ) (e : n ≡ (book_of d.book.now).atoms) where
   abbrev P : Program
   P = driven_program d
 
   abbrev book : List ℕ
-  book = t.book.now
-
-  abbrev rows : List Row
-  rows = t.rows.now
-
-  made : TableMade P book rows
-  made = subst (λ (b : Bor (List ℕ)). TableMade P b.now rows) (sym same) m
+  book = d.book.now
 
   abbrev Q : Program
   Q = tabled book rows n
@@ -117,7 +109,6 @@ module _ (d : Driving) (t : Table) (m : TableMade (driven_program d) d.book.now 
       }
 
       -- and with the constraints they stand for a program that is alike to the driven layer's
-      pub plan_alike : BansMade P.constraints d.book.now bans → Alike P (barred book rows bans plan.n)
-      plan_alike bm =
-          let b : BansMade P.constraints book bans = subst (λ (b : Bor (List ℕ)). BansMade P.constraints b.now bans) (sym same) bm in
+      pub plan_alike : BansMade P.constraints book bans → Alike P (barred book rows bans plan.n)
+      plan_alike b =
           subst (λ (k : ℕ). Alike P (barred book rows bans k)) (sym en) (lent_alike made size (bodies_of book bans) b.bodies_are)

@@ -12,18 +12,58 @@ ghost use Rattle.search.specs.Space.{space_atoms, space_program};
 ghost use Rattle.search.specs.Visits.{Asks, RoomFor};
 ghost use Rattle.first.specs.InHand.{record_held};
 ghost use Rattle.passes.specs.Limit.{has_no_stable_state};
-ghost use Rattle.passes.specs.SetUp.{SetUp};
+ghost use Rattle.passes.specs.SetUp.{SetUp, SetUpIn};
 ghost use Rattle.passes.specs.Nearest.{Nearest};
 ghost use Rattle.passes.specs.Tallied.{Passed, Tallied, Bounds};
 
 use accepted::Driving;
+use bans::Bans;
 use base::{ArrayVec, MAX_ATOMS, MAX_BRANCHING, MAX_RULES};
 use book::Cause;
 use branching::branching_atoms;
 use first::{Held, Wish, search_first, sure_facts};
 use plan::{Plan, make_plan};
 use search::{Goal, Scratch, Space, Visit, search};
-use table::{NO_ROW, NO_SPAN, Row, Span};
+use table::{NO_ROW, NO_SPAN, Row, Span, Table};
+
+// How many rows and constraints a call has written.
+#[derive(Clone, Copy)]
+pub struct Made {
+    pub rows: usize,
+    pub bans: usize,
+}
+
+// Writes the table and the constraints of a driven layer, and the plan of a search, and says how many rows and constraints there are,
+// unless too many facts branch.
+pub fn set_up(
+    driving: &Driving,
+    rows: &mut [Row; MAX_RULES],
+    bans: &mut [Span; MAX_RULES],
+    plan: &mut Plan,
+) -> Result<Made, Cause>
+    ensures { SetUpIn (driven_program driving.now) driving.now.book.now rows.new bans.new plan.new result }
+{
+    let n = driving.atom_count();
+    let made = Made {
+        rows: driving.prepare(rows),
+        bans: driving.prepare_bans(bans),
+    };
+    let table = Table {
+        book: driving.book,
+        rows: &rows[..made.rows],
+    };
+    let bans = Bans {
+        book: driving.book,
+        spans: &bans[..made.bans],
+    };
+    let mut facts = ArrayVec::new(0);
+    let g = branching_atoms(table, n, &mut facts);
+    if MAX_BRANCHING < g {
+        return Err(Cause::TooManyBranching);
+    }
+    make_plan(table, bans, n, facts, plan);
+    Ok(made)
+}
 
 // What a call works in until it answers: the rows and the constraints that count at its layer, and the plan of its search.
 #[derive(Drop)]
@@ -42,20 +82,21 @@ impl Work {
         }
     }
 
-    // Makes the table and the constraints of a driven layer, and the plan of a search: what is searched, unless too many facts branch.
+    // Makes in it the table and the constraints of a driven layer, and the plan of a search: what is searched, unless too many facts
+    // branch.
     pub fn set_up<'a, 'b: 'a>(&'a mut self, driving: &Driving<'b>) -> Result<Space<'a>, Cause>
         ensures { SetUp (driven_program driving.now) driving.now.book.now result }
     {
         let Work { rows, bans, plan } = self;
-        let n = driving.atom_count();
-        let table = driving.prepare(rows);
-        let bans = driving.prepare_bans(bans);
-        let mut facts = ArrayVec::new(0);
-        let g = branching_atoms(table, n, &mut facts);
-        if MAX_BRANCHING < g {
-            return Err(Cause::TooManyBranching);
-        }
-        make_plan(table, bans, n, facts, plan);
+        let made = set_up(driving, rows, bans, plan)?;
+        let table = Table {
+            book: driving.book,
+            rows: &rows[..made.rows],
+        };
+        let bans = Bans {
+            book: driving.book,
+            spans: &bans[..made.bans],
+        };
         Ok(Space { table, bans, plan })
     }
 }

@@ -1,6 +1,7 @@
 pub mod NameLaws
 pub mod RowLaws
 pub mod WalkLaws
+pub mod FilledLaws
 pub mod OverridingLaws
 pub mod TableLaws
 pub mod TabledLaws

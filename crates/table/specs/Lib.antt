@@ -1,5 +1,6 @@
 pub mod Names
 pub mod Rows
+pub mod Filled
 pub mod Records
 pub mod Section
 pub mod Overriding

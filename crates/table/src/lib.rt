@@ -13,6 +13,7 @@ ghost use Rattle.table.specs.Names.{literal_named};
 ghost use Rattle.table.specs.Rows.{SpanFits, span_bytes, nth, row_count, head_name, row_layer, overridden, row_body, row_at, alive, RowsBounded, RowsFit, SameRules};
 ghost use Rattle.table.specs.Overriding.{HeadLayers, Overridden};
 ghost use Rattle.table.specs.Table.{program_of, Prepared, RelevantLayers, RowsMade, TableMade};
+ghost use Rattle.table.specs.Filled.{Filled};
 
 mod section;
 
@@ -228,10 +229,9 @@ pub fn literal_named(h: usize) -> Literal
     }
 }
 
-// Writes the rows of the rules whose layer is in the mask, in their order, and lends the part that is filled.
-#[tactic(auto, using(crate::proofs::WalkLaws::rows_made))]
-pub fn make_rows<'r>(rules: RuleSection, mask: u32, rows: &'r mut [Row; MAX_RULES]) -> &'r mut [Row]
-    ensures { RowsMade rules.entry.book.now rules.entry.first mask result.now }
+// Writes the rows of the rules whose layer is in the mask, in their order, and says how many there are.
+pub fn make_rows(rules: RuleSection, mask: u32, rows: &mut [Row; MAX_RULES]) -> usize
+    ensures { Filled (RowsMade rules.entry.book.now rules.entry.first mask) rows.new result }
 {
     gather(rules, mask, rows)
 }
@@ -320,18 +320,13 @@ impl<'a> Source<'a> {
         relevant_layers(&self.lower, self.layer, self.off)
     }
 
-    // Writes the table of the program at the layer, of the rules of that layer and of those below it that are not switched off.
-    pub fn rule_table<'r>(&self, rows: &'r mut [Row; MAX_RULES]) -> Table<'r>
-    where
-        'a: 'r,
-        ensures made { TableMade (program_of self.now.book.now self.now.layer self.now.off) self.now.book.now result.rows.now }
-        ensures book_is { result.book ≡ self.now.book }
+    // Writes the table of the program at the layer, of the rules of that layer and of those below it that are not switched off, and says
+    // how many rows it has.
+    pub fn rule_table(&self, rows: &mut [Row; MAX_RULES]) -> usize
+        ensures { Filled (TableMade (program_of self.now.book.now self.now.layer self.now.off) self.now.book.now) rows.new result }
     {
-        let rows = make_rows(self.rules(), self.relevant(), rows);
-        overridden_layers(self.book, rows, &self.lower);
-        Table {
-            book: self.book,
-            rows,
-        }
+        let count = make_rows(self.rules(), self.relevant(), rows);
+        overridden_layers(self.book, &mut rows[..count], &self.lower);
+        count
     }
 }

@@ -6,6 +6,7 @@ ghost use Rattle.std.proofs.Props.{props};
 ghost use Rattle.base.specs.Bounds.{max_layers};
 ghost use Rattle.format.specs.Book.{Rule, is_constraint};
 ghost use Rattle.table.specs.Records.{rule_at, RuleAt, Gives, Gathered, RowOf, BodyOf};
+ghost use Rattle.table.specs.Filled.{Filled};
 ghost use Rattle.table.specs.Rows.{in_mask};
 ghost use Rattle.table.specs.Table.{RuleRecords};
 
@@ -151,14 +152,11 @@ impl<'a> Iterator for RuleSection<'a> {
     }
 }
 
-// Writes what the rules give whose layer is in the mask, in their order, and lends the part that is filled: one walk over the records.
-// Kept: no heap: the array is the caller's, written at a count, and its filled part is lent on to be written, which no `ArrayVec` lends.
-pub fn gather<'r, E: FromRecord>(
-    rules: RuleSection,
-    mask: u32,
-    out: &'r mut [E; MAX_RULES],
-) -> &'r mut [E]
-    ensures { Gathered E.takes E.stands rules.entry.book.now rules.entry.first mask result.now }
+// Writes what the rules give whose layer is in the mask, in their order, and says how many there are: one walk over the records.
+// Kept: no heap: the array is the caller's, written at a count, and the rows' masks are written into its filled part afterwards, which no
+// `ArrayVec` lends.
+pub fn gather<E: FromRecord>(rules: RuleSection, mask: u32, out: &mut [E; MAX_RULES]) -> usize
+    ensures { Filled (Gathered E.takes E.stands rules.entry.book.now rules.entry.first mask) out.new result }
 {
     let mut count = 0;
     for record in rules {
@@ -167,5 +165,5 @@ pub fn gather<'r, E: FromRecord>(
             count += 1;
         }
     }
-    &mut out[..count]
+    count
 }

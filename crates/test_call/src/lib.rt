@@ -26,7 +26,7 @@ fn forbids(driving: &Driving, m: &[bool]) -> bool
     ensures { result ≡ any (all (holds m.now)) (driven_program driving.now).constraints }
 {
     let mut bans = [NO_SPAN; MAX_RULES];
-    driving.prepare_bans(&mut bans).banned(m)
+    driving.bans(&mut bans).banned(m)
 }
 
 // Whether a candidate's state is stable, once no cause applies: no constraint forbids it, and the rules settle it. Their table is made
@@ -43,7 +43,7 @@ fn candidate_stable(driving: &Driving, candidate: &[u8]) -> bool
         return false;
     }
     let mut rows = [NO_ROW; MAX_RULES];
-    is_stable(driving.prepare(&mut rows), state, &mut Hints::new())
+    is_stable(driving.table(&mut rows), state, &mut Hints::new())
 }
 
 // Whether a candidate is stable.

@@ -35,4 +35,7 @@ loop-record-preserved g c =
 pub returns : goal.returns
 returns g c =
     let w = c.loop-record.invariant in
-    walk_end _ _ _ _ _ w.walked (rw w.same_book at c.in-None.ensures.steps)
+    record {
+      room = omega (arith, w.walked.room, w.walked.size);
+      front = walk_end _ _ _ _ _ w.walked (rw w.same_book at c.in-None.ensures.steps);
+    }
