@@ -92,19 +92,23 @@ module _ (d : Driving) (rows : List Row) (made : TableMade (driven_program d) d.
     not_too_many = le-ltb max_branching (branching_count P) (omega (arith, h, ap length l, same_count))
 
     module _ (plan : Plan) (en : plan.n ≡ n) (bans : List Span) where
+      -- the table can be searched over the plan's facts, whatever its entries are
+      pub table_searchable : plan.atoms ≡ facts → (0 < n) → n ≤ max_atoms → Searchable book rows plan.atoms plan.n
+      table_searchable ea some few = subst (λ (k : ℕ). Searchable book rows plan.atoms k) (sym en) (record {
+        formed = formed;
+        table = tabulates;
+        listed = ea ∙ l;
+        rows_few = made.room;
+        atoms_few = omega (arith, ap length ea, h);
+        size = sym (tabled-atoms book rows n);
+        some = some;
+        few = few;
+      })
+
       -- the table and the plan can be searched
       pub plan_ready : Planned book rows bans facts plan → (0 < n) → n ≤ max_atoms → Ready book rows bans plan
       plan_ready p some few = record {
-        table = subst (λ (k : ℕ). Searchable book rows plan.atoms k) (sym en) (record {
-          formed = formed;
-          table = tabulates;
-          listed = p.atoms_are ∙ l;
-          rows_few = made.room;
-          atoms_few = omega (arith, ap length p.atoms_are, h);
-          size = sym (tabled-atoms book rows n);
-          some = some;
-          few = few;
-        });
+        table = table_searchable p.atoms_are some few;
         planned = subst (λ (fs : List ℕ). Planned book rows bans fs plan) (sym p.atoms_are) p;
       }
 

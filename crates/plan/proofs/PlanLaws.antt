@@ -17,12 +17,12 @@ use Rattle.table.specs.declared.Row.{Row}
 use Rattle.table.specs.declared.Span.{Span}
 use Rattle.table.specs.Rows.{row_count}
 use Rattle.bans.specs.Bans.{body_of, BansFit}
-use Rattle.setting.specs.RuleMasks.{AtomBits, MasksMade}
+use Rattle.setting.specs.RuleMasks.{AtomBits, MasksMade, RuleMasks}
 use Rattle.setting.proofs.RuleMaskLaws.{masks_start}
-use Rattle.nogoods.specs.Nogoods.{max_nogoods, Rejectable, AllWithin, NogoodAt, of_row, of_ban, NogoodsTo}
+use Rattle.nogoods.specs.Nogoods.{max_nogoods, Rejectable, AllWithin, NogoodAt, of_row, of_ban, NogoodsTo, Nogoods}
 use Rattle.nogoods.specs.declared.Nogood.{Nogood}
 use Rattle.nogoods.proofs.NogoodLaws.{nogoods_more}
-use Rattle.rejecting.specs.Rejecting.{RejectingMade}
+use Rattle.rejecting.specs.Rejecting.{Rejecting, RejectingMade}
 use Rattle.rejecting.proofs.RejectingLaws.{made-start}
 use Rattle.plan.specs.declared.Plan.{Plan}
 use Rattle.plan.specs.Plan.{SameFacts, PlanTo, NogoodsPut, Planned}
@@ -72,14 +72,23 @@ pub bans_more : {book : List ℕ} {bans : List Span} {bits : List ℕ} {before a
 bans_more w ban b entry f room later e rows rejectable v = rw e (nogood_put (w rows rejectable v) room entry (IfSome_then entry f (λ n x. of_ban ban b x)))
 
 -- ---- the whole plan: that of the rows, with the constraints' nogoods, which stand behind theirs
+-- what its entries are, however many nogoods there are
+pub plan_entries : {book : List ℕ} {rows : List Row} {bits rejectable : List ℕ} (p : Plan) {j : ℕ} → MasksMade book rows p.atoms p.heads j → NogoodsTo book rows [] rejectable bits p.nogoods
+    → RejectingMade book rows p.atoms p.rejecting j → j ≡ row_count rows → {atoms : List ℕ} → p.atoms ≡ atoms → AtomBits atoms bits (length atoms) → Rejectable rows rejectable (row_count rows)
+    → {bans : List Span} → BansFit book bans → (q : Plan) → q.atoms ≡ p.atoms → q.heads ≡ p.heads → q.rejecting ≡ p.rejecting → NogoodsPut book bans bits p.nogoods q.nogoods
+    → (q.atoms ≡ atoms) × RuleMasks book rows atoms q.heads × Nogoods book rows bans atoms q.nogoods × Rejecting book rows atoms q.rejecting × BansFit book bans
+plan_entries {book} {rows} {bits} {rejectable} p {j} masks nogoods rejecting ej {atoms} ea ab r bf q s eh er put = (
+  s ∙ ea,
+  rw eh (record { each = (subst (λ (fs : List ℕ). MasksMade book rows fs p.heads (row_count rows)) ea (subst (MasksMade book rows p.atoms p.heads) ej masks)).each }),
+  record { rejectable = rejectable; rejects_all = r; bits = bits; bits_of = ab; each = put rows rejectable nogoods },
+  rw er (subst (λ (fs : List ℕ). RejectingMade book rows fs p.rejecting (row_count rows)) ea (subst (RejectingMade book rows p.atoms p.rejecting) ej rejecting)).entries,
+  bf,
+)
+
+-- and the plan as a search is lent it, which has room for them all
 pub plan_end : {book : List ℕ} {rows : List Row} {bits rejectable : List ℕ} {p : Plan} {j : ℕ} → PlanTo book rows bits rejectable p j → j ≡ row_count rows → {atoms : List ℕ} → p.atoms ≡ atoms
     → AtomBits atoms bits (length atoms) → Rejectable rows rejectable (row_count rows) → {bans : List Span} → BansFit book bans → (q : Plan) → q.atoms ≡ p.atoms → q.heads ≡ p.heads
     → q.rejecting ≡ p.rejecting → NogoodsPut book bans bits p.nogoods q.nogoods → length q.nogoods ≤ max_nogoods → Planned book rows bans atoms q
-plan_end {book} {rows} {bits} {rejectable} {p} {j} w ej {atoms} ea ab r bf q s eh er put few = record {
-  atoms_are = s ∙ ea;
-  rule_masks = rw eh (record { each = (subst (λ (fs : List ℕ). MasksMade book rows fs p.heads (row_count rows)) ea (subst (MasksMade book rows p.atoms p.heads) ej w.masks_made)).each });
-  nogood_masks = record { rejectable = rejectable; rejects_all = r; bits = bits; bits_of = ab; each = put rows rejectable w.nogoods_made };
-  nogoods_few = few;
-  rejecting_masks = rw er (subst (λ (fs : List ℕ). RejectingMade book rows fs p.rejecting (row_count rows)) ea (subst (RejectingMade book rows p.atoms p.rejecting) ej w.rejecting_made)).entries;
-  bans_fit = bf;
-}
+plan_end {p = p} w ej ea ab r bf q s eh er put few =
+    let x : _ = plan_entries p w.masks_made w.nogoods_made w.rejecting_made ej ea ab r bf q s eh er put in
+    record { atoms_are = x.0; rule_masks = x.1; nogood_masks = x.2; nogoods_few = few; rejecting_masks = x.3; bans_fit = x.4 }
